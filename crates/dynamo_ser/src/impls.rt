@@ -1,0 +1,3 @@
+// The library's types, by kinds of data.
+mod numbers;
+mod texts;

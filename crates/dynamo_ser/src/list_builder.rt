@@ -1,0 +1,121 @@
+ghost use Rattle.std.specs.Prelude.{◌≡◌, Result};
+ghost use Rattle.dynamo_ser.specs.Datum.{Elements, element, no_elements};
+ghost use Rattle.dynamo_ser.specs.Pieces.{Takes, TakesWritten, PassesOn};
+
+use crate::{Error, Outcomes, Serialize, Serializer};
+
+/// What a builder of a list gives: the small calls under [`SerializeSeq`], [`SerializeTuple`],
+/// [`SerializeTupleStruct`] and [`SerializeTupleVariant`]. Who writes a value has no need of it.
+pub trait ListBuilder<S: Outcomes<Ok = Self::Ok, Error = Self::Error>>: Sized + Drop {
+    type Ok: Drop;
+    type Error: Error;
+
+    // What is answered where these elements follow, and then the end.
+    ghost gives: { Self → Elements → Result Self.Ok Self.Error → Type 0 };
+
+    // The serializer of each element.
+    ghost writer: { Self → S };
+
+    /// The serializer of the next element.
+    fn element_serializer(&self) -> S
+        ensures same { result ≡ writer self.now }
+        ensures passes_on { PassesOn Self.Error.fault (S.outcome result) gives self.now element };
+
+    /// Takes what was written for the next element.
+    fn push_element(&mut self, written: Self::Ok) -> Result<(), Self::Error>
+        ensures { TakesWritten (S.outcome (writer self.old)) written gives self.old self.new element result };
+
+    /// Writes the next element. Where it is refused the elements so far stay.
+    final fn add_element<T: Serialize>(&mut self, value: &T) -> Result<(), Self::Error>
+    where
+        S: Serializer,
+        ensures { Takes Self.gives self.old self.new (element (T.tells value.now)) result }
+    {
+        let written = value.serialize(self.element_serializer())?;
+        self.push_element(written)
+    }
+
+    /// Ends the list.
+    fn finish(self) -> Result<Self::Ok, Self::Error>
+        ensures { gives self no_elements result };
+}
+
+/// The builder of a sequence, as serde's: `[1, 2, 3]` of a length that only the value knows.
+pub trait SerializeSeq<S: Outcomes<Ok = Self::Ok, Error = Self::Error>>: ListBuilder<S> {
+    /// Writes the next element. Where it is refused the elements so far stay.
+    final fn serialize_element<T: Serialize>(&mut self, value: &T) -> Result<(), Self::Error>
+    where
+        S: Serializer,
+        ensures { Takes Self.gives self.old self.new (element (T.tells value.now)) result }
+    {
+        self.add_element(value)
+    }
+
+    /// Ends the sequence.
+    final fn end(self) -> Result<Self::Ok, Self::Error>
+        ensures { Self.gives self no_elements result }
+    {
+        self.finish()
+    }
+}
+
+/// The builder of a tuple, as serde's: `(1, "one")`.
+pub trait SerializeTuple<S: Outcomes<Ok = Self::Ok, Error = Self::Error>>: ListBuilder<S> {
+    /// Writes the next element. Where it is refused the elements so far stay.
+    final fn serialize_element<T: Serialize>(&mut self, value: &T) -> Result<(), Self::Error>
+    where
+        S: Serializer,
+        ensures { Takes Self.gives self.old self.new (element (T.tells value.now)) result }
+    {
+        self.add_element(value)
+    }
+
+    /// Ends the tuple.
+    final fn end(self) -> Result<Self::Ok, Self::Error>
+        ensures { Self.gives self no_elements result }
+    {
+        self.finish()
+    }
+}
+
+/// The builder of a tuple struct, as serde's: `struct Rgb(u8, u8, u8)`.
+pub trait SerializeTupleStruct<S: Outcomes<Ok = Self::Ok, Error = Self::Error>>:
+    ListBuilder<S>
+{
+    /// Writes the next field. Where it is refused the fields so far stay.
+    final fn serialize_field<T: Serialize>(&mut self, value: &T) -> Result<(), Self::Error>
+    where
+        S: Serializer,
+        ensures { Takes Self.gives self.old self.new (element (T.tells value.now)) result }
+    {
+        self.add_element(value)
+    }
+
+    /// Ends the tuple struct.
+    final fn end(self) -> Result<Self::Ok, Self::Error>
+        ensures { Self.gives self no_elements result }
+    {
+        self.finish()
+    }
+}
+
+/// The builder of a tuple variant, as serde's: `T` of `enum E { T(u8, u8) }`.
+pub trait SerializeTupleVariant<S: Outcomes<Ok = Self::Ok, Error = Self::Error>>:
+    ListBuilder<S>
+{
+    /// Writes the next field. Where it is refused the fields so far stay.
+    final fn serialize_field<T: Serialize>(&mut self, value: &T) -> Result<(), Self::Error>
+    where
+        S: Serializer,
+        ensures { Takes Self.gives self.old self.new (element (T.tells value.now)) result }
+    {
+        self.add_element(value)
+    }
+
+    /// Ends the variant.
+    final fn end(self) -> Result<Self::Ok, Self::Error>
+        ensures { Self.gives self no_elements result }
+    {
+        self.finish()
+    }
+}

@@ -1,0 +1,287 @@
+ghost use Rattle.std.specs.Prelude.{◌≡◌, None};
+ghost use Rattle.dynamo_ser.specs.Writes.{WritesKey, refused_key};
+
+use crate::{
+    ListBuilder, Outcomes, SerializeMap, SerializeSeq, SerializeStruct, SerializeStructVariant,
+    SerializeTuple, SerializeTupleStruct, SerializeTupleVariant, Serializer, StructBuilder,
+    Wrapper,
+};
+use dynamo_value::{Error, ErrorImpl, Result};
+use std::alloc::Global;
+
+/// The writer of map keys: it writes the text of a key, and refuses by `KeyMustBeAString` what has none.
+#[derive(Clone, Copy)]
+pub struct MapKeySerializer {
+    alloc: Global,
+}
+
+impl MapKeySerializer {
+    pub fn new(alloc: Global) -> MapKeySerializer {
+        MapKeySerializer { alloc }
+    }
+}
+
+// The refusal of what has no text.
+fn no_key() -> Error
+    ensures { result ≡ ErrorImpl.KeyMustBeAString }
+{
+    Error::from(ErrorImpl::KeyMustBeAString)
+}
+
+impl Outcomes for MapKeySerializer {
+    type Ok = String;
+    type Error = Error;
+
+    ghost outcome = { λ s d r. WritesKey d r };
+
+    ghost refusal = { λ s text e h. refused_key text e h };
+
+    fn alloc(&self) -> Global {
+        self.alloc
+    }
+}
+
+impl Serializer for MapKeySerializer {
+    type SerializeSeq = Impossible;
+    type SerializeTuple = Impossible;
+    type SerializeTupleStruct = Impossible;
+    type SerializeTupleVariant = Impossible;
+    type SerializeMap = Impossible;
+    type SerializeStruct = Impossible;
+    type SerializeStructVariant = Impossible;
+
+    ghost content = { λ s w. s };
+
+    fn content_serializer(&self, wrapper: Wrapper) -> Result<MapKeySerializer> {
+        match wrapper {
+            Wrapper::NewtypeStruct(_) => Ok(*self),
+            _ => Err(no_key()),
+        }
+    }
+
+    fn wrap(self, wrapper: Wrapper, written: String) -> Result<String> {
+        match wrapper {
+            Wrapper::NewtypeStruct(_) => Ok(written),
+            _ => Err(no_key()),
+        }
+    }
+
+    fn serialize_bool(self, v: bool) -> Result<String> {
+        let text = if v { "true" } else { "false" };
+        Ok(String::from_str(self.alloc, text)?)
+    }
+
+    fn serialize_i8(self, v: i8) -> Result<String> {
+        Ok(v.to_string(self.alloc)?)
+    }
+
+    fn serialize_i16(self, v: i16) -> Result<String> {
+        Ok(v.to_string(self.alloc)?)
+    }
+
+    fn serialize_i32(self, v: i32) -> Result<String> {
+        Ok(v.to_string(self.alloc)?)
+    }
+
+    fn serialize_i64(self, v: i64) -> Result<String> {
+        Ok(v.to_string(self.alloc)?)
+    }
+
+    fn serialize_i128(self, v: i128) -> Result<String> {
+        Ok(v.to_string(self.alloc)?)
+    }
+
+    fn serialize_u8(self, v: u8) -> Result<String> {
+        Ok(v.to_string(self.alloc)?)
+    }
+
+    fn serialize_u16(self, v: u16) -> Result<String> {
+        Ok(v.to_string(self.alloc)?)
+    }
+
+    fn serialize_u32(self, v: u32) -> Result<String> {
+        Ok(v.to_string(self.alloc)?)
+    }
+
+    fn serialize_u64(self, v: u64) -> Result<String> {
+        Ok(v.to_string(self.alloc)?)
+    }
+
+    fn serialize_u128(self, v: u128) -> Result<String> {
+        Ok(v.to_string(self.alloc)?)
+    }
+
+    fn serialize_char(self, v: char) -> Result<String> {
+        Ok(v.to_string(self.alloc)?)
+    }
+
+    fn serialize_str(self, v: &str) -> Result<String> {
+        Ok(String::from_str(self.alloc, v)?)
+    }
+
+    fn serialize_bytes(self, _v: &[u8]) -> Result<String> {
+        Err(no_key())
+    }
+
+    fn serialize_none(self) -> Result<String> {
+        Err(no_key())
+    }
+
+    fn serialize_unit(self) -> Result<String> {
+        Err(no_key())
+    }
+
+    fn serialize_unit_struct(self, _name: &'static str) -> Result<String> {
+        Err(no_key())
+    }
+
+    fn serialize_unit_variant(
+        self,
+        _name: &'static str,
+        _index: u32,
+        variant: &'static str,
+    ) -> Result<String> {
+        Ok(String::from_str(self.alloc, variant)?)
+    }
+
+    fn serialize_seq(self, _len: Option<usize>) -> Result<Impossible> {
+        Err(no_key())
+    }
+
+    fn serialize_tuple(self, _len: usize) -> Result<Impossible> {
+        Err(no_key())
+    }
+
+    fn serialize_tuple_struct(self, _name: &'static str, _len: usize) -> Result<Impossible> {
+        Err(no_key())
+    }
+
+    fn serialize_tuple_variant(
+        self,
+        _name: &'static str,
+        _index: u32,
+        _variant: &'static str,
+        _len: usize,
+    ) -> Result<Impossible> {
+        Err(no_key())
+    }
+
+    fn serialize_map(self, _len: Option<usize>) -> Result<Impossible> {
+        Err(no_key())
+    }
+
+    fn serialize_struct(self, _name: &'static str, _len: usize) -> Result<Impossible> {
+        Err(no_key())
+    }
+
+    fn serialize_struct_variant(
+        self,
+        _name: &'static str,
+        _index: u32,
+        _variant: &'static str,
+        _len: usize,
+    ) -> Result<Impossible> {
+        Err(no_key())
+    }
+}
+
+/// The builder that no key has, as serde's `Impossible`.
+#[derive(Drop)]
+pub enum Impossible {}
+
+impl ListBuilder<MapKeySerializer> for Impossible {
+    type Ok = String;
+    type Error = Error;
+
+    ghost gives = { λ b pieces r. Unit {0} };
+
+    ghost writer = { λ b. elim b [ ] };
+
+    fn element_serializer(&self) -> MapKeySerializer {
+        match *self {}
+    }
+
+    fn push_element(&mut self, _written: String) -> Result<()> {
+        match *self {}
+    }
+
+    fn finish(self) -> Result<String> {
+        match self {}
+    }
+}
+
+impl SerializeSeq<MapKeySerializer> for Impossible {}
+
+impl SerializeTuple<MapKeySerializer> for Impossible {}
+
+impl SerializeTupleStruct<MapKeySerializer> for Impossible {}
+
+impl SerializeTupleVariant<MapKeySerializer> for Impossible {}
+
+impl SerializeMap<MapKeySerializer> for Impossible {
+    type Ok = String;
+    type Error = Error;
+
+    ghost gives = { λ b pieces r. Unit {0} };
+
+    ghost pending = { λ b. None };
+
+    ghost writer = { λ b. elim b [ ] };
+
+    fn alloc(&self) -> Global {
+        match *self {}
+    }
+
+    fn refused(&self, _error: Error) -> Error {
+        match *self {}
+    }
+
+    fn has_key(&self) -> bool {
+        match *self {}
+    }
+
+    fn set_key(&mut self, _key: String) {
+        match *self {}
+    }
+
+    fn take_key(&mut self) -> Option<String> {
+        match *self {}
+    }
+
+    fn value_serializer(&self) -> MapKeySerializer {
+        match *self {}
+    }
+
+    fn push_entry(&mut self, _key: String, _written: String) -> Result<()> {
+        match *self {}
+    }
+
+    fn end(self) -> Result<String> {
+        match self {}
+    }
+}
+
+impl StructBuilder<MapKeySerializer> for Impossible {
+    type Ok = String;
+    type Error = Error;
+
+    ghost gives = { λ b pieces r. Unit {0} };
+
+    ghost writer = { λ b. elim b [ ] };
+
+    fn field_serializer(&self) -> MapKeySerializer {
+        match *self {}
+    }
+
+    fn push_field(&mut self, _key: &'static str, _written: String) -> Result<()> {
+        match *self {}
+    }
+
+    fn finish(self) -> Result<String> {
+        match self {}
+    }
+}
+
+impl SerializeStruct<MapKeySerializer> for Impossible {}
+
+impl SerializeStructVariant<MapKeySerializer> for Impossible {}

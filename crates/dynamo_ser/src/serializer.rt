@@ -1,0 +1,213 @@
+ghost use Rattle.std.specs.Prelude.{◌≡◌, ◌⊎◌, Result, Ok, Err, MatchResult, pos, None};
+ghost use Rattle.dynamo_ser.specs.Datum as datum;
+ghost use Rattle.dynamo_ser.specs.Datum.{Datum, variant};
+ghost use Rattle.dynamo_ser.specs.Pieces.{Begins, BeginsContent};
+ghost use Rattle.dynamo_ser.specs.Wrapped.{wrapped};
+ghost use Rattle.dynamo_ser.specs.Writes.{Writes};
+
+use crate::{
+    Outcomes, Serialize, SerializeMap, SerializeSeq, SerializeStruct, SerializeStructVariant,
+    SerializeTuple, SerializeTupleStruct, SerializeTupleVariant,
+};
+
+/// What stands around one content.
+#[derive(Clone, Copy)]
+pub enum Wrapper {
+    /// `Some(content)`.
+    Option,
+
+    /// `struct Name(content)`.
+    NewtypeStruct(&'static str),
+
+    /// `Variant(content)` of an enum: the enum's name, the variant's index and the variant's name.
+    NewtypeVariant(&'static str, u32, &'static str),
+}
+
+/// A serializer, as serde's: it takes a datum of serde's data model, one call for each kind.
+///
+/// Names and indices are those of the declaration. A length is a hint: it need not be the number of pieces that follow.
+pub trait Serializer: Outcomes {
+    ghost use Rattle.dynamo_ser.specs.declared.serializer.Wrapper.{Wrapper};
+
+    type SerializeSeq: SerializeSeq<Self, Ok = Self::Ok, Error = Self::Error>;
+    type SerializeTuple: SerializeTuple<Self, Ok = Self::Ok, Error = Self::Error>;
+    type SerializeTupleStruct: SerializeTupleStruct<Self, Ok = Self::Ok, Error = Self::Error>;
+    type SerializeTupleVariant: SerializeTupleVariant<Self, Ok = Self::Ok, Error = Self::Error>;
+    type SerializeMap: SerializeMap<Self, Ok = Self::Ok, Error = Self::Error>;
+    type SerializeStruct: SerializeStruct<Self, Ok = Self::Ok, Error = Self::Error>;
+    type SerializeStructVariant: SerializeStructVariant<Self, Ok = Self::Ok, Error = Self::Error>;
+
+    // The serializer of a content.
+    ghost content: { Self → Wrapper → Self };
+
+    /// The serializer of a content, under [`serialize_some`](Self::serialize_some) and the two newtype calls.
+    fn content_serializer(&self, wrapper: Wrapper) -> Result<Self, Self::Error>
+        ensures { BeginsContent Self.outcome (wrapped wrapper) (content self.now wrapper) self.now result };
+
+    /// What is answered where this was written for the content.
+    fn wrap(self, wrapper: Wrapper, written: Self::Ok) -> Result<Self::Ok, Self::Error>
+        ensures { (d : Datum) → Self.outcome (content self wrapper) d (Ok written) → Self.outcome self (wrapped wrapper d) result };
+
+    /// A boolean.
+    fn serialize_bool(self, v: bool) -> Result<Self::Ok, Self::Error>
+        ensures { Self.outcome self (datum.boolean v) result };
+
+    /// An integer of 8 bits with a sign.
+    fn serialize_i8(self, v: i8) -> Result<Self::Ok, Self::Error>
+        ensures { Self.outcome self (datum.integer datum.i8 v) result };
+
+    /// An integer of 16 bits with a sign.
+    fn serialize_i16(self, v: i16) -> Result<Self::Ok, Self::Error>
+        ensures { Self.outcome self (datum.integer datum.i16 v) result };
+
+    /// An integer of 32 bits with a sign.
+    fn serialize_i32(self, v: i32) -> Result<Self::Ok, Self::Error>
+        ensures { Self.outcome self (datum.integer datum.i32 v) result };
+
+    /// An integer of 64 bits with a sign.
+    fn serialize_i64(self, v: i64) -> Result<Self::Ok, Self::Error>
+        ensures { Self.outcome self (datum.integer datum.i64 v) result };
+
+    /// An integer of 128 bits with a sign.
+    fn serialize_i128(self, v: i128) -> Result<Self::Ok, Self::Error>
+        ensures { Self.outcome self (datum.integer datum.i128 v) result };
+
+    /// An integer of 8 bits.
+    fn serialize_u8(self, v: u8) -> Result<Self::Ok, Self::Error>
+        ensures { Self.outcome self (datum.integer datum.u8 (pos v)) result };
+
+    /// An integer of 16 bits.
+    fn serialize_u16(self, v: u16) -> Result<Self::Ok, Self::Error>
+        ensures { Self.outcome self (datum.integer datum.u16 (pos v)) result };
+
+    /// An integer of 32 bits.
+    fn serialize_u32(self, v: u32) -> Result<Self::Ok, Self::Error>
+        ensures { Self.outcome self (datum.integer datum.u32 (pos v)) result };
+
+    /// An integer of 64 bits.
+    fn serialize_u64(self, v: u64) -> Result<Self::Ok, Self::Error>
+        ensures { Self.outcome self (datum.integer datum.u64 (pos v)) result };
+
+    /// An integer of 128 bits.
+    fn serialize_u128(self, v: u128) -> Result<Self::Ok, Self::Error>
+        ensures { Self.outcome self (datum.integer datum.u128 (pos v)) result };
+
+    /// A character.
+    fn serialize_char(self, v: char) -> Result<Self::Ok, Self::Error>
+        ensures { Self.outcome self (datum.char v) result };
+
+    /// A text.
+    fn serialize_str(self, v: &str) -> Result<Self::Ok, Self::Error>
+        ensures { Self.outcome self (datum.string v.now) result };
+
+    /// A byte string.
+    fn serialize_bytes(self, v: &[u8]) -> Result<Self::Ok, Self::Error>
+        ensures { Self.outcome self (datum.bytes v.now) result };
+
+    /// `None`.
+    fn serialize_none(self) -> Result<Self::Ok, Self::Error>
+        ensures { Self.outcome self datum.none result };
+
+    /// `Some(value)`.
+    final fn serialize_some<T: Serialize>(self, value: &T) -> Result<Self::Ok, Self::Error>
+        ensures { Writes Self.Error.fault (T.wants value.now) (Self.outcome self) (datum.some (T.tells value.now)) result }
+    {
+        let content = self.content_serializer(Wrapper::Option)?;
+        let written = value.serialize(content)?;
+        self.wrap(Wrapper::Option, written)
+    }
+
+    /// `()`.
+    fn serialize_unit(self) -> Result<Self::Ok, Self::Error>
+        ensures { Self.outcome self datum.unit result };
+
+    /// `struct Name;`.
+    fn serialize_unit_struct(self, name: &'static str) -> Result<Self::Ok, Self::Error>
+        ensures { Self.outcome self (datum.unit_struct name.now) result };
+
+    /// `Variant` of `enum Name { Variant, .. }`.
+    fn serialize_unit_variant(
+        self,
+        name: &'static str,
+        index: u32,
+        variant: &'static str,
+    ) -> Result<Self::Ok, Self::Error>
+        ensures { Self.outcome self (datum.unit_variant (datum.variant name.now index variant.now)) result };
+
+    /// `struct Name(value)`.
+    final fn serialize_newtype_struct<T: Serialize>(
+        self,
+        name: &'static str,
+        value: &T,
+    ) -> Result<Self::Ok, Self::Error>
+        ensures { Writes Self.Error.fault (T.wants value.now) (Self.outcome self) (datum.newtype_struct name.now (T.tells value.now)) result }
+    {
+        let content = self.content_serializer(Wrapper::NewtypeStruct(name))?;
+        let written = value.serialize(content)?;
+        self.wrap(Wrapper::NewtypeStruct(name), written)
+    }
+
+    /// `Variant(value)` of an enum.
+    final fn serialize_newtype_variant<T: Serialize>(
+        self,
+        name: &'static str,
+        index: u32,
+        variant: &'static str,
+        value: &T,
+    ) -> Result<Self::Ok, Self::Error>
+        ensures { Writes Self.Error.fault (T.wants value.now) (Self.outcome self) (datum.newtype_variant (datum.variant name.now index variant.now) (T.tells value.now)) result }
+    {
+        let content = self.content_serializer(Wrapper::NewtypeVariant(name, index, variant))?;
+        let written = value.serialize(content)?;
+        self.wrap(Wrapper::NewtypeVariant(name, index, variant), written)
+    }
+
+    /// A sequence, whose elements follow.
+    fn serialize_seq(self, len: Option<usize>) -> Result<Self::SerializeSeq, Self::Error>
+        ensures { Begins Self.SerializeSeq.gives (λ pieces. Self.outcome self (datum.seq pieces)) result };
+
+    /// A tuple, whose elements follow.
+    fn serialize_tuple(self, len: usize) -> Result<Self::SerializeTuple, Self::Error>
+        ensures { Begins Self.SerializeTuple.gives (λ pieces. Self.outcome self (datum.tuple pieces)) result };
+
+    /// A tuple struct, whose fields follow.
+    fn serialize_tuple_struct(
+        self,
+        name: &'static str,
+        len: usize,
+    ) -> Result<Self::SerializeTupleStruct, Self::Error>
+        ensures { Begins Self.SerializeTupleStruct.gives (λ pieces. Self.outcome self (datum.tuple_struct name.now pieces)) result };
+
+    /// A tuple variant, whose fields follow.
+    fn serialize_tuple_variant(
+        self,
+        name: &'static str,
+        index: u32,
+        variant: &'static str,
+        len: usize,
+    ) -> Result<Self::SerializeTupleVariant, Self::Error>
+        ensures { Begins Self.SerializeTupleVariant.gives (λ pieces. Self.outcome self (datum.tuple_variant (datum.variant name.now index variant.now) pieces)) result };
+
+    /// A map, whose entries follow. No key waits.
+    fn serialize_map(self, len: Option<usize>) -> Result<Self::SerializeMap, Self::Error>
+        ensures begins { Begins Self.SerializeMap.gives (λ pieces. Self.outcome self (datum.map pieces)) result }
+        ensures idle { MatchResult result (λ b. Self.SerializeMap.pending b ≡ None) (λ _. Unit {0}) };
+
+    /// A struct, whose fields follow.
+    fn serialize_struct(
+        self,
+        name: &'static str,
+        len: usize,
+    ) -> Result<Self::SerializeStruct, Self::Error>
+        ensures { Begins Self.SerializeStruct.gives (λ pieces. Self.outcome self (datum.struct name.now pieces)) result };
+
+    /// A struct variant, whose fields follow.
+    fn serialize_struct_variant(
+        self,
+        name: &'static str,
+        index: u32,
+        variant: &'static str,
+        len: usize,
+    ) -> Result<Self::SerializeStructVariant, Self::Error>
+        ensures { Begins Self.SerializeStructVariant.gives (λ pieces. Self.outcome self (datum.struct_variant (datum.variant name.now index variant.now) pieces)) result };
+}

@@ -1,0 +1,15 @@
+//! DynamoDB's values: attribute values, items, byte strings, borrowed text, and the faults of writing and reading
+//! them.
+#![tactic(auto)]
+
+mod attribute_value;
+mod bytes;
+mod error;
+mod item;
+mod text;
+
+pub use attribute_value::AttributeValue;
+pub use bytes::{ByteBuf, Bytes};
+pub use error::{Error, ErrorImpl, Result};
+pub use item::{Item, Items};
+pub use text::Text;
