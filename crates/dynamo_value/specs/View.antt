@@ -40,5 +40,8 @@ abbrev pub elements_view : List AttributeValue → Elements
 elements_view values = elements_of (map view values)
 
 -- the members of a map, by the entries of the hashed map
+abbrev pub entries_view : List (String Global × AttributeValue) → List (List ℕ × Av)
+entries_view es = in_key_order (map (λ e. (e.0, view e.1)) es)
+
 abbrev pub members_view : List (String Global × AttributeValue) → Members
-members_view es = members_of (in_key_order (map (λ e. (e.0, view e.1)) es))
+members_view es = members_of (entries_view es)

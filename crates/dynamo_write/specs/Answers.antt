@@ -1,0 +1,65 @@
+-- What the serializer and its builders answer.
+use Rattle.std.specs.Prelude.{◌≡◌, ℕ, List, [], ◌∷◌, ◌++◌, Result, Ok, Err, MatchResult, ◌⊎◌, map, String, string_bytes}
+use Rattle.std.specs.Borrow.{Bor}
+use Rattle.std.proofs.Common.{inl, sym, ap}
+use Rattle.std.specs.declared.alloc.Global.{Global}
+use Rattle.dynamo_value.specs.Av as av
+use Rattle.dynamo_value.specs.Av.{Av}
+use Rattle.dynamo_value.specs.Fault.{Fault, message, out_of_memory, ◌>>=◌}
+use Rattle.dynamo_value.specs.Item.{map_of}
+use Rattle.dynamo_value.specs.Kind.{fault_of}
+use Rattle.dynamo_value.specs.View.{view, members_view}
+use Rattle.dynamo_value.specs.declared.attribute_value.AttributeValue.{AttributeValue}
+use Rattle.dynamo_value.specs.declared.error.Error.{Error}
+use Rattle.dynamo_value.specs.declared.item.Item.{Item}
+use Rattle.dynamo_ser.specs.Datum as datum
+use Rattle.dynamo_ser.specs.Datum.{Datum}
+use Rattle.dynamo_write.specs.Memory.{MayTakeMemory}
+use Rattle.dynamo_write.specs.Written.{written, written_elements, written_pairs, written_fields, map_of_entries, single, item_written}
+
+-- r is this value or this fault; where `wants`, it may also be a refusal for want of memory
+abbrev pub Answers : {A V : Type 0} → (V → A) → Type 0 → Result A Fault → Result V Error → Type 0
+Answers seen wants x r = MatchResult r (λ v. x ≡ Ok (seen v)) (λ e. (x ≡ Err (fault_of e)) ⊎ (wants × (fault_of e ≡ out_of_memory)))
+
+-- the attribute value of the datum, or its fault
+abbrev pub AnswersDatum : Datum → Result AttributeValue Error → Type 0
+AnswersDatum d r = Answers view (MayTakeMemory d) (written d) r
+
+-- the item of the datum, or its fault
+abbrev pub AnswersItem : Type 0 → Datum → Result Item Error → Type 0
+AnswersItem wants d r = Answers (λ item. members_view (map_of item).entries) (wants ⊎ MayTakeMemory d) (item_written d) r
+
+-- inside a list or a map, where want of memory may always be answered
+abbrev pub AnswersWithin : Result Av Fault → Result AttributeValue Error → Type 0
+AnswersWithin x r = Answers view (Unit {0}) x r
+
+-- an implementation's own refusal is handed on
+pub refused : (text : List ℕ) (e : Error) → fault_of e ≡ message text → AnswersDatum (datum.refuse text) (Err e)
+refused text e is = inl (ap Err (sym is))
+
+-- ---- builders
+
+-- the values that were written so far, before those that follow
+abbrev pub before : List AttributeValue → av.Elements → av.Elements
+before [] rest = rest
+before (v ∷ vs) rest = av.element (view v) (before vs rest)
+
+-- the entries that were written so far, in the order of the calls
+abbrev pub entries_of : List (String Global × AttributeValue) → List (List ℕ × Av)
+entries_of es = map (λ e. (string_bytes e.0, view e.1)) es
+
+-- the same of a struct's fields
+abbrev pub fields_of : List (Bor (List ℕ) × AttributeValue) → List (List ℕ × Av)
+fields_of fs = map (λ e. (e.0.now, view e.1)) fs
+
+-- what is answered where these values stand and the elements follow
+abbrev pub GivesList : List AttributeValue → (av.Elements → Av) → datum.Elements → Result AttributeValue Error → Type 0
+GivesList values whole ds r = AnswersWithin (written_elements ds >>= λ rest. Ok (whole (before values rest))) r
+
+-- what is answered where these entries stand and the pairs follow
+abbrev pub GivesMap : List (List ℕ × Av) → datum.Pairs → Result AttributeValue Error → Type 0
+GivesMap entries ps r = AnswersWithin (written_pairs ps >>= λ rest. Ok (map_of_entries (entries ++ rest))) r
+
+-- what is answered where these entries stand and the fields follow
+abbrev pub GivesStruct : List (List ℕ × Av) → (Av → Av) → datum.Fields → Result AttributeValue Error → Type 0
+GivesStruct entries whole fs r = AnswersWithin (written_fields fs >>= λ rest. Ok (whole (map_of_entries (entries ++ rest)))) r

@@ -1,0 +1,13 @@
+pub use Rattle.dynamo_value.specs.Av
+pub use Rattle.dynamo_value.specs.Fault
+pub use Rattle.dynamo_value.specs.Item
+pub use Rattle.dynamo_value.specs.Kind
+pub use Rattle.dynamo_value.specs.View
+pub use Rattle.dynamo_ser.specs.Datum
+pub use Rattle.dynamo_ser.specs.Key
+pub use Rattle.dynamo_ser.specs.Writes
+pub mod Answers
+pub mod Collect
+pub mod Memory
+pub mod Set
+pub mod Written

@@ -1,0 +1,49 @@
+//! The writer: a [`Serializer`] whose answers are attribute values.
+#![tactic(auto)]
+
+ghost use Rattle.dynamo_value.specs.Kind.{fault_of};
+ghost use Rattle.dynamo_ser.specs.Writes.{Writes};
+ghost use Rattle.dynamo_write.specs.Answers.{AnswersDatum, AnswersItem};
+
+mod hashed;
+mod serializer;
+mod serializer_map;
+mod serializer_seq;
+mod serializer_struct;
+mod serializer_struct_variant;
+mod serializer_tuple_variant;
+mod set;
+
+pub use serializer::Serializer;
+pub use serializer_map::SerializerMap;
+pub use serializer_seq::SerializerSeq;
+pub use serializer_struct::SerializerStruct;
+pub use serializer_struct_variant::SerializerStructVariant;
+pub use serializer_tuple_variant::SerializerTupleVariant;
+
+use dynamo_ser::Serialize;
+use dynamo_value::{AttributeValue, Error, ErrorImpl, Item, Result};
+use std::alloc::Global;
+
+/// Writes a value as an attribute value.
+///
+/// The answer is the attribute value of the datum that the value tells, or that datum's fault: the first faulty
+/// element's, field's or pair's. `OutOfMemory` comes only where the value or its datum takes memory at all.
+pub fn to_attribute_value<T: Serialize + Drop>(alloc: Global, value: T) -> Result<AttributeValue>
+    ensures { Writes fault_of (T.wants value) AnswersDatum (T.tells value) result }
+{
+    value.serialize(Serializer::new(alloc))
+}
+
+/// Writes a value as an item.
+///
+/// The answer is the map where the value writes as an `M`. Where it writes as another kind it is refused by
+/// `NotMaplike`, and where writing is refused by that fault.
+pub fn to_item<T: Serialize + Drop>(alloc: Global, value: T) -> Result<Item>
+    ensures { AnswersItem (T.wants value) (T.tells value) result }
+{
+    match to_attribute_value(alloc, value)? {
+        AttributeValue::M(map) => Ok(Item::from(map)),
+        _other => Err(Error::from(ErrorImpl::NotMaplike)),
+    }
+}

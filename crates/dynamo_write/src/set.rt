@@ -1,0 +1,72 @@
+ghost use Rattle.std.specs.Prelude.{◌≡◌};
+ghost use Rattle.dynamo_value.specs.View.{view};
+ghost use Rattle.dynamo_write.specs.Answers.{AnswersWithin};
+ghost use Rattle.dynamo_write.specs.Set as set;
+ghost use Rattle.dynamo_write.specs.Set.{as_set, set_kind};
+
+use dynamo_value::{AttributeValue, Error, ErrorImpl, Result};
+use std::alloc::Global;
+
+/// What is written for a newtype struct of this name over a content: the set of the content's elements where the name is
+/// the symbol of a kind of sets, else the content.
+pub fn named(alloc: Global, name: &str, value: AttributeValue) -> Result<AttributeValue>
+    ensures { AnswersWithin (set.named (set_kind name.now) (view value)) result }
+{
+    if name == "\u{37e}STRINGSET\u{37e}" {
+        string_set(alloc, value)
+    } else if name == "\u{37e}NUMBERSET\u{37e}" {
+        number_set(alloc, value)
+    } else if name == "\u{37e}BYTESSET\u{37e}" {
+        binary_set(alloc, value)
+    } else {
+        Ok(value)
+    }
+}
+
+fn string_set(alloc: Global, value: AttributeValue) -> Result<AttributeValue>
+    ensures { AnswersWithin (as_set set.strings (view value)) result }
+{
+    let AttributeValue::L(values) = value else {
+        return Err(Error::from(ErrorImpl::NotSetlike));
+    };
+    let mut texts = Vec::new(alloc);
+    for value in values {
+        match value {
+            AttributeValue::S(text) => texts.push(text)?,
+            _ => return Err(Error::from(ErrorImpl::StringSetExpectedType)),
+        }
+    }
+    Ok(AttributeValue::Ss(texts))
+}
+
+fn number_set(alloc: Global, value: AttributeValue) -> Result<AttributeValue>
+    ensures { AnswersWithin (as_set set.numbers (view value)) result }
+{
+    let AttributeValue::L(values) = value else {
+        return Err(Error::from(ErrorImpl::NotSetlike));
+    };
+    let mut texts = Vec::new(alloc);
+    for value in values {
+        match value {
+            AttributeValue::N(text) => texts.push(text)?,
+            _ => return Err(Error::from(ErrorImpl::NumberSetExpectedType)),
+        }
+    }
+    Ok(AttributeValue::Ns(texts))
+}
+
+fn binary_set(alloc: Global, value: AttributeValue) -> Result<AttributeValue>
+    ensures { AnswersWithin (as_set set.blobs (view value)) result }
+{
+    let AttributeValue::L(values) = value else {
+        return Err(Error::from(ErrorImpl::NotSetlike));
+    };
+    let mut blobs = Vec::new(alloc);
+    for value in values {
+        match value {
+            AttributeValue::B(blob) => blobs.push(blob)?,
+            _ => return Err(Error::from(ErrorImpl::BinarySetExpectedType)),
+        }
+    }
+    Ok(AttributeValue::Bs(blobs))
+}
