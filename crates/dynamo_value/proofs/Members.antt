@@ -7,11 +7,11 @@ use Rattle.std.specs.FinMap.Entries.{put, find, find-put, is_sorted, is_sorted-p
 use Rattle.std.specs.Map.{lookup}
 use Rattle.std.specs.Str.{bytes_eq}
 use Rattle.std.specs.String.{string_eq}
-use Rattle.std.specs.HashMap.{HashMap, Updates}
+use Rattle.std.specs.HashMap.{HashMap, Updates, get_by_text}
 use Rattle.std.proofs.lemmas.Map.Text.{is_eq-slice_cmp, hash_map_updates_text}
 use Rattle.std.specs.declared.alloc.Global.{Global}
-use Rattle.dynamo_value.specs.Av.{Av}
-use Rattle.dynamo_value.specs.View.{text_cmp, in_key_order, entries_view, view}
+use Rattle.dynamo_value.specs.Av.{Av, Members, no_members, member, members_of}
+use Rattle.dynamo_value.specs.View.{text_cmp, in_key_order, entries_view, members_view, view}
 use Rattle.dynamo_value.specs.declared.attribute_value.AttributeValue.{AttributeValue}
 
 abbrev Sorted : List (List ℕ × Av) → Type 0
@@ -63,3 +63,18 @@ inserted m n k v h = same_members (entries_view n.entries) (put text_cmp (string
     ∙ ap (λ (b : Bool). cond b (Some (view v)) (option_map view (lookup (λ j. bytes_eq q (string_bytes j)) m.entries))) (bytes_eq_sym (string_bytes k) q)
     ∙ ap (cond (bytes_eq q (string_bytes k)) (Some (view v))) (sym (found-view m.entries q))
     ∙ sym (found-put (string_bytes k) (view v) (entries_view m.entries) q))
+
+-- ---- what an item has at a name, by its members
+
+entries_in : Members → List (List ℕ × Av)
+entries_in no_members = []
+entries_in (member k a ms) = (k, a) ∷ entries_in ms
+
+entries_in-members_of : (es : List (List ℕ × Av)) → entries_in (members_of es) ≡ es
+unfolding entries_in
+entries_in-members_of [] = refl
+entries_in-members_of (e ∷ es) = ap (λ (fs : List (List ℕ × Av)). e ∷ fs) (entries_in-members_of es)
+
+pub found_at : {S : Type 0} (m : HashMap (String Global) AttributeValue S) (es : List (List ℕ × Av)) → members_view m.entries ≡ members_of es → (q : List ℕ) → option_map view (get_by_text m q) ≡ find text_cmp q es
+found_at m es is q = sym (found-view m.entries q)
+    ∙ ap (find text_cmp q) (sym (entries_in-members_of (entries_view m.entries)) ∙ ap entries_in is ∙ entries_in-members_of es)

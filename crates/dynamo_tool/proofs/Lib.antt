@@ -1,0 +1,3 @@
+mod Ages
+mod UserItem
+mod FourWords

@@ -1,0 +1,4 @@
+pub mod Age
+pub mod Lines
+pub mod Printed
+pub mod Words

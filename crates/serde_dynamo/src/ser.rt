@@ -1,0 +1,8 @@
+//! The traits of the writing side, as serde's `ser`. They stand in a module of their own, since `Serializer` and `Error`
+//! are also the names of types.
+
+pub use dynamo_ser::{
+    Error, ListBuilder, Outcomes, Serialize, SerializeMap, SerializeSeq, SerializeStruct,
+    SerializeStructVariant, SerializeTuple, SerializeTupleStruct, SerializeTupleVariant,
+    Serializer, StructBuilder, Wrapper,
+};
