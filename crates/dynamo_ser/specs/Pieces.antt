@@ -11,8 +11,8 @@ use Rattle.dynamo_ser.specs.Writes.{Writes, WritesKey}
 -- a builder whose answers are those of the whole; or a fault, which is the whole's whatever its pieces are
 abbrev pub Begins : {B P A E : Type 0} → (B → P → Result A E → Type 0) → (P → Result A E → Type 0) → Result B E → Type 0
 Begins {B} {P} {A} {E} gives whole r = MatchResult r
-  (λ b. (pieces : P) (answer : Result A E) → gives b pieces answer → whole pieces answer)
-  (λ e. (pieces : P) → whole pieces (Err e))
+    (λ b. (pieces : P) (answer : Result A E) → gives b pieces answer → whole pieces answer)
+    (λ e. (pieces : P) → whole pieces (Err e))
 
 -- the builder holds what it held
 abbrev pub Keeps : {B P A E : Type 0} → (B → P → Result A E → Type 0) → B → B → Type 0
@@ -22,8 +22,8 @@ Keeps {B} {P} {A} {E} gives old new = (pieces : P) (answer : Result A E) → giv
 -- what it held
 abbrev pub Takes : {B P A E U : Type 0} → (B → P → Result A E → Type 0) → B → B → (P → P) → Result U E → Type 0
 Takes {B} {P} {A} {E} {U} gives old new before r = MatchResult r
-  (λ _. (pieces : P) (answer : Result A E) → gives new pieces answer → gives old (before pieces) answer)
-  (λ e. ((pieces : P) → gives old (before pieces) (Err e)) × Keeps gives old new)
+    (λ _. (pieces : P) (answer : Result A E) → gives new pieces answer → gives old (before pieces) answer)
+    (λ e. ((pieces : P) → gives old (before pieces) (Err e)) × Keeps gives old new)
 
 -- what was written for a datum is taken in its place
 abbrev pub TakesWritten : {B P A E U : Type 0} → (Datum → Result A E → Type 0) → A → (B → P → Result A E → Type 0) → B → B → (Datum → P → P) → Result U E → Type 0
@@ -52,5 +52,5 @@ TakesEntry text outcome written gives old new r = (k v : Datum) → key_text k �
 -- the serializer of a content, whose faults are the whole's; or a fault, whatever the content
 abbrev pub BeginsContent : {S A E : Type 0} → (S → Datum → Result A E → Type 0) → (Datum → Datum) → S → S → Result S E → Type 0
 BeginsContent {S} {A} {E} outcome whole content s r = MatchResult r
-  (λ c. (c ≡ content) × ((d : Datum) (e : E) → outcome content d (Err e) → outcome s (whole d) (Err e)))
-  (λ e. (d : Datum) → outcome s (whole d) (Err e))
+    (λ c. (c ≡ content) × ((d : Datum) (e : E) → outcome content d (Err e) → outcome s (whole d) (Err e)))
+    (λ e. (d : Datum) → outcome s (whole d) (Err e))

@@ -8,6 +8,7 @@ use crate::{Error, Outcomes, Serialize, Serializer};
 /// [`SerializeTupleStruct`] and [`SerializeTupleVariant`]. Who writes a value has no need of it.
 pub trait ListBuilder<S: Outcomes<Ok = Self::Ok, Error = Self::Error>>: Sized + Drop {
     type Ok: Drop;
+
     type Error: Error;
 
     // What is answered where these elements follow, and then the end.
@@ -79,9 +80,7 @@ pub trait SerializeTuple<S: Outcomes<Ok = Self::Ok, Error = Self::Error>>: ListB
 }
 
 /// The builder of a tuple struct, as serde's: `struct Rgb(u8, u8, u8)`.
-pub trait SerializeTupleStruct<S: Outcomes<Ok = Self::Ok, Error = Self::Error>>:
-    ListBuilder<S>
-{
+pub trait SerializeTupleStruct<S: Outcomes<Ok = Self::Ok, Error = Self::Error>>: ListBuilder<S> {
     /// Writes the next field. Where it is refused the fields so far stay.
     final fn serialize_field<T: Serialize>(&mut self, value: &T) -> Result<(), Self::Error>
     where
@@ -100,9 +99,7 @@ pub trait SerializeTupleStruct<S: Outcomes<Ok = Self::Ok, Error = Self::Error>>:
 }
 
 /// The builder of a tuple variant, as serde's: `T` of `enum E { T(u8, u8) }`.
-pub trait SerializeTupleVariant<S: Outcomes<Ok = Self::Ok, Error = Self::Error>>:
-    ListBuilder<S>
-{
+pub trait SerializeTupleVariant<S: Outcomes<Ok = Self::Ok, Error = Self::Error>>: ListBuilder<S> {
     /// Writes the next field. Where it is refused the fields so far stay.
     final fn serialize_field<T: Serialize>(&mut self, value: &T) -> Result<(), Self::Error>
     where

@@ -30,6 +30,7 @@ fn no_key() -> Error
 
 impl Outcomes for MapKeySerializer {
     type Ok = String;
+
     type Error = Error;
 
     ghost outcome = { λ s d r. WritesKey d r };
@@ -43,11 +44,17 @@ impl Outcomes for MapKeySerializer {
 
 impl Serializer for MapKeySerializer {
     type SerializeSeq = Impossible;
+
     type SerializeTuple = Impossible;
+
     type SerializeTupleStruct = Impossible;
+
     type SerializeTupleVariant = Impossible;
+
     type SerializeMap = Impossible;
+
     type SerializeStruct = Impossible;
+
     type SerializeStructVariant = Impossible;
 
     ghost content = { λ s w. s };
@@ -191,6 +198,7 @@ pub enum Impossible {}
 
 impl ListBuilder<MapKeySerializer> for Impossible {
     type Ok = String;
+
     type Error = Error;
 
     ghost gives = { λ b pieces r. Unit {0} };
@@ -220,6 +228,7 @@ impl SerializeTupleVariant<MapKeySerializer> for Impossible {}
 
 impl SerializeMap<MapKeySerializer> for Impossible {
     type Ok = String;
+
     type Error = Error;
 
     ghost gives = { λ b pieces r. Unit {0} };
@@ -263,6 +272,7 @@ impl SerializeMap<MapKeySerializer> for Impossible {
 
 impl StructBuilder<MapKeySerializer> for Impossible {
     type Ok = String;
+
     type Error = Error;
 
     ghost gives = { λ b pieces r. Unit {0} };

@@ -16,6 +16,7 @@ use std::alloc::Global;
 /// `alloc` to `push_entry`, and `end`; serde's calls come with them.
 pub trait SerializeMap<S: Outcomes<Ok = Self::Ok, Error = Self::Error>>: Sized + Drop {
     type Ok: Drop;
+
     type Error: Error;
 
     // What is answered where these pairs follow, and then the end. A key that is pending counts for nothing.
@@ -69,7 +70,7 @@ pub trait SerializeMap<S: Outcomes<Ok = Self::Ok, Error = Self::Error>>: Sized +
         ensures takes { Self.pending self.old ≡ None → MatchResult result
             (λ _. (text : List ℕ) × (key_text (K.tells key.now) ≡ Ok text) × (Self.pending self.new ≡ Some text))
             (λ e. ((key_text (K.tells key.now) ≡ Err (Self.Error.fault e)) ⊎ (Self.Error.fault e ≡ out_of_memory))
-                × ((v : Datum) (pairs : Pairs) → Self.gives self.old (pair (K.tells key.now) v pairs) (Err e))) }
+            × ((v : Datum) (pairs : Pairs) → Self.gives self.old (pair (K.tells key.now) v pairs) (Err e))) }
         ensures failed { MatchResult result (λ _. Unit {0}) (λ _. self.new ≡ self.old) }
         ensures keeps { Keeps Self.gives self.old self.new }
     {

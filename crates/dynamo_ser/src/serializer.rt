@@ -30,11 +30,17 @@ pub trait Serializer: Outcomes {
     ghost use Rattle.dynamo_ser.specs.declared.serializer.Wrapper.{Wrapper};
 
     type SerializeSeq: SerializeSeq<Self, Ok = Self::Ok, Error = Self::Error>;
+
     type SerializeTuple: SerializeTuple<Self, Ok = Self::Ok, Error = Self::Error>;
+
     type SerializeTupleStruct: SerializeTupleStruct<Self, Ok = Self::Ok, Error = Self::Error>;
+
     type SerializeTupleVariant: SerializeTupleVariant<Self, Ok = Self::Ok, Error = Self::Error>;
+
     type SerializeMap: SerializeMap<Self, Ok = Self::Ok, Error = Self::Error>;
+
     type SerializeStruct: SerializeStruct<Self, Ok = Self::Ok, Error = Self::Error>;
+
     type SerializeStructVariant: SerializeStructVariant<Self, Ok = Self::Ok, Error = Self::Error>;
 
     // The serializer of a content.

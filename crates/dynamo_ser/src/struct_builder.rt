@@ -8,6 +8,7 @@ use crate::{Error, Outcomes, Serialize, Serializer};
 /// writes a value has no need of it.
 pub trait StructBuilder<S: Outcomes<Ok = Self::Ok, Error = Self::Error>>: Sized + Drop {
     type Ok: Drop;
+
     type Error: Error;
 
     // What is answered where these fields follow, and then the end.
@@ -68,9 +69,9 @@ pub trait SerializeStruct<S: Outcomes<Ok = Self::Ok, Error = Self::Error>>: Stru
 }
 
 /// The builder of a struct variant, as serde's: `S` of `enum E { S { one: u8, two: u8 } }`.
-pub trait SerializeStructVariant<S: Outcomes<Ok = Self::Ok, Error = Self::Error>>:
-    StructBuilder<S>
-{
+pub trait SerializeStructVariant<S: Outcomes<Ok = Self::Ok, Error = Self::Error>>: StructBuilder<
+    S,
+> {
     /// Writes the field of this name. Where it is refused the fields so far stay.
     final fn serialize_field<T: Serialize>(
         &mut self,

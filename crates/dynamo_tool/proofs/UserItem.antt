@@ -22,10 +22,11 @@ pub user_attributes : (item : Item) (id name : List ℕ) (age : ℕ) → item_wr
     × (option_map view (get_by_text (map_of item) (codes "id")) ≡ Some (av.S id))
     × (option_map view (get_by_text (map_of item) (codes "name")) ≡ Some (av.S name))
 user_attributes item id name age is =
-    let members : members_view (map_of item).entries ≡ members_of (user_entries id name age) = cc in
-    (found_at (map_of item) (user_entries id name age) members (codes "age"),
-     found_at (map_of item) (user_entries id name age) members (codes "id"),
-     found_at (map_of item) (user_entries id name age) members (codes "name"))
+    let members : members_view (map_of item).entries ≡ members_of (user_entries id name age) = cc in (
+      found_at (map_of item) (user_entries id name age) members (codes "age"),
+      found_at (map_of item) (user_entries id name age) members (codes "id"),
+      found_at (map_of item) (user_entries id name age) members (codes "name"),
+    )
 
 -- three lines, one after another
 pub three_lines : (id name : List ℕ) (age : ℕ) (l k m n : List ℕ) (a i s : Option Av)

@@ -5,9 +5,8 @@ mod output;
 mod run;
 
 use std::alloc::Global;
-use std::env;
-use std::io;
 use std::process::ExitCode;
+use std::{env, io};
 
 // The words after the program's name; none where one is no text.
 fn words(rt: &HostRuntime) -> Vec<String> {

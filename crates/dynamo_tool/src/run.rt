@@ -22,11 +22,11 @@ const USAGE: &str = "usage: dynamo_tool user ID NAME AGE | check | dynamo | plai
 pub fn run<R: Read, W: Output>(
     alloc: Global,
     words: &[String],
-    _reader: &mut R,
+    reader: &mut R,
     writer: &mut W,
 ) -> u8
     ensures prints { Runs W.write_gives writer.old writer.new (user_of (map string_bytes words.now)) result }
-    ensures reads_nothing { _reader.new ≡ _reader.old }
+    ensures reads_nothing { reader.new ≡ reader.old }
 {
     let Some((id, name, age)) = user_words(words) else {
         return print(writer, USAGE, 2);

@@ -7,4 +7,4 @@ abbrev pub octets_of : ByteBuf → List ℕ
 octets_of b = b.bytes.items
 
 abbrev pub lent_octets : Bytes → List ℕ
-lent_octets b = b.bytes.now
+lent_octets b = b.slice.now

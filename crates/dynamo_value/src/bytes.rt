@@ -4,22 +4,22 @@ ghost use Rattle.dynamo_value.specs.Bytes.{octets_of, lent_octets};
 /// A borrowed byte string: it writes as `B`, where a `Vec<u8>` writes as a list of numbers.
 #[derive(Clone, Copy, Debug, PartialEq, Eq)]
 pub struct Bytes<'a> {
-    bytes: &'a [u8],
+    slice: &'a [u8],
 }
 
 impl<'a> Bytes<'a> {
     /// The byte string of these bytes.
-    pub fn new(bytes: &'a [u8]) -> Self
-        ensures { lent_octets result ≡ bytes.now }
+    pub fn new(slice: &'a [u8]) -> Self
+        ensures { lent_octets result ≡ slice.now }
     {
-        Bytes { bytes }
+        Bytes { slice }
     }
 
     /// The bytes.
     pub fn as_slice(&self) -> &'a [u8]
         ensures { result.now ≡ lent_octets self.now }
     {
-        self.bytes
+        self.slice
     }
 }
 

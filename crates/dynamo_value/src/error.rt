@@ -133,7 +133,7 @@ impl<T: Drop> From<AllocFailed<T>> for Error {
     ghost from_gives = { λ _ e. fault_of e ≡ out_of_memory };
 
     fn from(_: AllocFailed<T>) -> Error {
-        Error::from(ErrorImpl::OutOfMemory)
+        Error::from(AllocError)
     }
 }
 

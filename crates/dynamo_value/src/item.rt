@@ -46,7 +46,7 @@ impl Item {
     pub fn into_inner(self) -> HashMap<String, AttributeValue>
         ensures { result ≡ map_of self }
     {
-        self.map
+        HashMap::from(self)
     }
 
     /// The value of the attribute of this name, where there is one.

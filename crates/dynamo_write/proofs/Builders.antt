@@ -37,7 +37,6 @@ list_pushed vs v whole d ds r is given =
 
 -- ---- entries
 
-
 one_more_entry : (es : List (List ℕ × Av)) (e : List ℕ × Av) (whole : List (List ℕ × Av) → Av) (x : Result (List (List ℕ × Av)) Fault)
     → (x >>= λ rest. Ok (whole ((es ++ e ∷ []) ++ rest))) ≡ (x >>= λ rest. Ok (e ∷ rest)) >>= (λ rest. Ok (whole (es ++ rest)))
 one_more_entry es e whole (Ok rest) = ap (λ all. Ok (whole all)) (append_assoc es (e ∷ []) rest)

@@ -14,15 +14,14 @@ mod serializer_struct_variant;
 mod serializer_tuple_variant;
 mod set;
 
+use dynamo_ser::Serialize;
+use dynamo_value::{AttributeValue, Error, ErrorImpl, Item, Result};
 pub use serializer::Serializer;
 pub use serializer_map::SerializerMap;
 pub use serializer_seq::SerializerSeq;
 pub use serializer_struct::SerializerStruct;
 pub use serializer_struct_variant::SerializerStructVariant;
 pub use serializer_tuple_variant::SerializerTupleVariant;
-
-use dynamo_ser::Serialize;
-use dynamo_value::{AttributeValue, Error, ErrorImpl, Item, Result};
 use std::alloc::Global;
 
 /// Writes a value as an attribute value.

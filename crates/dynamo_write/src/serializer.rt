@@ -37,6 +37,7 @@ impl Serializer {
 
 impl Outcomes for Serializer {
     type Ok = AttributeValue;
+
     type Error = Error;
 
     ghost outcome = { λ s d r. AnswersDatum d r };
@@ -50,11 +51,17 @@ impl Outcomes for Serializer {
 
 impl dynamo_ser::Serializer for Serializer {
     type SerializeSeq = SerializerSeq;
+
     type SerializeTuple = SerializerSeq;
+
     type SerializeTupleStruct = SerializerSeq;
+
     type SerializeTupleVariant = SerializerTupleVariant<'static>;
+
     type SerializeMap = SerializerMap;
+
     type SerializeStruct = SerializerStruct;
+
     type SerializeStructVariant = SerializerStructVariant<'static>;
 
     ghost content = { λ s w. s };

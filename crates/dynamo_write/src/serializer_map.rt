@@ -30,6 +30,7 @@ impl SerializerMap {
 
 impl SerializeMap<Serializer> for SerializerMap {
     type Ok = AttributeValue;
+
     type Error = Error;
 
     ghost gives = { λ b ps r. GivesMap (entries_of b.entries.items) ps r };

@@ -28,6 +28,7 @@ impl SerializerSeq {
 
 impl ListBuilder<Serializer> for SerializerSeq {
     type Ok = AttributeValue;
+
     type Error = Error;
 
     ghost gives = { λ b ds r. GivesList b.values.items av.L ds r };

@@ -28,6 +28,7 @@ impl SerializerStruct {
 
 impl StructBuilder<Serializer> for SerializerStruct {
     type Ok = AttributeValue;
+
     type Error = Error;
 
     ghost gives = { λ b fs r. GivesStruct (fields_of b.fields.items) (λ a. a) fs r };

@@ -31,6 +31,7 @@ impl<'a> SerializerStructVariant<'a> {
 
 impl StructBuilder<Serializer> for SerializerStructVariant<'_> {
     type Ok = AttributeValue;
+
     type Error = Error;
 
     ghost gives = { λ b fs r. GivesStruct (fields_of b.fields.items) (single b.key.now) fs r };

@@ -32,6 +32,7 @@ impl<'a> SerializerTupleVariant<'a> {
 
 impl ListBuilder<Serializer> for SerializerTupleVariant<'_> {
     type Ok = AttributeValue;
+
     type Error = Error;
 
     ghost gives = { λ b ds r. GivesList b.values.items (λ as'. single b.key.now (av.L as')) ds r };
