@@ -95,3 +95,6 @@ fn push_line(text: &mut String, item: &Item, name: &str) -> Result<()>
     }
     Ok(())
 }
+
+#[cfg(test)]
+mod tests;

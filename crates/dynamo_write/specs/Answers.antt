@@ -1,8 +1,6 @@
 -- What the serializer and its builders answer.
-use Rattle.std.specs.Prelude.{◌≡◌, ℕ, List, [], ◌∷◌, ◌++◌, Result, Ok, Err, MatchResult, ◌⊎◌, map, String, string_bytes}
-use Rattle.std.specs.Borrow.{Bor}
+use Rattle.std.specs.Prelude.{◌≡◌, ℕ, List, [], ◌∷◌, ◌++◌, Result, Ok, Err, MatchResult, ◌⊎◌}
 use Rattle.std.proofs.Common.{inl, sym, ap}
-use Rattle.std.specs.declared.alloc.Global.{Global}
 use Rattle.dynamo_value.specs.Av as av
 use Rattle.dynamo_value.specs.Av.{Av}
 use Rattle.dynamo_value.specs.Fault.{Fault, message, out_of_memory, ◌>>=◌}
@@ -43,14 +41,6 @@ refused text e is = inl (ap Err (sym is))
 abbrev pub before : List AttributeValue → av.Elements → av.Elements
 before [] rest = rest
 before (v ∷ vs) rest = av.element (view v) (before vs rest)
-
--- the entries that were written so far, in the order of the calls
-abbrev pub entries_of : List (String Global × AttributeValue) → List (List ℕ × Av)
-entries_of es = map (λ e. (string_bytes e.0, view e.1)) es
-
--- the same of a struct's fields
-abbrev pub fields_of : List (Bor (List ℕ) × AttributeValue) → List (List ℕ × Av)
-fields_of fs = map (λ e. (e.0.now, view e.1)) fs
 
 -- what is answered where these values stand and the elements follow
 abbrev pub GivesList : List AttributeValue → (av.Elements → Av) → datum.Elements → Result AttributeValue Error → Type 0

@@ -8,6 +8,7 @@ pub use Rattle.dynamo_ser.specs.Key
 pub use Rattle.dynamo_ser.specs.Writes
 pub mod Answers
 pub mod Collect
+pub mod Held
 pub mod Memory
 pub mod Set
 pub mod Written

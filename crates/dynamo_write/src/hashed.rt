@@ -3,7 +3,7 @@ ghost use Rattle.std.specs.FinMap.Entries.{put};
 ghost use Rattle.dynamo_value.specs.Fault.{out_of_memory};
 ghost use Rattle.dynamo_value.specs.Kind.{fault_of};
 ghost use Rattle.dynamo_value.specs.View.{view, entries_view, text_cmp};
-ghost use Rattle.dynamo_write.specs.Answers.{entries_of, fields_of};
+ghost use Rattle.dynamo_write.specs.Held.{entries_of, fields_of};
 ghost use Rattle.dynamo_write.specs.Collect.{collect};
 ghost use Rattle.dynamo_write.specs.Written.{single};
 

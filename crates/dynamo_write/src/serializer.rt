@@ -4,6 +4,7 @@ ghost use Rattle.dynamo_value.specs.Fault.{out_of_memory};
 ghost use Rattle.dynamo_value.specs.Kind.{fault_of};
 ghost use Rattle.dynamo_value.specs.View.{view};
 ghost use Rattle.dynamo_write.specs.Answers.{AnswersDatum, refused};
+ghost use Rattle.dynamo_write.specs.Held.{allocator_of};
 
 use crate::{
     SerializerMap, SerializerSeq, SerializerStruct, SerializerStructVariant,
@@ -22,7 +23,7 @@ pub struct Serializer {
 impl Serializer {
     /// The serializer whose attribute values take their memory here.
     pub fn new(alloc: Global) -> Serializer
-        ensures { result.alloc ≡ alloc }
+        ensures { allocator_of result ≡ alloc }
     {
         Serializer { alloc }
     }

@@ -1,5 +1,6 @@
-ghost use Rattle.std.specs.Prelude.{◌≡◌, [], None, option_map, string_bytes};
-ghost use Rattle.dynamo_write.specs.Answers.{GivesMap, entries_of};
+ghost use Rattle.std.specs.Prelude.{◌≡◌, [], None};
+ghost use Rattle.dynamo_write.specs.Answers.{GivesMap};
+ghost use Rattle.dynamo_write.specs.Held.{map_entries, pending_key};
 
 use crate::{Serializer, hashed};
 use dynamo_ser::SerializeMap;
@@ -17,8 +18,8 @@ pub struct SerializerMap {
 impl SerializerMap {
     /// The builder without entries. It takes no memory: the length is a hint that isn't used.
     pub fn new(alloc: Global, _len: Option<usize>) -> Self
-        ensures entries { result.entries.items ≡ [] }
-        ensures idle { result.next_key ≡ None }
+        ensures entries { map_entries result ≡ [] }
+        ensures idle { pending_key result ≡ None }
     {
         SerializerMap {
             alloc,
@@ -33,9 +34,9 @@ impl SerializeMap<Serializer> for SerializerMap {
 
     type Error = Error;
 
-    ghost gives = { λ b ps r. GivesMap (entries_of b.entries.items) ps r };
+    ghost gives = { λ b ps r. GivesMap (map_entries b) ps r };
 
-    ghost pending = { λ b. option_map string_bytes b.next_key };
+    ghost pending = { λ b. pending_key b };
 
     ghost writer = { λ b. record { alloc = b.alloc } };
 

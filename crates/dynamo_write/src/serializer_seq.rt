@@ -1,6 +1,7 @@
 ghost use Rattle.std.specs.Prelude.{◌≡◌, []};
 ghost use Rattle.dynamo_value.specs.Av as av;
 ghost use Rattle.dynamo_write.specs.Answers.{GivesList};
+ghost use Rattle.dynamo_write.specs.Held.{seq_values};
 
 use crate::Serializer;
 use dynamo_ser::{ListBuilder, SerializeSeq, SerializeTuple, SerializeTupleStruct};
@@ -17,7 +18,7 @@ pub struct SerializerSeq {
 impl SerializerSeq {
     /// The builder without elements. It takes no memory: the length is a hint that isn't used.
     pub fn new(alloc: Global, _len: Option<usize>) -> Self
-        ensures { result.values.items ≡ [] }
+        ensures { seq_values result ≡ [] }
     {
         SerializerSeq {
             alloc,
@@ -31,7 +32,7 @@ impl ListBuilder<Serializer> for SerializerSeq {
 
     type Error = Error;
 
-    ghost gives = { λ b ds r. GivesList b.values.items av.L ds r };
+    ghost gives = { λ b ds r. GivesList (seq_values b) av.L ds r };
 
     ghost writer = { λ b. record { alloc = b.alloc } };
 

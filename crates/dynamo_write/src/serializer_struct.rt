@@ -1,5 +1,6 @@
 ghost use Rattle.std.specs.Prelude.{◌≡◌, []};
-ghost use Rattle.dynamo_write.specs.Answers.{GivesStruct, fields_of};
+ghost use Rattle.dynamo_write.specs.Answers.{GivesStruct};
+ghost use Rattle.dynamo_write.specs.Held.{struct_fields};
 
 use crate::{Serializer, hashed};
 use dynamo_ser::{SerializeStruct, StructBuilder};
@@ -17,7 +18,7 @@ pub struct SerializerStruct {
 impl SerializerStruct {
     /// The builder without fields. It takes no memory: the length is a hint that isn't used.
     pub fn new(alloc: Global, _len: usize) -> Self
-        ensures { result.fields.items ≡ [] }
+        ensures { struct_fields result ≡ [] }
     {
         SerializerStruct {
             alloc,
@@ -31,7 +32,7 @@ impl StructBuilder<Serializer> for SerializerStruct {
 
     type Error = Error;
 
-    ghost gives = { λ b fs r. GivesStruct (fields_of b.fields.items) (λ a. a) fs r };
+    ghost gives = { λ b fs r. GivesStruct (struct_fields b) (λ a. a) fs r };
 
     ghost writer = { λ b. record { alloc = b.alloc } };
 

@@ -1,5 +1,6 @@
 ghost use Rattle.std.specs.Prelude.{◌≡◌, []};
-ghost use Rattle.dynamo_write.specs.Answers.{GivesStruct, fields_of};
+ghost use Rattle.dynamo_write.specs.Answers.{GivesStruct};
+ghost use Rattle.dynamo_write.specs.Held.{struct_variant_fields, struct_variant_name};
 ghost use Rattle.dynamo_write.specs.Written.{single};
 
 use crate::{Serializer, hashed};
@@ -18,8 +19,8 @@ pub struct SerializerStructVariant<'a> {
 impl<'a> SerializerStructVariant<'a> {
     /// The builder of the variant of this name without fields. It takes no memory: the length is a hint that isn't used.
     pub fn new(alloc: Global, key: &'a str, _len: usize) -> Self
-        ensures fields { result.fields.items ≡ [] }
-        ensures key { result.key.now ≡ key.now }
+        ensures fields { struct_variant_fields result ≡ [] }
+        ensures name { struct_variant_name result ≡ key.now }
     {
         SerializerStructVariant {
             alloc,
@@ -34,7 +35,7 @@ impl StructBuilder<Serializer> for SerializerStructVariant<'_> {
 
     type Error = Error;
 
-    ghost gives = { λ b fs r. GivesStruct (fields_of b.fields.items) (single b.key.now) fs r };
+    ghost gives = { λ b fs r. GivesStruct (struct_variant_fields b) (single (struct_variant_name b)) fs r };
 
     ghost writer = { λ b. record { alloc = b.alloc } };
 

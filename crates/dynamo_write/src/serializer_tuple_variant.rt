@@ -1,6 +1,7 @@
 ghost use Rattle.std.specs.Prelude.{◌≡◌, []};
 ghost use Rattle.dynamo_value.specs.Av as av;
 ghost use Rattle.dynamo_write.specs.Answers.{GivesList};
+ghost use Rattle.dynamo_write.specs.Held.{tuple_variant_name, tuple_variant_values};
 ghost use Rattle.dynamo_write.specs.Written.{single};
 
 use crate::{Serializer, hashed};
@@ -19,8 +20,8 @@ pub struct SerializerTupleVariant<'a> {
 impl<'a> SerializerTupleVariant<'a> {
     /// The builder of the variant of this name without fields. It takes no memory: the length is a hint that isn't used.
     pub fn new(alloc: Global, key: &'a str, _len: usize) -> Self
-        ensures values { result.values.items ≡ [] }
-        ensures key { result.key.now ≡ key.now }
+        ensures values { tuple_variant_values result ≡ [] }
+        ensures name { tuple_variant_name result ≡ key.now }
     {
         SerializerTupleVariant {
             alloc,
@@ -35,7 +36,7 @@ impl ListBuilder<Serializer> for SerializerTupleVariant<'_> {
 
     type Error = Error;
 
-    ghost gives = { λ b ds r. GivesList b.values.items (λ as'. single b.key.now (av.L as')) ds r };
+    ghost gives = { λ b ds r. GivesList (tuple_variant_values b) (λ as'. single (tuple_variant_name b) (av.L as')) ds r };
 
     ghost writer = { λ b. record { alloc = b.alloc } };
 

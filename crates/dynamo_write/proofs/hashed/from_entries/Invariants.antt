@@ -1,6 +1,6 @@
 use Rattle.std.proofs.Common.{◌≡◌}
 use Rattle.dynamo_value.specs.View.{entries_view}
-use Rattle.dynamo_write.specs.Answers.{entries_of}
+use Rattle.dynamo_write.specs.Held.{entries_of}
 use Rattle.dynamo_write.specs.Collect.{collect, collect_onto}
 use Rattle.dynamo_write.proofs.hashed.from_entries.Given as goal
 

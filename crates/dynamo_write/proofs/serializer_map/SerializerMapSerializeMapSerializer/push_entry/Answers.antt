@@ -1,7 +1,7 @@
 use Rattle.std.proofs.Common.{◌≡◌, [], ◌∷◌, ◌++◌, string_bytes, ap, ◌∙◌}
 use Rattle.std.proofs.lemmas.List.{map-append}
 use Rattle.dynamo_value.specs.View.{view}
-use Rattle.dynamo_write.specs.Answers.{entries_of}
+use Rattle.dynamo_write.specs.Held.{entries_of}
 use Rattle.dynamo_write.proofs.Builders.{entry_pushed}
 use Rattle.dynamo_write.proofs.serializer_map.SerializerMapSerializeMapSerializer.push_entry.Goals as goal
 

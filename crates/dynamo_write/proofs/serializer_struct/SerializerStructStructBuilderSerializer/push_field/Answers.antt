@@ -1,7 +1,7 @@
 use Rattle.std.proofs.Common.{◌≡◌, [], ◌∷◌, ◌++◌, ap, ◌∙◌}
 use Rattle.std.proofs.lemmas.List.{map-append}
 use Rattle.dynamo_value.specs.View.{view}
-use Rattle.dynamo_write.specs.Answers.{fields_of}
+use Rattle.dynamo_write.specs.Held.{fields_of}
 use Rattle.dynamo_write.proofs.Builders.{field_pushed}
 use Rattle.dynamo_write.proofs.serializer_struct.SerializerStructStructBuilderSerializer.push_field.Goals as goal
 
