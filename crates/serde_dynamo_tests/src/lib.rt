@@ -7,4 +7,6 @@ mod faults;
 #[cfg(test)]
 mod items;
 #[cfg(test)]
+mod show;
+#[cfg(test)]
 mod writing;
