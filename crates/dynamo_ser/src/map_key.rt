@@ -1,4 +1,4 @@
-ghost use Rattle.std.specs.Prelude.{◌≡◌, None};
+ghost use Rattle.std.specs.Prelude.{◌≡◌, IsErr, option_map, string_bytes};
 ghost use Rattle.dynamo_ser.specs.Writes.{WritesKey, refused_key};
 
 use crate::{
@@ -43,19 +43,19 @@ impl Outcomes for MapKeySerializer {
 }
 
 impl Serializer for MapKeySerializer {
-    type SerializeSeq = Impossible;
+    type SerializeSeq = NoKey;
 
-    type SerializeTuple = Impossible;
+    type SerializeTuple = NoKey;
 
-    type SerializeTupleStruct = Impossible;
+    type SerializeTupleStruct = NoKey;
 
-    type SerializeTupleVariant = Impossible;
+    type SerializeTupleVariant = NoKey;
 
-    type SerializeMap = Impossible;
+    type SerializeMap = NoKey;
 
-    type SerializeStruct = Impossible;
+    type SerializeStruct = NoKey;
 
-    type SerializeStructVariant = Impossible;
+    type SerializeStructVariant = NoKey;
 
     ghost content = { λ s w. s };
 
@@ -151,15 +151,15 @@ impl Serializer for MapKeySerializer {
         Ok(String::from_str(self.alloc, variant)?)
     }
 
-    fn serialize_seq(self, _len: Option<usize>) -> Result<Impossible> {
+    fn serialize_seq(self, _len: Option<usize>) -> Result<NoKey> {
         Err(no_key())
     }
 
-    fn serialize_tuple(self, _len: usize) -> Result<Impossible> {
+    fn serialize_tuple(self, _len: usize) -> Result<NoKey> {
         Err(no_key())
     }
 
-    fn serialize_tuple_struct(self, _name: &'static str, _len: usize) -> Result<Impossible> {
+    fn serialize_tuple_struct(self, _name: &'static str, _len: usize) -> Result<NoKey> {
         Err(no_key())
     }
 
@@ -169,15 +169,15 @@ impl Serializer for MapKeySerializer {
         _index: u32,
         _variant: &'static str,
         _len: usize,
-    ) -> Result<Impossible> {
+    ) -> Result<NoKey> {
         Err(no_key())
     }
 
-    fn serialize_map(self, _len: Option<usize>) -> Result<Impossible> {
+    fn serialize_map(self, _len: Option<usize>) -> Result<NoKey> {
         Err(no_key())
     }
 
-    fn serialize_struct(self, _name: &'static str, _len: usize) -> Result<Impossible> {
+    fn serialize_struct(self, _name: &'static str, _len: usize) -> Result<NoKey> {
         Err(no_key())
     }
 
@@ -187,111 +187,114 @@ impl Serializer for MapKeySerializer {
         _index: u32,
         _variant: &'static str,
         _len: usize,
-    ) -> Result<Impossible> {
+    ) -> Result<NoKey> {
         Err(no_key())
     }
 }
 
-/// The builder that no key has, as serde's `Impossible`.
+/// The builder of what is no key. The serializer hands out none; one that is made refuses whatever it is given.
 #[derive(Drop)]
-pub enum Impossible {}
+pub struct NoKey {
+    alloc: Global,
+    next_key: Option<String>,
+}
 
-impl ListBuilder<MapKeySerializer> for Impossible {
+impl ListBuilder<MapKeySerializer> for NoKey {
     type Ok = String;
 
     type Error = Error;
 
-    ghost gives = { λ b pieces r. Unit {0} };
+    ghost gives = { λ b pieces r. IsErr r };
 
-    ghost writer = { λ b. elim b [ ] };
+    ghost writer = { λ b. record { alloc = b.alloc } };
 
     fn element_serializer(&self) -> MapKeySerializer {
-        match *self {}
+        MapKeySerializer { alloc: self.alloc }
     }
 
     fn push_element(&mut self, _written: String) -> Result<()> {
-        match *self {}
+        Err(no_key())
     }
 
     fn finish(self) -> Result<String> {
-        match self {}
+        Err(no_key())
     }
 }
 
-impl SerializeSeq<MapKeySerializer> for Impossible {}
+impl SerializeSeq<MapKeySerializer> for NoKey {}
 
-impl SerializeTuple<MapKeySerializer> for Impossible {}
+impl SerializeTuple<MapKeySerializer> for NoKey {}
 
-impl SerializeTupleStruct<MapKeySerializer> for Impossible {}
+impl SerializeTupleStruct<MapKeySerializer> for NoKey {}
 
-impl SerializeTupleVariant<MapKeySerializer> for Impossible {}
+impl SerializeTupleVariant<MapKeySerializer> for NoKey {}
 
-impl SerializeMap<MapKeySerializer> for Impossible {
+impl SerializeMap<MapKeySerializer> for NoKey {
     type Ok = String;
 
     type Error = Error;
 
-    ghost gives = { λ b pieces r. Unit {0} };
+    ghost gives = { λ b pieces r. IsErr r };
 
-    ghost pending = { λ b. None };
+    ghost pending = { λ b. option_map string_bytes b.next_key };
 
-    ghost writer = { λ b. elim b [ ] };
+    ghost writer = { λ b. record { alloc = b.alloc } };
 
     fn alloc(&self) -> Global {
-        match *self {}
+        self.alloc
     }
 
-    fn refused(&self, _error: Error) -> Error {
-        match *self {}
+    fn refused(&self, error: Error) -> Error {
+        error
     }
 
     fn has_key(&self) -> bool {
-        match *self {}
+        self.next_key.is_some()
     }
 
-    fn set_key(&mut self, _key: String) {
-        match *self {}
+    fn set_key(&mut self, key: String) {
+        self.next_key = Some(key);
     }
 
     fn take_key(&mut self) -> Option<String> {
-        match *self {}
+        self.next_key.take()
     }
 
     fn value_serializer(&self) -> MapKeySerializer {
-        match *self {}
+        MapKeySerializer { alloc: self.alloc }
     }
 
     fn push_entry(&mut self, _key: String, _written: String) -> Result<()> {
-        match *self {}
+        Err(no_key())
     }
 
     fn end(self) -> Result<String> {
-        match self {}
+        Err(no_key())
     }
 }
 
-impl StructBuilder<MapKeySerializer> for Impossible {
+impl StructBuilder<MapKeySerializer> for NoKey {
     type Ok = String;
 
     type Error = Error;
 
-    ghost gives = { λ b pieces r. Unit {0} };
+    ghost gives = { λ b pieces r. IsErr r };
 
-    ghost writer = { λ b. elim b [ ] };
+    ghost writer = { λ b. record { alloc = b.alloc } };
 
     fn field_serializer(&self) -> MapKeySerializer {
-        match *self {}
+        MapKeySerializer { alloc: self.alloc }
     }
 
     fn push_field(&mut self, _key: &'static str, _written: String) -> Result<()> {
-        match *self {}
+        Err(no_key())
     }
 
     fn finish(self) -> Result<String> {
-        match self {}
+        Err(no_key())
     }
 }
 
-impl SerializeStruct<MapKeySerializer> for Impossible {}
+impl SerializeStruct<MapKeySerializer> for NoKey {}
 
-impl SerializeStructVariant<MapKeySerializer> for Impossible {}
+impl SerializeStructVariant<MapKeySerializer> for NoKey {}

@@ -1,7 +1,8 @@
 -- The data that the samples tell.
 use Rattle.std.specs.Prelude.{ℕ, pos, List, string_bytes, codes}
 use Rattle.dynamo_ser.specs.Datum as datum
-use Rattle.dynamo_ser.specs.Datum.{Datum}
+use Rattle.dynamo_ser.specs.Datum.{Datum, variant}
+use Rattle.serde_dynamo.specs.declared.samples.Event.{Event}
 use Rattle.serde_dynamo.specs.declared.samples.User.{User}
 
 -- a user: the struct of its three fields, in this order
@@ -14,3 +15,16 @@ user_datum id name age =
 
 abbrev pub user_told : User → Datum
 user_told user = user_datum (string_bytes user.id) (string_bytes user.name) user.age
+
+-- a byte, as the datum of a u8
+abbrev pub byte : ℕ → Datum
+byte n = datum.integer datum.u8 (pos n)
+
+-- an event: its variant, numbered from 0
+abbrev pub event_told : Event → Datum
+event_told Event.Unit = datum.unit_variant (variant (codes "Event") 0 (codes "Unit"))
+event_told (Event.Newtype n) = datum.newtype_variant (variant (codes "Event") 1 (codes "Newtype")) (byte n)
+event_told (Event.Tuple a b) = datum.tuple_variant (variant (codes "Event") 2 (codes "Tuple")) (datum.element (byte a) (datum.element (byte b) datum.no_elements))
+event_told (Event.Structy one two) =
+    datum.struct_variant (variant (codes "Event") 3 (codes "Structy"))
+    (datum.field (codes "one") (byte one) (datum.field (codes "two") (byte two) datum.no_fields))

@@ -1,8 +1,10 @@
 //! Types that write by hand, as a user of the library would write them.
 
-ghost use Rattle.serde_dynamo.specs.Samples.{user_told};
+ghost use Rattle.serde_dynamo.specs.Samples.{event_told, user_told};
 
-use dynamo_ser::{Serialize, SerializeStruct, Serializer};
+use dynamo_ser::{
+    Serialize, SerializeStruct, SerializeStructVariant, SerializeTupleVariant, Serializer,
+};
 
 /// A user of some service.
 #[derive(Debug, Drop)]
@@ -23,5 +25,39 @@ impl Serialize for User {
         state.serialize_field("name", &self.name)?;
         state.serialize_field("age", &self.age)?;
         state.end()
+    }
+}
+
+/// Something that happened, in each form that a variant can have.
+#[derive(Debug, Drop, PartialEq, Eq, PartialOrd, Ord, Hash)]
+pub enum Event {
+    Unit,
+    Newtype(u8),
+    Tuple(u8, u8),
+    Structy { one: u8, two: u8 },
+}
+
+impl Serialize for Event {
+    ghost tells = { event_told };
+
+    ghost wants = { λ _. ⊥ };
+
+    fn serialize<S: Serializer>(&self, serializer: S) -> Result<S::Ok, S::Error> {
+        match self {
+            Event::Unit => serializer.serialize_unit_variant("Event", 0, "Unit"),
+            Event::Newtype(n) => serializer.serialize_newtype_variant("Event", 1, "Newtype", n),
+            Event::Tuple(a, b) => {
+                let mut state = serializer.serialize_tuple_variant("Event", 2, "Tuple", 2)?;
+                state.serialize_field(a)?;
+                state.serialize_field(b)?;
+                state.end()
+            }
+            Event::Structy { one, two } => {
+                let mut state = serializer.serialize_struct_variant("Event", 3, "Structy", 2)?;
+                state.serialize_field("one", one)?;
+                state.serialize_field("two", two)?;
+                state.end()
+            }
+        }
     }
 }

@@ -3,9 +3,13 @@
 #![tactic(auto)]
 
 #[cfg(test)]
+mod builders;
+#[cfg(test)]
 mod faults;
 #[cfg(test)]
 mod items;
+#[cfg(test)]
+mod refuses;
 #[cfg(test)]
 mod show;
 #[cfg(test)]
