@@ -3,6 +3,8 @@ pub use Rattle.dynamo_value.specs.Fault
 pub use Rattle.dynamo_value.specs.Kind
 pub mod Datum
 pub mod Key
+pub mod Options
 pub mod Pieces
+pub mod Symbols
 pub mod Wrapped
 pub mod Writes

@@ -3,24 +3,36 @@
 //! Who writes a type sees serde: `impl Serialize`, with [`Serializer`]'s calls and the seven builders. Who writes a
 //! serializer gives [`Outcomes`], the calls of [`Serializer`] that take finished scalars, and for the builders the small
 //! calls of [`ListBuilder`], [`SerializeMap`] and [`StructBuilder`]; serde's calls that take a `&T` come with them.
+//!
+//! Scalars, texts, byte strings, options, boxes, references, lists, tuples and maps are written as they are. A list is
+//! written as one of DynamoDB's sets by [`string_set`], [`number_set`] and [`binary_set`], or by the wrappers
+//! [`StringSet`], [`NumberSet`] and [`BinarySet`].
 #![tactic(auto)]
 
+pub mod binary_set;
 mod error;
 mod impls;
 mod list_builder;
 mod map_key;
+pub mod number_set;
 mod outcomes;
 mod serialize;
 mod serialize_map;
 mod serializer;
+pub mod string_set;
 mod struct_builder;
+#[cfg(test)]
+mod tree;
 
+pub use binary_set::BinarySet;
 pub use error::Error;
 pub use list_builder::{
     ListBuilder, SerializeSeq, SerializeTuple, SerializeTupleStruct, SerializeTupleVariant,
 };
+pub use number_set::NumberSet;
 pub use outcomes::Outcomes;
 pub use serialize::Serialize;
 pub use serialize_map::SerializeMap;
 pub use serializer::{Serializer, Wrapper};
+pub use string_set::StringSet;
 pub use struct_builder::{SerializeStruct, SerializeStructVariant, StructBuilder};

@@ -3,7 +3,8 @@ use Rattle.std.proofs.Common.{◌≡◌, ℕ, List, [], ◌∷◌, ◌++◌, Res
 use Rattle.dynamo_value.specs.Av as av
 use Rattle.dynamo_value.specs.Av.{Av}
 use Rattle.dynamo_value.specs.Fault.{Fault, ◌>>=◌}
-use Rattle.dynamo_write.specs.Set.{SetKind, set_element, set_elements, set_of}
+use Rattle.dynamo_ser.specs.Symbols.{SetKind}
+use Rattle.dynamo_write.specs.Set.{set_element, set_elements, set_of}
 
 one_more : (kind : SetKind) (xs : List (List ℕ)) (y : List ℕ) (rest : Result (List (List ℕ)) Fault)
     → (rest >>= λ ys. Ok (y ∷ ys)) >>= (λ ys. Ok (set_of kind (xs ++ ys))) ≡ (rest >>= λ ys. Ok (set_of kind ((xs ++ y ∷ []) ++ ys)))

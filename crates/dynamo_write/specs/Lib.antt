@@ -5,6 +5,7 @@ pub use Rattle.dynamo_value.specs.Kind
 pub use Rattle.dynamo_value.specs.View
 pub use Rattle.dynamo_ser.specs.Datum
 pub use Rattle.dynamo_ser.specs.Key
+pub use Rattle.dynamo_ser.specs.Symbols
 pub use Rattle.dynamo_ser.specs.Writes
 pub mod Answers
 pub mod Collect

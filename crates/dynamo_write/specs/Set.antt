@@ -1,19 +1,11 @@
 -- The conversion to a set, for the content of a newtype struct whose name is the symbol of a kind of sets. A list becomes
 -- the set of its elements' contents, in order, duplicates kept; an element of another kind is a fault, and so is what
 -- isn't a list.
-use Rattle.std.specs.Prelude.{ℕ, List, [], ◌∷◌, ◌++◌, Result, Ok, Err, Option, Some, None, if◌then◌else◌, codes, bytes_eq}
+use Rattle.std.specs.Prelude.{ℕ, List, [], ◌∷◌, Result, Ok, Err, Option, Some, None, if◌then◌else◌, bytes_eq}
 use Rattle.dynamo_value.specs.Av as av
 use Rattle.dynamo_value.specs.Av.{Av, Elements}
 use Rattle.dynamo_value.specs.Fault.{Fault, not_setlike, string_set_expected_type, number_set_expected_type, binary_set_expected_type, ◌>>=◌}
-
-pub data SetKind : Type 0 where
-  strings numbers blobs : SetKind
-
--- the symbols: a word between two characters U+037E
-abbrev pub symbol : SetKind → List ℕ
-symbol strings = 205 ∷ 190 ∷ codes "STRINGSET" ++ 205 ∷ 190 ∷ []
-symbol numbers = 205 ∷ 190 ∷ codes "NUMBERSET" ++ 205 ∷ 190 ∷ []
-symbol blobs = 205 ∷ 190 ∷ codes "BYTESSET" ++ 205 ∷ 190 ∷ []
+use Rattle.dynamo_ser.specs.Symbols.{SetKind, strings, numbers, blobs, symbol}
 
 -- the kind of sets that a name asks for
 abbrev pub set_kind : List ℕ → Option SetKind

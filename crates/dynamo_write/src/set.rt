@@ -1,6 +1,7 @@
 ghost use Rattle.std.specs.Prelude.{◌≡◌};
 ghost use Rattle.dynamo_value.specs.View.{view};
 ghost use Rattle.dynamo_write.specs.Answers.{AnswersWithin};
+ghost use Rattle.dynamo_ser.specs.Symbols as symbols;
 ghost use Rattle.dynamo_write.specs.Set as set;
 ghost use Rattle.dynamo_write.specs.Set.{as_set, set_kind};
 
@@ -24,7 +25,7 @@ pub fn named(alloc: Global, name: &str, value: AttributeValue) -> Result<Attribu
 }
 
 fn string_set(alloc: Global, value: AttributeValue) -> Result<AttributeValue>
-    ensures { AnswersWithin (as_set set.strings (view value)) result }
+    ensures { AnswersWithin (as_set symbols.strings (view value)) result }
 {
     let AttributeValue::L(values) = value else {
         return Err(Error::from(ErrorImpl::NotSetlike));
@@ -40,7 +41,7 @@ fn string_set(alloc: Global, value: AttributeValue) -> Result<AttributeValue>
 }
 
 fn number_set(alloc: Global, value: AttributeValue) -> Result<AttributeValue>
-    ensures { AnswersWithin (as_set set.numbers (view value)) result }
+    ensures { AnswersWithin (as_set symbols.numbers (view value)) result }
 {
     let AttributeValue::L(values) = value else {
         return Err(Error::from(ErrorImpl::NotSetlike));
@@ -56,7 +57,7 @@ fn number_set(alloc: Global, value: AttributeValue) -> Result<AttributeValue>
 }
 
 fn binary_set(alloc: Global, value: AttributeValue) -> Result<AttributeValue>
-    ensures { AnswersWithin (as_set set.blobs (view value)) result }
+    ensures { AnswersWithin (as_set symbols.blobs (view value)) result }
 {
     let AttributeValue::L(values) = value else {
         return Err(Error::from(ErrorImpl::NotSetlike));

@@ -7,11 +7,14 @@ pub use Rattle.dynamo_value.specs.Text
 pub use Rattle.dynamo_value.specs.View
 pub use Rattle.dynamo_ser.specs.Datum
 pub use Rattle.dynamo_ser.specs.Key
+pub use Rattle.dynamo_ser.specs.Options
 pub use Rattle.dynamo_ser.specs.Pieces
+pub use Rattle.dynamo_ser.specs.Symbols
 pub use Rattle.dynamo_ser.specs.Wrapped
 pub use Rattle.dynamo_ser.specs.Writes
 pub use Rattle.dynamo_write.specs.Answers
 pub use Rattle.dynamo_write.specs.Collect
+pub use Rattle.dynamo_write.specs.Held
 pub use Rattle.dynamo_write.specs.Memory
 pub use Rattle.dynamo_write.specs.Set
 pub use Rattle.dynamo_write.specs.Written

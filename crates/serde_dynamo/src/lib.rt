@@ -4,6 +4,7 @@
 pub mod samples;
 pub mod ser;
 
+pub use dynamo_ser::{BinarySet, NumberSet, StringSet, binary_set, number_set, string_set};
 pub use dynamo_value::{
     AttributeValue, ByteBuf, Bytes, Error, ErrorImpl, Item, Items, Result, Text,
 };

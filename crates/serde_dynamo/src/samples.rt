@@ -1,10 +1,12 @@
 //! Types that write by hand, as a user of the library would write them.
 
-ghost use Rattle.serde_dynamo.specs.Samples.{event_told, user_told};
+ghost use Rattle.serde_dynamo.specs.Samples.{event_told, sets_told, user_told};
 
 use dynamo_ser::{
-    Serialize, SerializeStruct, SerializeStructVariant, SerializeTupleVariant, Serializer,
+    BinarySet, NumberSet, Serialize, SerializeStruct, SerializeStructVariant,
+    SerializeTupleVariant, Serializer, StringSet,
 };
+use dynamo_value::ByteBuf;
 
 /// A user of some service.
 #[derive(Debug, Drop)]
@@ -59,5 +61,27 @@ impl Serialize for Event {
                 state.end()
             }
         }
+    }
+}
+
+/// Three lists, each of which is written as a set.
+#[derive(Debug, Drop, PartialEq, Eq)]
+pub struct Sets {
+    pub names: Vec<String>,
+    pub numbers: Vec<u64>,
+    pub blobs: Vec<ByteBuf>,
+}
+
+impl Serialize for Sets {
+    ghost tells = { sets_told };
+
+    ghost wants = { λ _. ⊥ };
+
+    fn serialize<S: Serializer>(&self, serializer: S) -> Result<S::Ok, S::Error> {
+        let mut state = serializer.serialize_struct("Sets", 3)?;
+        state.serialize_field("names", &StringSet(&self.names))?;
+        state.serialize_field("numbers", &NumberSet(&self.numbers))?;
+        state.serialize_field("blobs", &BinarySet(&self.blobs))?;
+        state.end()
     }
 }

@@ -9,7 +9,13 @@ mod faults;
 #[cfg(test)]
 mod items;
 #[cfg(test)]
+mod kinds;
+#[cfg(test)]
+mod maps;
+#[cfg(test)]
 mod refuses;
+#[cfg(test)]
+mod sets;
 #[cfg(test)]
 mod show;
 #[cfg(test)]

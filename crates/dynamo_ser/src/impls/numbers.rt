@@ -53,6 +53,16 @@ impl Serialize for i64 {
     }
 }
 
+impl Serialize for i128 {
+    ghost tells = { λ n. datum.integer datum.i128 n };
+
+    ghost wants = { λ _. ⊥ };
+
+    fn serialize<S: Serializer>(&self, serializer: S) -> Result<S::Ok, S::Error> {
+        serializer.serialize_i128(*self)
+    }
+}
+
 impl Serialize for u8 {
     ghost tells = { λ n. datum.integer datum.u8 (pos n) };
 
@@ -90,5 +100,15 @@ impl Serialize for u64 {
 
     fn serialize<S: Serializer>(&self, serializer: S) -> Result<S::Ok, S::Error> {
         serializer.serialize_u64(*self)
+    }
+}
+
+impl Serialize for u128 {
+    ghost tells = { λ n. datum.integer datum.u128 (pos n) };
+
+    ghost wants = { λ _. ⊥ };
+
+    fn serialize<S: Serializer>(&self, serializer: S) -> Result<S::Ok, S::Error> {
+        serializer.serialize_u128(*self)
     }
 }

@@ -1,9 +1,20 @@
 ghost use Rattle.std.specs.Prelude.{string_bytes};
+ghost use Rattle.dynamo_value.specs.Bytes.{octets_of, lent_octets};
 ghost use Rattle.dynamo_value.specs.Text.{lent_text};
 ghost use Rattle.dynamo_ser.specs.Datum as datum;
 
 use crate::{Serialize, Serializer};
-use dynamo_value::Text;
+use dynamo_value::{ByteBuf, Bytes, Text};
+
+impl Serialize for char {
+    ghost tells = { λ c. datum.char c };
+
+    ghost wants = { λ _. ⊥ };
+
+    fn serialize<S: Serializer>(&self, serializer: S) -> Result<S::Ok, S::Error> {
+        serializer.serialize_char(*self)
+    }
+}
 
 impl Serialize for String {
     ghost tells = { λ s. datum.string (string_bytes s) };
@@ -22,5 +33,25 @@ impl Serialize for Text<'_> {
 
     fn serialize<S: Serializer>(&self, serializer: S) -> Result<S::Ok, S::Error> {
         serializer.serialize_str(self.as_str())
+    }
+}
+
+impl Serialize for Bytes<'_> {
+    ghost tells = { λ b. datum.bytes (lent_octets b) };
+
+    ghost wants = { λ _. ⊥ };
+
+    fn serialize<S: Serializer>(&self, serializer: S) -> Result<S::Ok, S::Error> {
+        serializer.serialize_bytes(self.as_slice())
+    }
+}
+
+impl Serialize for ByteBuf {
+    ghost tells = { λ b. datum.bytes (octets_of b) };
+
+    ghost wants = { λ _. ⊥ };
+
+    fn serialize<S: Serializer>(&self, serializer: S) -> Result<S::Ok, S::Error> {
+        Bytes::new(self.as_slice()).serialize(serializer)
     }
 }

@@ -1,6 +1,7 @@
 use Rattle.std.proofs.Common.{◌≡◌, map}
 use Rattle.dynamo_value.specs.View.{view, elements_view}
-use Rattle.dynamo_write.specs.Set.{blobs, as_set}
+use Rattle.dynamo_ser.specs.Symbols.{blobs}
+use Rattle.dynamo_write.specs.Set.{as_set}
 use Rattle.dynamo_write.proofs.Sets.{set_from}
 use Rattle.dynamo_write.proofs.set.binary_set.Given as goal
 

@@ -1,6 +1,7 @@
 use Rattle.std.proofs.Common.{◌≡◌, map, string_bytes}
 use Rattle.dynamo_value.specs.View.{view, elements_view}
-use Rattle.dynamo_write.specs.Set.{numbers, as_set}
+use Rattle.dynamo_ser.specs.Symbols.{numbers}
+use Rattle.dynamo_write.specs.Set.{as_set}
 use Rattle.dynamo_write.proofs.Sets.{set_from}
 use Rattle.dynamo_write.proofs.set.number_set.Given as goal
 

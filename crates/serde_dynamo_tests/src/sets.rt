@@ -1,0 +1,76 @@
+use crate::kinds::Name;
+use crate::refuses::Refuses;
+use crate::show;
+use crate::writing::writes;
+use serde_dynamo::{
+    BinarySet, ByteBuf, NumberSet, Serializer, StringSet, binary_set, number_set, string_set,
+};
+use std::test::Fail;
+
+#[test]
+fn lists_write_as_sets(rt: HostRuntime) -> Result<(), Fail> {
+    let alloc = rt.alloc();
+    let a = || String::from_str(alloc, "a");
+    let nothing: Vec<String> = Vec::new(alloc);
+    writes(&rt, alloc, StringSet(vec![in alloc; a()?, a()?]?), r#"Ss ["a", "a"]"#)?;
+    writes(&rt, alloc, StringSet(nothing), "Ss []")?;
+    writes(&rt, alloc, NumberSet(vec![in alloc; 85_u8, 99]?), r#"Ns ["85", "99"]"#)?;
+    let wide = vec![in alloc; 18446744073709551616_u128]?;
+    writes(&rt, alloc, NumberSet(wide), r#"Ns ["18446744073709551616"]"#)?;
+    let test = ByteBuf::from(b"test".to_vec(alloc)?);
+    let test2 = ByteBuf::from(b"test2".to_vec(alloc)?);
+    writes(
+        &rt,
+        alloc,
+        BinarySet(vec![in alloc; test, test2]?),
+        "Bs [[116, 101, 115, 116], [116, 101, 115, 116, 50]]",
+    )
+}
+
+#[test]
+fn what_is_no_list_is_no_set(rt: HostRuntime) -> Result<(), Fail> {
+    let alloc = rt.alloc();
+    let nothing: Vec<String> = Vec::new(alloc);
+    writes(&rt, alloc, StringSet(5_u8), "Not a set-like sequence")?;
+    writes(&rt, alloc, NumberSet(5_u8), "Not a set-like sequence")?;
+    writes(&rt, alloc, BinarySet(5_u8), "Not a set-like sequence")?;
+    writes(&rt, alloc, StringSet(StringSet(nothing)), "Not a set-like sequence")?;
+    writes(&rt, alloc, StringSet(Refuses), "no")
+}
+
+#[test]
+fn elements_of_another_kind_are_refused(rt: HostRuntime) -> Result<(), Fail> {
+    let alloc = rt.alloc();
+    let x = || String::from_str(alloc, "x");
+    let strings = "String set element does not serialize to string";
+    let numbers = "Number set element does not serialize to number";
+    let blobs = "Binary set element does not serialize to binary";
+    writes(&rt, alloc, StringSet(vec![in alloc; 1_u8]?), strings)?;
+    writes(&rt, alloc, StringSet((x()?, 1_u8)), strings)?;
+    writes(&rt, alloc, NumberSet(vec![in alloc; x()?]?), numbers)?;
+    writes(&rt, alloc, NumberSet((1_u8, true)), numbers)?;
+    writes(&rt, alloc, BinarySet(vec![in alloc; x()?]?), blobs)?;
+    writes(&rt, alloc, BinarySet(vec![in alloc; vec![in alloc; 1_u8]?]?), blobs)
+}
+
+#[test]
+fn the_functions_of_the_modules_write_sets(rt: HostRuntime) -> Result<(), Fail> {
+    let alloc = rt.alloc();
+    let serializer = Serializer::new(alloc);
+    let names = vec![in alloc; Name(String::from_str(alloc, "a")?)]?;
+    let answer = show::answer(alloc, &string_set::serialize(&names, serializer))?;
+    assert_eq!(rt; answer.as_str(), r#"Ss ["a"]"#);
+    let answer = show::answer(alloc, &number_set::serialize(&vec![in alloc; 1_u8]?, serializer))?;
+    assert_eq!(rt; answer.as_str(), r#"Ns ["1"]"#);
+    let blobs = vec![in alloc; ByteBuf::from(vec![in alloc; 1_u8]?)]?;
+    let answer = show::answer(alloc, &binary_set::serialize(&blobs, serializer))?;
+    assert_eq!(rt; answer.as_str(), "Bs [[1]]");
+    Ok(())
+}
+
+#[test]
+fn the_symbols_differ(rt: HostRuntime) {
+    assert_ne!(rt; string_set::NEWTYPE_SYMBOL, number_set::NEWTYPE_SYMBOL);
+    assert_ne!(rt; string_set::NEWTYPE_SYMBOL, binary_set::NEWTYPE_SYMBOL);
+    assert_ne!(rt; number_set::NEWTYPE_SYMBOL, binary_set::NEWTYPE_SYMBOL);
+}
