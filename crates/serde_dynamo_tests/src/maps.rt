@@ -47,7 +47,12 @@ fn keys_write_as_texts(rt: HostRuntime) -> Result<(), Fail> {
     key_writes(&rt, alloc, -5_i16, r#"M {"-5": N "1"}"#)?;
     key_writes(&rt, alloc, 5_i32, r#"M {"5": N "1"}"#)?;
     key_writes(&rt, alloc, 5_i64, r#"M {"5": N "1"}"#)?;
-    key_writes(&rt, alloc, i128::MIN, r#"M {"-170141183460469231731687303715884105728": N "1"}"#)?;
+    key_writes(
+        &rt,
+        alloc,
+        i128::MIN,
+        r#"M {"-170141183460469231731687303715884105728": N "1"}"#,
+    )?;
     key_writes(&rt, alloc, 5_u8, r#"M {"5": N "1"}"#)?;
     key_writes(&rt, alloc, 5_u16, r#"M {"5": N "1"}"#)?;
     key_writes(&rt, alloc, 5_u32, r#"M {"5": N "1"}"#)?;
@@ -55,7 +60,12 @@ fn keys_write_as_texts(rt: HostRuntime) -> Result<(), Fail> {
     key_writes(&rt, alloc, 5_u128, r#"M {"5": N "1"}"#)?;
     key_writes(&rt, alloc, 'a', r#"M {"a": N "1"}"#)?;
     key_writes(&rt, alloc, Event::Unit, r#"M {"Unit": N "1"}"#)?;
-    key_writes(&rt, alloc, Name(String::from_str(alloc, "one")?), r#"M {"one": N "1"}"#)
+    key_writes(
+        &rt,
+        alloc,
+        Name(String::from_str(alloc, "one")?),
+        r#"M {"one": N "1"}"#,
+    )
 }
 
 #[test]

@@ -4,7 +4,7 @@ ghost use Rattle.serde_dynamo.specs.Datum as datum;
 use serde_dynamo::ser::{Error, Serialize, Serializer};
 
 /// A value that refuses to be written, by the text `no`.
-#[derive(Clone, Copy)]
+#[derive(Clone, Copy, PartialEq, Eq, Hash)]
 pub struct Refuses;
 
 impl Serialize for Refuses {

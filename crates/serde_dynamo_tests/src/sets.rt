@@ -12,11 +12,26 @@ fn lists_write_as_sets(rt: HostRuntime) -> Result<(), Fail> {
     let alloc = rt.alloc();
     let a = || String::from_str(alloc, "a");
     let nothing: Vec<String> = Vec::new(alloc);
-    writes(&rt, alloc, StringSet(vec![in alloc; a()?, a()?]?), r#"Ss ["a", "a"]"#)?;
+    writes(
+        &rt,
+        alloc,
+        StringSet(vec![in alloc; a()?, a()?]?),
+        r#"Ss ["a", "a"]"#,
+    )?;
     writes(&rt, alloc, StringSet(nothing), "Ss []")?;
-    writes(&rt, alloc, NumberSet(vec![in alloc; 85_u8, 99]?), r#"Ns ["85", "99"]"#)?;
+    writes(
+        &rt,
+        alloc,
+        NumberSet(vec![in alloc; 85_u8, 99]?),
+        r#"Ns ["85", "99"]"#,
+    )?;
     let wide = vec![in alloc; 18446744073709551616_u128]?;
-    writes(&rt, alloc, NumberSet(wide), r#"Ns ["18446744073709551616"]"#)?;
+    writes(
+        &rt,
+        alloc,
+        NumberSet(wide),
+        r#"Ns ["18446744073709551616"]"#,
+    )?;
     let test = ByteBuf::from(b"test".to_vec(alloc)?);
     let test2 = ByteBuf::from(b"test2".to_vec(alloc)?);
     writes(
@@ -34,7 +49,12 @@ fn what_is_no_list_is_no_set(rt: HostRuntime) -> Result<(), Fail> {
     writes(&rt, alloc, StringSet(5_u8), "Not a set-like sequence")?;
     writes(&rt, alloc, NumberSet(5_u8), "Not a set-like sequence")?;
     writes(&rt, alloc, BinarySet(5_u8), "Not a set-like sequence")?;
-    writes(&rt, alloc, StringSet(StringSet(nothing)), "Not a set-like sequence")?;
+    writes(
+        &rt,
+        alloc,
+        StringSet(StringSet(nothing)),
+        "Not a set-like sequence",
+    )?;
     writes(&rt, alloc, StringSet(Refuses), "no")
 }
 
@@ -50,7 +70,12 @@ fn elements_of_another_kind_are_refused(rt: HostRuntime) -> Result<(), Fail> {
     writes(&rt, alloc, NumberSet(vec![in alloc; x()?]?), numbers)?;
     writes(&rt, alloc, NumberSet((1_u8, true)), numbers)?;
     writes(&rt, alloc, BinarySet(vec![in alloc; x()?]?), blobs)?;
-    writes(&rt, alloc, BinarySet(vec![in alloc; vec![in alloc; 1_u8]?]?), blobs)
+    writes(
+        &rt,
+        alloc,
+        BinarySet(vec![in alloc; vec![in alloc; 1_u8]?]?),
+        blobs,
+    )
 }
 
 #[test]
@@ -60,7 +85,10 @@ fn the_functions_of_the_modules_write_sets(rt: HostRuntime) -> Result<(), Fail> 
     let names = vec![in alloc; Name(String::from_str(alloc, "a")?)]?;
     let answer = show::answer(alloc, &string_set::serialize(&names, serializer))?;
     assert_eq!(rt; answer.as_str(), r#"Ss ["a"]"#);
-    let answer = show::answer(alloc, &number_set::serialize(&vec![in alloc; 1_u8]?, serializer))?;
+    let answer = show::answer(
+        alloc,
+        &number_set::serialize(&vec![in alloc; 1_u8]?, serializer),
+    )?;
     assert_eq!(rt; answer.as_str(), r#"Ns ["1"]"#);
     let blobs = vec![in alloc; ByteBuf::from(vec![in alloc; 1_u8]?)]?;
     let answer = show::answer(alloc, &binary_set::serialize(&blobs, serializer))?;

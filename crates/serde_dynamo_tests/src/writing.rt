@@ -27,13 +27,23 @@ fn integers_write_as_their_decimal_texts(rt: HostRuntime) -> Result<(), Fail> {
     writes(&rt, alloc, i16::MIN, r#"N "-32768""#)?;
     writes(&rt, alloc, i32::MIN, r#"N "-2147483648""#)?;
     writes(&rt, alloc, i64::MIN, r#"N "-9223372036854775808""#)?;
-    writes(&rt, alloc, i128::MIN, r#"N "-170141183460469231731687303715884105728""#)?;
+    writes(
+        &rt,
+        alloc,
+        i128::MIN,
+        r#"N "-170141183460469231731687303715884105728""#,
+    )?;
     writes(&rt, alloc, 5_i128, r#"N "5""#)?;
     writes(&rt, alloc, u8::MAX, r#"N "255""#)?;
     writes(&rt, alloc, u16::MAX, r#"N "65535""#)?;
     writes(&rt, alloc, u32::MAX, r#"N "4294967295""#)?;
     writes(&rt, alloc, u64::MAX, r#"N "18446744073709551615""#)?;
-    writes(&rt, alloc, u128::MAX, r#"N "340282366920938463463374607431768211455""#)?;
+    writes(
+        &rt,
+        alloc,
+        u128::MAX,
+        r#"N "340282366920938463463374607431768211455""#,
+    )?;
     writes(&rt, alloc, 0_u8, r#"N "0""#)
 }
 
@@ -44,12 +54,22 @@ fn scalars_write_as_themselves(rt: HostRuntime) -> Result<(), Fail> {
     writes(&rt, alloc, false, "Bool(false)")?;
     writes(&rt, alloc, 'a', r#"S "a""#)?;
     writes(&rt, alloc, '\u{1F973}', "S \"\u{1F973}\"")?;
-    writes(&rt, alloc, String::from_str(alloc, "Arthur Dent")?, r#"S "Arthur Dent""#)?;
+    writes(
+        &rt,
+        alloc,
+        String::from_str(alloc, "Arthur Dent")?,
+        r#"S "Arthur Dent""#,
+    )?;
     writes(&rt, alloc, Text::new("Arthur Dent"), r#"S "Arthur Dent""#)?;
     writes(&rt, alloc, Text::new(""), r#"S """#)?;
     writes(&rt, alloc, Bytes::new(&[1, 2]), "B [1, 2]")?;
     let bytes = vec![in alloc; 116, 101, 115, 116, 0, 0, 0, 0]?;
-    writes(&rt, alloc, ByteBuf::from(bytes), "B [116, 101, 115, 116, 0, 0, 0, 0]")
+    writes(
+        &rt,
+        alloc,
+        ByteBuf::from(bytes),
+        "B [116, 101, 115, 116, 0, 0, 0, 0]",
+    )
 }
 
 #[test]
@@ -69,7 +89,12 @@ fn what_holds_a_content_writes_it(rt: HostRuntime) -> Result<(), Fail> {
     let alloc = rt.alloc();
     writes(&rt, alloc, &7_u8, r#"N "7""#)?;
     writes(&rt, alloc, Box::new(alloc, 7_u8)?, r#"N "7""#)?;
-    writes(&rt, alloc, Name(String::from_str(alloc, "one")?), r#"S "one""#)?;
+    writes(
+        &rt,
+        alloc,
+        Name(String::from_str(alloc, "one")?),
+        r#"S "one""#,
+    )?;
     writes(&rt, alloc, Refuses, "no")?;
     writes(&rt, alloc, Some(Refuses), "no")
 }
@@ -79,11 +104,26 @@ fn lists_and_tuples_write_as_lists(rt: HostRuntime) -> Result<(), Fail> {
     let alloc = rt.alloc();
     let one = || String::from_str(alloc, "one");
     let two = || String::from_str(alloc, "two");
-    writes(&rt, alloc, vec![in alloc; one()?, two()?]?, r#"L [S "one", S "two"]"#)?;
+    writes(
+        &rt,
+        alloc,
+        vec![in alloc; one()?, two()?]?,
+        r#"L [S "one", S "two"]"#,
+    )?;
     writes(&rt, alloc, (one()?, two()?), r#"L [S "one", S "two"]"#)?;
     writes(&rt, alloc, Pair(one()?, two()?), r#"L [S "one", S "two"]"#)?;
-    writes(&rt, alloc, (1_u8, true, 'c'), r#"L [N "1", Bool(true), S "c"]"#)?;
-    writes(&rt, alloc, (1_u8, 2_u8, 3_u8, 4_u8), r#"L [N "1", N "2", N "3", N "4"]"#)?;
+    writes(
+        &rt,
+        alloc,
+        (1_u8, true, 'c'),
+        r#"L [N "1", Bool(true), S "c"]"#,
+    )?;
+    writes(
+        &rt,
+        alloc,
+        (1_u8, 2_u8, 3_u8, 4_u8),
+        r#"L [N "1", N "2", N "3", N "4"]"#,
+    )?;
     let empty: Vec<u8> = Vec::new(alloc);
     writes(&rt, alloc, empty, "L []")?;
 
@@ -100,7 +140,12 @@ fn structs_write_as_maps(rt: HostRuntime) -> Result<(), Fail> {
         name: String::from_str(alloc, "Arthur Dent")?,
         age: 42,
     };
-    writes(&rt, alloc, user, r#"M {"age": N "42", "id": S "x", "name": S "Arthur Dent"}"#)?;
+    writes(
+        &rt,
+        alloc,
+        user,
+        r#"M {"age": N "42", "id": S "x", "name": S "Arthur Dent"}"#,
+    )?;
 
     // Of equal names the last value stays; a value that refuses is refused all the same.
     let twice = Twice {
@@ -120,7 +165,12 @@ fn variants_write_under_their_names(rt: HostRuntime) -> Result<(), Fail> {
     let alloc = rt.alloc();
     writes(&rt, alloc, Event::Unit, r#"S "Unit""#)?;
     writes(&rt, alloc, Event::Newtype(5), r#"M {"Newtype": N "5"}"#)?;
-    writes(&rt, alloc, Event::Tuple(1, 2), r#"M {"Tuple": L [N "1", N "2"]}"#)?;
+    writes(
+        &rt,
+        alloc,
+        Event::Tuple(1, 2),
+        r#"M {"Tuple": L [N "1", N "2"]}"#,
+    )?;
     writes(
         &rt,
         alloc,
@@ -133,9 +183,15 @@ fn variants_write_under_their_names(rt: HostRuntime) -> Result<(), Fail> {
 fn sets_of_a_struct_write_as_sets(rt: HostRuntime) -> Result<(), Fail> {
     let alloc = rt.alloc();
     let sets = Sets {
-        names: vec![in alloc; String::from_str(alloc, "John")?, String::from_str(alloc, "Jane")?]?,
+        names: vec![in alloc;
+            String::from_str(alloc, "John")?,
+            String::from_str(alloc, "Jane")?,
+        ]?,
         numbers: vec![in alloc; 14, 25, 32]?,
-        blobs: vec![in alloc; ByteBuf::from(b"hello".to_vec(alloc)?), ByteBuf::from(b"world".to_vec(alloc)?)]?,
+        blobs: vec![in alloc;
+            ByteBuf::from(b"hello".to_vec(alloc)?),
+            ByteBuf::from(b"world".to_vec(alloc)?),
+        ]?,
     };
     writes(
         &rt,
