@@ -1,2 +1,4 @@
+mod Copied
+mod Equal
 pub mod Members
 pub mod Views

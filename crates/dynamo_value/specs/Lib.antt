@@ -1,5 +1,6 @@
 pub mod Av
 pub mod Bytes
+pub mod Equal
 pub mod Fault
 pub mod Item
 pub mod Kind

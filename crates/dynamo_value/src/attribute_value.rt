@@ -1,4 +1,12 @@
+ghost use Rattle.std.specs.Prelude.{◌≡◌, IfOk};
+ghost use Rattle.std.specs.Bool.{Decides};
+ghost use Rattle.std.specs.Cmp.{partial_equiv_from_equiv, on_equiv};
+ghost use Rattle.dynamo_value.specs.Equal.{av_eq, av_eq_equiv};
+ghost use Rattle.dynamo_value.specs.View.{view, elements_view, members_view};
+
+use std::alloc::AllocError;
 use std::collections::HashMap;
+use std::default::Emptied;
 
 /// The value of an attribute, as DynamoDB's JSON form has it.
 ///
@@ -35,4 +43,140 @@ pub enum AttributeValue {
 
     /// A set of byte strings: `"BS": ["U3Vubnk=", "UmFpbnk="]`.
     Bs(Vec<Vec<u8>>),
+}
+
+/// By value, at every depth: texts and byte strings by their bytes, maps by their members in whatever order, lists and
+/// sets in order. A number is its text here, so that `1` and `1.0` differ.
+impl PartialEq for AttributeValue {
+    ghost eq = { λ a b. av_eq (view a) (view b) };
+
+    ghost laws = { partial_equiv_from_equiv (on_equiv view av_eq_equiv) };
+
+    fn eq(&self, other: &AttributeValue) -> bool
+        ensures { Decides result (view self.now ≡ view other.now) }
+    {
+        same(self, other)
+    }
+}
+
+impl Eq for AttributeValue {
+    ghost laws = { on_equiv view av_eq_equiv };
+}
+
+/// The clone is equal.
+impl Clone for AttributeValue {
+    ghost is_clone = { λ v w. view w ≡ view v };
+
+    fn clone(&self) -> Result<AttributeValue, AllocError> {
+        copy(self)
+    }
+}
+
+// Whether two values are equal.
+#[cycle(same)]
+fn same(a: &AttributeValue, b: &AttributeValue) -> bool
+    ensures { Decides result (view a.now ≡ view b.now) }
+{
+    match (a, b) {
+        (AttributeValue::N(a), AttributeValue::N(b)) => a == b,
+        (AttributeValue::S(a), AttributeValue::S(b)) => a == b,
+        (AttributeValue::Bool(a), AttributeValue::Bool(b)) => a == b,
+        (AttributeValue::B(a), AttributeValue::B(b)) => a == b,
+        (AttributeValue::Null(a), AttributeValue::Null(b)) => a == b,
+        (AttributeValue::M(a), AttributeValue::M(b)) => same_maps(a, b),
+        (AttributeValue::L(a), AttributeValue::L(b)) => same_lists(a, b),
+        (AttributeValue::Ss(a), AttributeValue::Ss(b)) => a == b,
+        (AttributeValue::Ns(a), AttributeValue::Ns(b)) => a == b,
+        (AttributeValue::Bs(a), AttributeValue::Bs(b)) => a == b,
+        _ => false,
+    }
+}
+
+// Whether two lists have equal values in order.
+#[cycle(same)]
+fn same_lists(a: &Vec<AttributeValue>, b: &Vec<AttributeValue>) -> bool
+    ensures { Decides result (elements_view a.now.items ≡ elements_view b.now.items) }
+{
+    if a.len() != b.len() {
+        return false;
+    }
+    for (value, other) in a.iter().zip(b.iter()) {
+        if !same(value, other) {
+            return false;
+        }
+    }
+    true
+}
+
+// Whether two maps have the same keys, with equal values.
+#[cycle(same)]
+pub(crate) fn same_maps(
+    a: &HashMap<String, AttributeValue>,
+    b: &HashMap<String, AttributeValue>,
+) -> bool
+    ensures { Decides result (members_view a.now.entries ≡ members_view b.now.entries) }
+{
+    if a.len() != b.len() {
+        return false;
+    }
+    for (key, value) in a.iter() {
+        match b.get(key) {
+            Some(other) => {
+                if !same(value, other) {
+                    return false;
+                }
+            }
+            None => return false,
+        }
+    }
+    true
+}
+
+// A value that is equal.
+#[cycle(copy)]
+fn copy(value: &AttributeValue) -> Result<AttributeValue, AllocError>
+    ensures { IfOk result (λ v. view v ≡ view value.now) }
+{
+    match value {
+        AttributeValue::N(text) => Ok(AttributeValue::N(text.clone()?)),
+        AttributeValue::S(text) => Ok(AttributeValue::S(text.clone()?)),
+        AttributeValue::Bool(b) => Ok(AttributeValue::Bool(*b)),
+        AttributeValue::B(bytes) => Ok(AttributeValue::B(Vec::from_slice(
+            *bytes.allocator(),
+            bytes.as_slice(),
+        )?)),
+        AttributeValue::Null(b) => Ok(AttributeValue::Null(*b)),
+        AttributeValue::M(map) => Ok(AttributeValue::M(copy_map(map)?)),
+        AttributeValue::L(list) => Ok(AttributeValue::L(copy_list(list)?)),
+        AttributeValue::Ss(set) => Ok(AttributeValue::Ss(set.clone()?)),
+        AttributeValue::Ns(set) => Ok(AttributeValue::Ns(set.clone()?)),
+        AttributeValue::Bs(set) => Ok(AttributeValue::Bs(set.clone()?)),
+    }
+}
+
+// A list of equal values, in order.
+#[cycle(copy)]
+fn copy_list(list: &Vec<AttributeValue>) -> Result<Vec<AttributeValue>, AllocError>
+    ensures { IfOk result (λ v. elements_view v.items ≡ elements_view list.now.items) }
+{
+    let mut copies = Vec::with_capacity(*list.allocator(), list.len())?;
+    for value in list {
+        copies.push(copy(value)?)?;
+    }
+    Ok(copies)
+}
+
+// A map with the same keys and equal values.
+#[cycle(copy)]
+pub(crate) fn copy_map(
+    map: &HashMap<String, AttributeValue>,
+) -> Result<HashMap<String, AttributeValue>, AllocError>
+    ensures { IfOk result (λ m. members_view m.entries ≡ members_view map.now.entries) }
+{
+    let mut copies = HashMap::emptied(map)?;
+    for (key, value) in map.iter() {
+        let name = key.clone()?;
+        drop(copies.insert(name, copy(value)?)?);
+    }
+    Ok(copies)
 }

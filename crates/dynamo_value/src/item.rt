@@ -1,11 +1,15 @@
 ghost use Rattle.std.specs.Prelude.{◌≡◌, [], option_map};
 ghost use Rattle.std.specs.Borrow.{Lends, sem};
+ghost use Rattle.std.specs.Bool.{Decides};
+ghost use Rattle.std.specs.Cmp.{partial_equiv_from_equiv, on_equiv};
 ghost use Rattle.std.specs.HashMap.{get_by_text};
-ghost use Rattle.dynamo_value.specs.Item.{map_of, maps_of, item_of};
+ghost use Rattle.dynamo_value.specs.Equal.{members_eq, members_eq_equiv, items_eq, items_eq_equiv};
+ghost use Rattle.dynamo_value.specs.Item.{map_of, maps_of, item_of, item_view, items_view};
 ghost use Rattle.dynamo_value.specs.View.{view};
 
 use crate::AttributeValue;
-use std::alloc::Global;
+use crate::attribute_value::{copy_map, same_maps};
+use std::alloc::{AllocError, Global};
 use std::collections::HashMap;
 
 /// An item: attribute values by the names of their attributes.
@@ -57,6 +61,34 @@ impl Item {
     }
 }
 
+/// By value: the same attributes, each with the same value.
+impl PartialEq for Item {
+    ghost eq = { λ a b. members_eq (item_view a) (item_view b) };
+
+    ghost laws = { partial_equiv_from_equiv (on_equiv item_view members_eq_equiv) };
+
+    fn eq(&self, other: &Item) -> bool
+        ensures { Decides result (item_view self.now ≡ item_view other.now) }
+    {
+        same_maps(&self.map, &other.map)
+    }
+}
+
+impl Eq for Item {
+    ghost laws = { on_equiv item_view members_eq_equiv };
+}
+
+/// The clone is equal.
+impl Clone for Item {
+    ghost is_clone = { λ item copy. item_view copy ≡ item_view item };
+
+    fn clone(&self) -> Result<Item, AllocError> {
+        Ok(Item {
+            map: copy_map(&self.map)?,
+        })
+    }
+}
+
 /// The same map.
 impl From<HashMap<String, AttributeValue>> for Item {
     ghost from_gives = { λ m item. map_of item ≡ m };
@@ -79,6 +111,44 @@ impl From<Item> for HashMap<String, AttributeValue> {
 #[derive(Debug, Drop)]
 pub struct Items {
     maps: Vec<HashMap<String, AttributeValue>>,
+}
+
+/// By value: as many items, each with the same attributes as the other in its place.
+impl PartialEq for Items {
+    ghost eq = { λ a b. items_eq (items_view a) (items_view b) };
+
+    ghost laws = { partial_equiv_from_equiv (on_equiv items_view items_eq_equiv) };
+
+    fn eq(&self, other: &Items) -> bool
+        ensures { Decides result (items_view self.now ≡ items_view other.now) }
+    {
+        if self.maps.len() != other.maps.len() {
+            return false;
+        }
+        for (map, others) in self.maps.iter().zip(other.maps.iter()) {
+            if !same_maps(map, others) {
+                return false;
+            }
+        }
+        true
+    }
+}
+
+impl Eq for Items {
+    ghost laws = { on_equiv items_view items_eq_equiv };
+}
+
+/// The clone is equal.
+impl Clone for Items {
+    ghost is_clone = { λ items copy. items_view copy ≡ items_view items };
+
+    fn clone(&self) -> Result<Items, AllocError> {
+        let mut maps = Vec::with_capacity(*self.maps.allocator(), self.maps.len())?;
+        for map in &self.maps {
+            maps.push(copy_map(map)?)?;
+        }
+        Ok(Items { maps })
+    }
 }
 
 /// The same maps, in order.
