@@ -2,7 +2,6 @@
 -- follow, and then the end. So taking a piece is told by putting it before what follows.
 use Rattle.std.specs.Prelude.{◌≡◌, ℕ, List, Result, Ok, Err, MatchResult}
 use Rattle.dynamo_value.specs.Fault.{Fault}
-use Rattle.dynamo_value.specs.Kind.{fault_of}
 use Rattle.dynamo_value.specs.declared.error.Error.{Error}
 use Rattle.dynamo_ser.specs.Datum.{Datum, Pairs, pair}
 use Rattle.dynamo_ser.specs.Key.{key_text}

@@ -21,8 +21,6 @@ mod serialize_map;
 mod serializer;
 pub mod string_set;
 mod struct_builder;
-#[cfg(test)]
-mod tree;
 
 pub use binary_set::BinarySet;
 pub use error::Error;

@@ -1,7 +1,6 @@
 -- What the program prints, and the status that it ends with.
 use Rattle.std.specs.Prelude.{◌≡◌, ℕ, List, Option, Some, None, Result, is_ok, ◌⊎◌, if◌then◌else◌}
 use Rattle.dynamo_tool.specs.Lines.{user_lines, usage_line, no_memory_line}
-use Rattle.dynamo_tool.specs.Words.{user_of}
 
 -- The text is written once, whole, and the status is the one that belongs to it; where the writer fails the status is 1.
 -- `gives` says what writing some bytes may answer and leave.

@@ -1,5 +1,5 @@
 -- What the words after the program's name ask for.
-use Rattle.std.specs.Prelude.{ℕ, List, [], ◌∷◌, Option, Some, None, option_map, codes, bytes_eq, if◌then◌else◌}
+use Rattle.std.specs.Prelude.{ℕ, List, [], ◌∷◌, Option, None, option_map, codes, bytes_eq, if◌then◌else◌}
 use Rattle.dynamo_tool.specs.Age.{age_of}
 
 -- `user ID NAME AGE`, where AGE is an age: the id, the name and the age

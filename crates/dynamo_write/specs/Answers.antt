@@ -13,7 +13,7 @@ use Rattle.dynamo_value.specs.declared.item.Item.{Item}
 use Rattle.dynamo_ser.specs.Datum as datum
 use Rattle.dynamo_ser.specs.Datum.{Datum}
 use Rattle.dynamo_write.specs.Memory.{MayTakeMemory}
-use Rattle.dynamo_write.specs.Written.{written, written_elements, written_pairs, written_fields, map_of_entries, single, item_written}
+use Rattle.dynamo_write.specs.Written.{written, written_elements, written_pairs, written_fields, map_of_entries, item_written}
 
 -- r is this value or this fault; where `wants`, it may also be a refusal for want of memory
 abbrev pub Answers : {A V : Type 0} → (V → A) → Type 0 → Result A Fault → Result V Error → Type 0

@@ -19,4 +19,8 @@ mod sets;
 #[cfg(test)]
 mod show;
 #[cfg(test)]
+mod tree;
+#[cfg(test)]
+mod values;
+#[cfg(test)]
 mod writing;

@@ -1,4 +1,4 @@
-use Rattle.std.proofs.Common.{◌≡◌, true, Some, None, rules, refl}
+use Rattle.std.proofs.Common.{◌≡◌, true, Some, None, rules}
 use Rattle.std.specs.Prelude.{codes, bytes_eq, string_bytes}
 use Rattle.dynamo_tool.specs.Age.{age_of}
 use Rattle.dynamo_tool.proofs.FourWords.{four}
