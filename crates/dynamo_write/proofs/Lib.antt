@@ -1,2 +1,3 @@
 pub mod Builders
+mod Rows
 pub mod Sets
