@@ -1,10 +1,7 @@
 -- The datum: what a value tells a serializer, by serde's data model without floats. Each constructor stands for one call
 -- of `Serializer`. A program makes no such tree; it makes the calls.
 use Rattle.std.specs.Prelude.{ℕ, ℤ, Bool, List, [], ◌∷◌}
-
--- the kinds of integers
-pub data IntegerKind : Type 0 where
-  i8 i16 i32 i64 i128 u8 u16 u32 u64 u128 : IntegerKind
+pub use Rattle.dynamo_value.specs.Integer.{IntegerKind, i8, i16, i32, i64, i128, u8, u16, u32, u64, u128}
 
 -- a variant, by its enum's name, its place in the enum and its own name
 pub record Variant : Type 0 where

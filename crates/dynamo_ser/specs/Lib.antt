@@ -1,5 +1,6 @@
 pub use Rattle.dynamo_value.specs.Av
 pub use Rattle.dynamo_value.specs.Fault
+pub use Rattle.dynamo_value.specs.Integer
 pub use Rattle.dynamo_value.specs.Kind
 pub mod Datum
 pub mod Key

@@ -2,6 +2,7 @@ pub mod Av
 pub mod Bytes
 pub mod Equal
 pub mod Fault
+pub mod Integer
 pub mod Item
 pub mod Kind
 pub mod Table

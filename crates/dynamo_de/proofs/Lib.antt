@@ -1,0 +1,9 @@
+pub mod ByHand
+pub mod Chars
+pub mod Contents
+pub mod Each
+pub mod Ignored
+pub mod Integers
+pub mod Meets
+pub mod Pairs
+pub mod Scalars

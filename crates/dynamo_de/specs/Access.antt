@@ -1,0 +1,54 @@
+-- What the accesses answer, and what they leave.
+use Rattle.std.specs.Prelude.{◌≡◌, ◌⊎◌, ℕ, length, List, [], ◌∷◌, Option, Some, None, Result, Ok, Err}
+use Rattle.dynamo_value.specs.Fault.{Fault, out_of_memory, map_value_before_key}
+use Rattle.dynamo_de.specs.Meets.{Meets, IsMessage}
+use Rattle.dynamo_de.specs.Source.{Source, Entry, attribute, key_text, plain_text}
+
+-- an answer to an element that was there
+abbrev pub Element : {V E : Type 0} → (E → Fault) → (Result V Fault → Type 0) → Result (Option V) E → Type 0
+Element fault permits (Ok None) = ⊥
+Element fault permits (Ok (Some v)) = permits (Ok v)
+Element fault permits (Err e) = (fault e ≡ out_of_memory) ⊎ permits (Err (fault e))
+
+-- The next of the sources that were left is taken and then read, so that a failing one is gone. At the end there is none.
+abbrev pub NextElement : {V E : Type 0} → (E → Fault) → (Source → Result V Fault → Type 0) → List Source → List Source → Result (Option V) E → Type 0
+NextElement fault reads [] new r = (new ≡ []) × (r ≡ Ok None)
+NextElement fault reads (s ∷ ss) new r = (new ≡ ss) × Element fault (reads s) r
+
+-- The next key is read. Its value is then pending, also where the key fails, in the place of one that was pending before.
+-- Where no entry is left, a pending value stays.
+abbrev pub NextKey : {V E : Type 0} → (E → Fault) → (Source → Result V Fault → Type 0) → List Entry → Option Source → List Entry → Option Source → Result (Option V) E → Type 0
+NextKey fault reads [] pending new waits r = (new ≡ []) × (waits ≡ pending) × (r ≡ Ok None)
+NextKey fault reads (e ∷ es) pending new waits r = (new ≡ es) × (waits ≡ Some (attribute e.1)) × Element fault (reads (key_text e.0)) r
+
+-- The pending value is taken and then read, so that a failing one is gone. With none pending nothing changes.
+abbrev pub NextValue : {V E : Type 0} → (E → Fault) → (Source → Result V Fault → Type 0) → List Entry → Option Source → List Entry → Option Source → Result V E → Type 0
+NextValue fault reads es None new waits r = (new ≡ es) × (waits ≡ None) × Meets fault (λ a. a ≡ Err map_value_before_key) r
+NextValue fault reads es (Some s) new waits r = (new ≡ es) × (waits ≡ None) × Meets fault (reads s) r
+
+-- a key, and then its value
+abbrev pub ReadsPair : {K V : Type 0} → (Source → Result K Fault → Type 0) → (Source → Result V Fault → Type 0) → Entry → Result (K × V) Fault → Type 0
+ReadsPair keys values e (Ok p) = keys (key_text e.0) (Ok p.0) × values (attribute e.1) (Ok p.1)
+ReadsPair {K} keys values e (Err f) = keys (key_text e.0) (Err f) ⊎ ((k : K) × keys (key_text e.0) (Ok k) × values (attribute e.1) (Err f))
+
+-- The next key with its value. After a failing key its value is pending, after a failing value none is.
+abbrev pub NextEntry : {K V E : Type 0} → (E → Fault) → (Source → Result K Fault → Type 0) → (Source → Result V Fault → Type 0) → List Entry → Option Source → List Entry → Option Source → Result (Option (K × V)) E → Type 0
+NextEntry fault keys values [] pending new waits r = (new ≡ []) × (waits ≡ pending) × (r ≡ Ok None)
+NextEntry fault keys values (e ∷ es) pending new waits r = (new ≡ es) × ((waits ≡ None) ⊎ (waits ≡ Some (attribute e.1))) × Element fault (ReadsPair keys values e) r
+
+-- The name is read, and the content is left; or the fault that asking for the variant meets.
+abbrev pub ReadsVariant : {T C E : Type 0} → (E → Fault) → (Source → Result T Fault → Type 0) → (C → Option Source) → Result (List ℕ × Option Source) Fault → Result (T × C) E → Type 0
+ReadsVariant fault reads content (Ok p) (Ok r) = reads (plain_text p.0) (Ok r.0) × (content r.1 ≡ p.1)
+ReadsVariant fault reads content (Ok p) (Err e) = (fault e ≡ out_of_memory) ⊎ reads (plain_text p.0) (Err (fault e))
+ReadsVariant fault reads content (Err f) (Ok r) = ⊥
+ReadsVariant fault reads content (Err f) (Err e) = (fault e ≡ out_of_memory) ⊎ (fault e ≡ f)
+
+-- what the content is read as; a message where a variant has none
+abbrev pub OfContent : {T : Type 0} → (Source → Result T Fault → Type 0) → Option Source → Result T Fault → Type 0
+OfContent reads None r = IsMessage r
+OfContent reads (Some s) r = reads s r
+
+-- a hint is the number of what is left, or none is given
+abbrev pub Hints : {X : Type 0} → List X → Option ℕ → Type 0
+Hints left None = Unit {0}
+Hints left (Some n) = n ≡ length left

@@ -1,0 +1,70 @@
+-- What a reader shows, as contracts see it.
+use Rattle.std.specs.Prelude.{◌≡◌, ◌⊎◌, ℕ, pos, List, [], ◌∷◌, Option, Some, None, Result, Ok, Err, string_bytes}
+use Rattle.dynamo_value.specs.Fault.{Fault, out_of_memory}
+use Rattle.dynamo_value.specs.Integer.{i8, i16, i32, i64, i128, u8, u16, u32, u64, u128}
+use Rattle.dynamo_de.specs.Shown.{Shown}
+use Rattle.dynamo_de.specs.Sight as sight
+use Rattle.dynamo_de.specs.Sight.{Sight}
+use Rattle.dynamo_de.specs.Source.{Source, Entry, attribute, key_text, plain_text}
+use Rattle.dynamo_de.specs.declared.showing.Showing.{Showing}
+use Rattle.dynamo_de.specs.declared.showing.Showing.TheVariants as showing
+
+-- by what the reader tells of the readers inside, of elements, entries and variants
+abbrev pub seen : {D L M C : Type 0} → (D → Source) → (L → List Source) → (M → List Entry) → (C → Result (List ℕ × Option Source) Fault) → Showing D L M C → Sight
+seen source elements entries variants (showing.Bool b) = sight.boolean b
+seen source elements entries variants (showing.I8 n) = sight.integer i8 n
+seen source elements entries variants (showing.I16 n) = sight.integer i16 n
+seen source elements entries variants (showing.I32 n) = sight.integer i32 n
+seen source elements entries variants (showing.I64 n) = sight.integer i64 n
+seen source elements entries variants (showing.I128 n) = sight.integer i128 n
+seen source elements entries variants (showing.U8 n) = sight.integer u8 (pos n)
+seen source elements entries variants (showing.U16 n) = sight.integer u16 (pos n)
+seen source elements entries variants (showing.U32 n) = sight.integer u32 (pos n)
+seen source elements entries variants (showing.U64 n) = sight.integer u64 (pos n)
+seen source elements entries variants (showing.U128 n) = sight.integer u128 (pos n)
+seen source elements entries variants (showing.NumberText t) = sight.number_text (string_bytes t)
+seen source elements entries variants (showing.Char c) = sight.char c
+seen source elements entries variants (showing.FirstChar c) = sight.first_char c
+seen source elements entries variants (showing.Text t) = sight.text (string_bytes t)
+seen source elements entries variants (showing.Bytes v) = sight.bytes v.items
+seen source elements entries variants showing.None = sight.none
+seen source elements entries variants showing.Unit = sight.unit
+seen source elements entries variants (showing.Some d) = sight.some (source d)
+seen source elements entries variants (showing.Newtype d) = sight.newtype (source d)
+seen source elements entries variants (showing.Sequence l) = sight.sequence (elements l)
+seen source elements entries variants (showing.Map m) = sight.entries (entries m)
+seen source elements entries variants (showing.Enum c) = sight.variant (variants c)
+
+-- it shows exactly this, or refuses by exactly this fault
+abbrev pub Shows : {D L M C E : Type 0} → (E → Fault) → (D → Source) → (L → List Source) → (M → List Entry) → (C → Result (List ℕ × Option Source) Fault) → Shown → Result (Showing D L M C) E → Type 0
+Shows fault source elements entries variants shown (Ok s) = shown ≡ Ok (seen source elements entries variants s)
+Shows fault source elements entries variants shown (Err e) = (fault e ≡ out_of_memory) ⊎ (shown ≡ Err (fault e))
+
+-- the reader of the next source, which is gone
+abbrev pub TakesElement : {D : Type 0} → (D → Source) → List Source → List Source → Option D → Type 0
+TakesElement source [] new r = (new ≡ []) × (r ≡ None)
+TakesElement source (s ∷ ss) new None = ⊥
+TakesElement source (s ∷ ss) new (Some d) = (new ≡ ss) × (source d ≡ s)
+
+-- the readers of the next entry's key and value
+abbrev pub TakesEntry : {D : Type 0} → (D → Source) → List Entry → List Entry → Option (D × D) → Type 0
+TakesEntry source [] new r = (new ≡ []) × (r ≡ None)
+TakesEntry source (e ∷ es) new None = ⊥
+TakesEntry source (e ∷ es) new (Some d) = (new ≡ es) × (source d.0 ≡ key_text e.0) × (source d.1 ≡ attribute e.1)
+
+-- the content that a reader has
+abbrev pub content_of : {D : Type 0} → (D → Source) → Option D → Option Source
+content_of source None = None
+content_of source (Some d) = Some (source d)
+
+-- the readers of a variant's name and of its content
+abbrev pub Names : {D E : Type 0} → (E → Fault) → (D → Source) → Result (List ℕ × Option Source) Fault → Result (D × Option D) E → Type 0
+Names fault source (Ok p) (Ok r) = (source r.0 ≡ plain_text p.0) × (content_of source r.1 ≡ p.1)
+Names fault source (Ok p) (Err e) = fault e ≡ out_of_memory
+Names fault source (Err f) (Ok r) = ⊥
+Names fault source (Err f) (Err e) = (fault e ≡ out_of_memory) ⊎ (fault e ≡ f)
+
+-- a reader of the source
+abbrev pub IsReaderOf : {D : Type 0} → (D → Source) → Source → Result D Fault → Type 0
+IsReaderOf source s (Ok d) = source d ≡ s
+IsReaderOf source s (Err f) = ⊥

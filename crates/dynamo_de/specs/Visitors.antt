@@ -1,0 +1,142 @@
+-- What the library's visitors claim, and what they take of what they are shown. What they don't claim they refuse.
+use Rattle.std.specs.Prelude.{ℕ, ℤ, Bool, true, false, List, Option as Maybe, Some as Just, None as Nothing, if◌then◌else◌, ⊤}
+use Rattle.std.specs.Str.{is_utf8}
+use Rattle.dynamo_value.specs.Integer.{IntegerKind, i128, u128}
+use Rattle.dynamo_de.specs.Answer as answer
+use Rattle.dynamo_de.specs.Answer.{Answer, value_or}
+use Rattle.dynamo_de.specs.Contents.{Parts, by_name, in_order, or_its_fault}
+use Rattle.dynamo_de.specs.Number.{fits}
+use Rattle.dynamo_de.specs.Scalars.{one_char}
+use Rattle.dynamo_de.specs.Sight as sight
+use Rattle.dynamo_de.specs.Sight.{Sight}
+use Rattle.dynamo_de.specs.Source.{Source, Entry}
+use Rattle.dynamo_de.specs.declared.kind.Kind.{Kind}
+use Rattle.dynamo_de.specs.declared.kind.Kind.TheVariants as kind
+
+abbrev pub claims_bool : Kind → Bool
+claims_bool kind.Bool = true
+claims_bool _ = false
+
+abbrev pub take_bool : Sight → Answer Bool
+take_bool (sight.boolean b) = answer.value b
+take_bool _ = answer.refused
+
+abbrev pub is_wide : IntegerKind → Bool
+is_wide i128 = true
+is_wide u128 = true
+is_wide _ = false
+
+-- integers of 64 bits, and where `wide` those of 128
+abbrev pub claims_integers : Bool → Kind → Bool
+claims_integers wide kind.I64 = true
+claims_integers wide kind.U64 = true
+claims_integers wide kind.I128 = wide
+claims_integers wide kind.U128 = wide
+claims_integers wide _ = false
+
+-- the integer where it is in the kind's range
+abbrev pub checked : IntegerKind → ℤ → Maybe ℤ
+checked k z = if fits k z then Just z else Nothing
+
+abbrev pub take_integer : IntegerKind → Sight → Answer ℤ
+take_integer k (sight.integer shown z) = value_or (checked k z) answer.refused
+take_integer k _ = answer.refused
+
+abbrev pub claims_char : Kind → Bool
+claims_char kind.Char = true
+claims_char kind.Str = true
+claims_char _ = false
+
+abbrev pub take_char : Sight → Answer ℕ
+take_char (sight.char c) = answer.value c
+take_char (sight.text t) = value_or (one_char t) answer.refused
+take_char _ = answer.refused
+
+-- texts and byte strings
+abbrev pub claims_texts : Kind → Bool
+claims_texts kind.Str = true
+claims_texts kind.Bytes = true
+claims_texts _ = false
+
+abbrev pub take_string : Sight → Answer (List ℕ)
+take_string (sight.text t) = answer.value t
+take_string (sight.bytes bytes) = if is_utf8 bytes then answer.value bytes else answer.refused
+take_string _ = answer.refused
+
+abbrev pub take_bytes : Sight → Answer (List ℕ)
+take_bytes (sight.text t) = answer.value t
+take_bytes (sight.bytes bytes) = answer.value bytes
+take_bytes _ = answer.refused
+
+abbrev pub claims_unit : Kind → Bool
+claims_unit kind.Unit = true
+claims_unit _ = false
+
+abbrev pub take_unit : Sight → Answer ⊤
+take_unit sight.unit = answer.value tt
+take_unit _ = answer.refused
+
+abbrev pub claims_option : Kind → Bool
+claims_option kind.None = true
+claims_option kind.Unit = true
+claims_option kind.Some = true
+claims_option _ = false
+
+abbrev pub take_content : Sight → Answer (Maybe Source)
+take_content sight.none = answer.value Nothing
+take_content sight.unit = answer.value Nothing
+take_content (sight.some s) = answer.value (Just s)
+take_content _ = answer.refused
+
+abbrev pub claims_seq : Kind → Bool
+claims_seq kind.Seq = true
+claims_seq _ = false
+
+abbrev pub take_elements : Sight → Answer (List Source)
+take_elements (sight.sequence ss) = answer.value ss
+take_elements _ = answer.refused
+
+abbrev pub claims_map : Kind → Bool
+claims_map kind.Map = true
+claims_map _ = false
+
+abbrev pub take_entries : Sight → Answer (List Entry)
+take_entries (sight.entries es) = answer.value es
+take_entries _ = answer.refused
+
+-- ---- for types that are read by hand
+
+abbrev pub claims_str : Kind → Bool
+claims_str kind.Str = true
+claims_str _ = false
+
+abbrev pub take_identifier : Sight → Answer (List ℕ)
+take_identifier (sight.text t) = answer.value t
+take_identifier _ = answer.refused
+
+abbrev pub claims_newtype : Kind → Bool
+claims_newtype kind.NewtypeStruct = true
+claims_newtype _ = false
+
+abbrev pub take_newtype : Sight → Answer Source
+take_newtype (sight.newtype s) = answer.value s
+take_newtype _ = answer.refused
+
+-- a struct from a map and from a sequence
+abbrev pub claims_struct : Kind → Bool
+claims_struct kind.Seq = true
+claims_struct kind.Map = true
+claims_struct _ = false
+
+abbrev pub take_parts : Sight → Answer Parts
+take_parts (sight.entries es) = answer.value (by_name es)
+take_parts (sight.sequence ss) = answer.value (in_order ss)
+take_parts _ = answer.refused
+
+abbrev pub claims_enum : Kind → Bool
+claims_enum kind.Enum = true
+claims_enum _ = false
+
+abbrev pub take_variant : Sight → Answer (List ℕ × Maybe Source)
+take_variant (sight.variant v) = or_its_fault v
+take_variant _ = answer.refused

@@ -1,0 +1,282 @@
+ghost use Rattle.std.specs.Prelude.{◌≡◌};
+ghost use Rattle.dynamo_de.specs.Shows.{seen};
+ghost use Rattle.dynamo_de.specs.Takes.{Asks, Visits};
+ghost use Rattle.dynamo_de.specs.declared.request.Request.TheVariants as request;
+
+use crate::reader_access::{ReaderEnumAccess, ReaderMapAccess, ReaderSeqAccess};
+use crate::{Reader, Request, Showing, Visitor};
+
+/// Shows a visitor what a reader shows.
+fn offer<R: Reader, V: Visitor>(
+    showing: Showing<R, R::Elements, R::Entries, R::Choice>,
+    visitor: V,
+) -> Result<V::Value, R::Error>
+    ensures { Visits R.Error.fault (V.claimed visitor) (V.takes visitor) (seen R.source R.elements R.entries R.chosen showing) result }
+{
+    match showing {
+        Showing::Bool(v) => visitor.visit_bool(v),
+        Showing::I8(v) => visitor.visit_i8(v),
+        Showing::I16(v) => visitor.visit_i16(v),
+        Showing::I32(v) => visitor.visit_i32(v),
+        Showing::I64(v) => visitor.visit_i64(v),
+        Showing::I128(v) => visitor.visit_i128(v),
+        Showing::U8(v) => visitor.visit_u8(v),
+        Showing::U16(v) => visitor.visit_u16(v),
+        Showing::U32(v) => visitor.visit_u32(v),
+        Showing::U64(v) => visitor.visit_u64(v),
+        Showing::U128(v) => visitor.visit_u128(v),
+        Showing::NumberText(v) => visitor.visit_number_text(v.as_str()),
+        Showing::Char(v) => visitor.visit_char(v),
+        Showing::FirstChar(v) => match visitor.visit_char(v) {
+            Ok(_) => Err(R::more_than_one_char()),
+            Err(e) => Err(e),
+        },
+        Showing::Text(v) => visitor.visit_string(v),
+        Showing::Bytes(v) => visitor.visit_byte_buf(v),
+        Showing::None => visitor.visit_none(),
+        Showing::Unit => visitor.visit_unit(),
+        Showing::Some(d) => visitor.visit_some(d),
+        Showing::Newtype(d) => visitor.visit_newtype_struct(d),
+        Showing::Sequence(elements) => visitor.visit_seq(ReaderSeqAccess::<R>::new(elements)),
+        Showing::Map(entries) => visitor.visit_map(ReaderMapAccess::<R>::new(entries)),
+        Showing::Enum(choice) => visitor.visit_enum(ReaderEnumAccess::<R>::new(choice)),
+    }
+}
+
+/// What a value is read from, as serde's `Deserializer`. Every [`Reader`] is one.
+///
+/// Each call asks for one form of data and hands a visitor what the reader's source shows at that request. It answers what
+/// the visitor makes of it, or the fault that the source meets in its place.
+pub trait Deserializer: Reader {
+    /// Asks for whatever is there.
+    final fn deserialize_any<V: Visitor>(self, visitor: V) -> Result<V::Value, Self::Error>
+        ensures { Asks Self.Error.fault (V.claimed visitor) (V.takes visitor) request.Any (Self.source self) result }
+    {
+        offer::<Self, V>(self.show(Request::Any)?, visitor)
+    }
+
+    /// Asks for a boolean.
+    final fn deserialize_bool<V: Visitor>(self, visitor: V) -> Result<V::Value, Self::Error>
+        ensures { Asks Self.Error.fault (V.claimed visitor) (V.takes visitor) request.Bool (Self.source self) result }
+    {
+        offer::<Self, V>(self.show(Request::Bool)?, visitor)
+    }
+
+    /// Asks for an `i8`.
+    final fn deserialize_i8<V: Visitor>(self, visitor: V) -> Result<V::Value, Self::Error>
+        ensures { Asks Self.Error.fault (V.claimed visitor) (V.takes visitor) request.I8 (Self.source self) result }
+    {
+        offer::<Self, V>(self.show(Request::I8)?, visitor)
+    }
+
+    /// Asks for an `i16`.
+    final fn deserialize_i16<V: Visitor>(self, visitor: V) -> Result<V::Value, Self::Error>
+        ensures { Asks Self.Error.fault (V.claimed visitor) (V.takes visitor) request.I16 (Self.source self) result }
+    {
+        offer::<Self, V>(self.show(Request::I16)?, visitor)
+    }
+
+    /// Asks for an `i32`.
+    final fn deserialize_i32<V: Visitor>(self, visitor: V) -> Result<V::Value, Self::Error>
+        ensures { Asks Self.Error.fault (V.claimed visitor) (V.takes visitor) request.I32 (Self.source self) result }
+    {
+        offer::<Self, V>(self.show(Request::I32)?, visitor)
+    }
+
+    /// Asks for an `i64`.
+    final fn deserialize_i64<V: Visitor>(self, visitor: V) -> Result<V::Value, Self::Error>
+        ensures { Asks Self.Error.fault (V.claimed visitor) (V.takes visitor) request.I64 (Self.source self) result }
+    {
+        offer::<Self, V>(self.show(Request::I64)?, visitor)
+    }
+
+    /// Asks for an `i128`.
+    final fn deserialize_i128<V: Visitor>(self, visitor: V) -> Result<V::Value, Self::Error>
+        ensures { Asks Self.Error.fault (V.claimed visitor) (V.takes visitor) request.I128 (Self.source self) result }
+    {
+        offer::<Self, V>(self.show(Request::I128)?, visitor)
+    }
+
+    /// Asks for a `u8`.
+    final fn deserialize_u8<V: Visitor>(self, visitor: V) -> Result<V::Value, Self::Error>
+        ensures { Asks Self.Error.fault (V.claimed visitor) (V.takes visitor) request.U8 (Self.source self) result }
+    {
+        offer::<Self, V>(self.show(Request::U8)?, visitor)
+    }
+
+    /// Asks for a `u16`.
+    final fn deserialize_u16<V: Visitor>(self, visitor: V) -> Result<V::Value, Self::Error>
+        ensures { Asks Self.Error.fault (V.claimed visitor) (V.takes visitor) request.U16 (Self.source self) result }
+    {
+        offer::<Self, V>(self.show(Request::U16)?, visitor)
+    }
+
+    /// Asks for a `u32`.
+    final fn deserialize_u32<V: Visitor>(self, visitor: V) -> Result<V::Value, Self::Error>
+        ensures { Asks Self.Error.fault (V.claimed visitor) (V.takes visitor) request.U32 (Self.source self) result }
+    {
+        offer::<Self, V>(self.show(Request::U32)?, visitor)
+    }
+
+    /// Asks for a `u64`.
+    final fn deserialize_u64<V: Visitor>(self, visitor: V) -> Result<V::Value, Self::Error>
+        ensures { Asks Self.Error.fault (V.claimed visitor) (V.takes visitor) request.U64 (Self.source self) result }
+    {
+        offer::<Self, V>(self.show(Request::U64)?, visitor)
+    }
+
+    /// Asks for a `u128`.
+    final fn deserialize_u128<V: Visitor>(self, visitor: V) -> Result<V::Value, Self::Error>
+        ensures { Asks Self.Error.fault (V.claimed visitor) (V.takes visitor) request.U128 (Self.source self) result }
+    {
+        offer::<Self, V>(self.show(Request::U128)?, visitor)
+    }
+
+    /// Asks for a character.
+    final fn deserialize_char<V: Visitor>(self, visitor: V) -> Result<V::Value, Self::Error>
+        ensures { Asks Self.Error.fault (V.claimed visitor) (V.takes visitor) request.Char (Self.source self) result }
+    {
+        offer::<Self, V>(self.show(Request::Char)?, visitor)
+    }
+
+    /// Asks for a text.
+    final fn deserialize_str<V: Visitor>(self, visitor: V) -> Result<V::Value, Self::Error>
+        ensures { Asks Self.Error.fault (V.claimed visitor) (V.takes visitor) request.Str (Self.source self) result }
+    {
+        offer::<Self, V>(self.show(Request::Str)?, visitor)
+    }
+
+    /// Asks for a text that is given away.
+    final fn deserialize_string<V: Visitor>(self, visitor: V) -> Result<V::Value, Self::Error>
+        ensures { Asks Self.Error.fault (V.claimed visitor) (V.takes visitor) request.String (Self.source self) result }
+    {
+        offer::<Self, V>(self.show(Request::String)?, visitor)
+    }
+
+    /// Asks for a byte string.
+    final fn deserialize_bytes<V: Visitor>(self, visitor: V) -> Result<V::Value, Self::Error>
+        ensures { Asks Self.Error.fault (V.claimed visitor) (V.takes visitor) request.Bytes (Self.source self) result }
+    {
+        offer::<Self, V>(self.show(Request::Bytes)?, visitor)
+    }
+
+    /// Asks for a byte string that is given away.
+    final fn deserialize_byte_buf<V: Visitor>(self, visitor: V) -> Result<V::Value, Self::Error>
+        ensures { Asks Self.Error.fault (V.claimed visitor) (V.takes visitor) request.ByteBuf (Self.source self) result }
+    {
+        offer::<Self, V>(self.show(Request::ByteBuf)?, visitor)
+    }
+
+    /// Asks for an option.
+    final fn deserialize_option<V: Visitor>(self, visitor: V) -> Result<V::Value, Self::Error>
+        ensures { Asks Self.Error.fault (V.claimed visitor) (V.takes visitor) request.Option (Self.source self) result }
+    {
+        offer::<Self, V>(self.show(Request::Option)?, visitor)
+    }
+
+    /// Asks for unit.
+    final fn deserialize_unit<V: Visitor>(self, visitor: V) -> Result<V::Value, Self::Error>
+        ensures { Asks Self.Error.fault (V.claimed visitor) (V.takes visitor) request.Unit (Self.source self) result }
+    {
+        offer::<Self, V>(self.show(Request::Unit)?, visitor)
+    }
+
+    /// Asks for a struct without fields.
+    final fn deserialize_unit_struct<V: Visitor>(
+        self,
+        _name: &'static str,
+        visitor: V,
+    ) -> Result<V::Value, Self::Error>
+        ensures { Asks Self.Error.fault (V.claimed visitor) (V.takes visitor) request.UnitStruct (Self.source self) result }
+    {
+        offer::<Self, V>(self.show(Request::UnitStruct)?, visitor)
+    }
+
+    /// Asks for a newtype.
+    final fn deserialize_newtype_struct<V: Visitor>(
+        self,
+        _name: &'static str,
+        visitor: V,
+    ) -> Result<V::Value, Self::Error>
+        ensures { Asks Self.Error.fault (V.claimed visitor) (V.takes visitor) request.NewtypeStruct (Self.source self) result }
+    {
+        offer::<Self, V>(self.show(Request::NewtypeStruct)?, visitor)
+    }
+
+    /// Asks for a sequence.
+    final fn deserialize_seq<V: Visitor>(self, visitor: V) -> Result<V::Value, Self::Error>
+        ensures { Asks Self.Error.fault (V.claimed visitor) (V.takes visitor) request.Seq (Self.source self) result }
+    {
+        offer::<Self, V>(self.show(Request::Seq)?, visitor)
+    }
+
+    /// Asks for a tuple.
+    final fn deserialize_tuple<V: Visitor>(
+        self,
+        _len: usize,
+        visitor: V,
+    ) -> Result<V::Value, Self::Error>
+        ensures { Asks Self.Error.fault (V.claimed visitor) (V.takes visitor) request.Tuple (Self.source self) result }
+    {
+        offer::<Self, V>(self.show(Request::Tuple)?, visitor)
+    }
+
+    /// Asks for a tuple struct.
+    final fn deserialize_tuple_struct<V: Visitor>(
+        self,
+        _name: &'static str,
+        _len: usize,
+        visitor: V,
+    ) -> Result<V::Value, Self::Error>
+        ensures { Asks Self.Error.fault (V.claimed visitor) (V.takes visitor) request.TupleStruct (Self.source self) result }
+    {
+        offer::<Self, V>(self.show(Request::TupleStruct)?, visitor)
+    }
+
+    /// Asks for a map.
+    final fn deserialize_map<V: Visitor>(self, visitor: V) -> Result<V::Value, Self::Error>
+        ensures { Asks Self.Error.fault (V.claimed visitor) (V.takes visitor) request.Map (Self.source self) result }
+    {
+        offer::<Self, V>(self.show(Request::Map)?, visitor)
+    }
+
+    /// Asks for a struct.
+    final fn deserialize_struct<V: Visitor>(
+        self,
+        _name: &'static str,
+        _fields: &'static [&'static str],
+        visitor: V,
+    ) -> Result<V::Value, Self::Error>
+        ensures { Asks Self.Error.fault (V.claimed visitor) (V.takes visitor) request.Struct (Self.source self) result }
+    {
+        offer::<Self, V>(self.show(Request::Struct)?, visitor)
+    }
+
+    /// Asks for an enum.
+    final fn deserialize_enum<V: Visitor>(
+        self,
+        _name: &'static str,
+        _variants: &'static [&'static str],
+        visitor: V,
+    ) -> Result<V::Value, Self::Error>
+        ensures { Asks Self.Error.fault (V.claimed visitor) (V.takes visitor) request.Enum (Self.source self) result }
+    {
+        offer::<Self, V>(self.show(Request::Enum)?, visitor)
+    }
+
+    /// Asks for the name of a field or of a variant.
+    final fn deserialize_identifier<V: Visitor>(self, visitor: V) -> Result<V::Value, Self::Error>
+        ensures { Asks Self.Error.fault (V.claimed visitor) (V.takes visitor) request.Identifier (Self.source self) result }
+    {
+        offer::<Self, V>(self.show(Request::Identifier)?, visitor)
+    }
+
+    /// Asks for whatever is there, to be let go.
+    final fn deserialize_ignored_any<V: Visitor>(self, visitor: V) -> Result<V::Value, Self::Error>
+        ensures { Asks Self.Error.fault (V.claimed visitor) (V.takes visitor) request.IgnoredAny (Self.source self) result }
+    {
+        offer::<Self, V>(self.show(Request::IgnoredAny)?, visitor)
+    }
+}
+
+impl<R: Reader> Deserializer for R {}

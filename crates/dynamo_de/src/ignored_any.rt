@@ -1,0 +1,56 @@
+ghost use Rattle.std.specs.Prelude.{◌≡◌};
+ghost use Rattle.dynamo_de.specs.Answer.{Gives};
+ghost use Rattle.dynamo_de.specs.Ignored.{read_ignored, ignore_sources, ignore_entries as ignored_entries};
+ghost use Rattle.dynamo_de.specs.Meets.{Meets};
+
+use crate::{Deserialize, Deserializer, Reader, Request, Showing};
+use std::alloc::Global;
+
+/// Whatever is there, read and let go: all that lies inside is read as ignored-any too, and its first fault is the fault.
+#[derive(Clone, Copy, Debug, Drop, PartialEq, Eq)]
+pub struct IgnoredAny;
+
+impl Deserialize for IgnoredAny {
+    ghost reads = { λ s. Gives (λ _. tt) (read_ignored s) };
+
+    fn deserialize<D: Deserializer>(
+        _alloc: Global,
+        deserializer: D,
+    ) -> Result<IgnoredAny, D::Error> {
+        ignore(deserializer)?;
+        Ok(IgnoredAny)
+    }
+}
+
+/// Reads a source and lets it go.
+#[cycle(ignore)]
+#[tactic(auto, using(crate::proofs::Ignored::ignored_as_shown, crate::proofs::Ignored::elements_fall, crate::proofs::Ignored::entries_fall))]
+fn ignore<R: Reader>(reader: R) -> Result<(), R::Error>
+    ensures { Meets R.Error.fault (Gives (λ u. u) (read_ignored (R.source reader))) result }
+{
+    match reader.show(Request::IgnoredAny)? {
+        Showing::Sequence(elements) => ignore_elements::<R>(elements),
+        Showing::Map(entries) => ignore_entries::<R>(entries),
+        _ => Ok(()),
+    }
+}
+
+#[cycle(ignore)]
+fn ignore_elements<R: Reader>(mut elements: R::Elements) -> Result<(), R::Error>
+    ensures { Meets R.Error.fault (Gives (λ u. u) (ignore_sources (R.elements elements))) result }
+{
+    while let Some(element) = R::next_element(&mut elements) {
+        ignore(element)?;
+    }
+    Ok(())
+}
+
+#[cycle(ignore)]
+fn ignore_entries<R: Reader>(mut entries: R::Entries) -> Result<(), R::Error>
+    ensures { Meets R.Error.fault (Gives (λ u. u) (ignored_entries (R.entries entries))) result }
+{
+    while let Some((_key, value)) = R::next_entry(&mut entries) {
+        ignore(value)?;
+    }
+    Ok(())
+}

@@ -1,0 +1,5 @@
+mod maps;
+mod numbers;
+mod options;
+mod sequences;
+mod texts;

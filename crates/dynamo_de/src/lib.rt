@@ -1,0 +1,34 @@
+//! The reading side of serde's data model: readers show what their source holds, visitors make values of it.
+//!
+//! Who writes a type, a visitor or a seed sees serde: `impl Deserialize`, with [`Deserializer`]'s requests, [`Visitor`] and
+//! the four accesses. Who writes a reader gives the calls of [`Reader`], which show without visitors; serde's requests come
+//! with them.
+#![tactic(auto)]
+
+mod access;
+pub mod binary_set;
+mod deserialize;
+mod deserializer;
+mod error;
+mod ignored_any;
+mod impls;
+mod kind;
+pub mod number_set;
+mod reader;
+mod reader_access;
+mod request;
+mod showing;
+pub mod string_set;
+mod visitor;
+
+pub use access::{EnumAccess, MapAccess, SeqAccess, VariantAccess};
+pub use deserialize::{Deserialize, DeserializeSeed, TypeSeed};
+pub use deserializer::Deserializer;
+pub use error::Error;
+pub use ignored_any::IgnoredAny;
+pub use kind::Kind;
+pub use reader::Reader;
+pub use reader_access::{ReaderEnumAccess, ReaderMapAccess, ReaderSeqAccess, ReaderVariantAccess};
+pub use request::Request;
+pub use showing::Showing;
+pub use visitor::Visitor;

@@ -1,0 +1,77 @@
+ghost use Rattle.std.specs.Prelude.{◌≡◌, ℕ, List, Option, Result};
+ghost use Rattle.dynamo_value.specs.Fault.{Fault, expected_char, map_value_before_key};
+ghost use Rattle.dynamo_de.specs.Access.{Hints};
+ghost use Rattle.dynamo_de.specs.Shown.{shown};
+ghost use Rattle.dynamo_de.specs.Shows.{Shows, TakesElement, TakesEntry, Names};
+ghost use Rattle.dynamo_de.specs.Source.{Source, Entry};
+
+use crate::{Error, Request, Showing};
+use std::alloc::Global;
+
+/// What is read from, without visitors. Who writes a reader gives these calls; those of
+/// [`Deserializer`](crate::Deserializer) come with them.
+pub trait Reader: Sized + Drop {
+    type Error: Error;
+
+    /// The elements of a sequence that aren't read yet.
+    type Elements: Drop;
+
+    /// The entries of a map that aren't read yet.
+    type Entries: Drop;
+
+    /// A variant that isn't read yet.
+    type Choice: Drop;
+
+    // What the reader reads from, and what it tells of elements, entries and variants.
+    ghost source: { Self → Source };
+
+    ghost elements: { Self.Elements → List Source };
+
+    ghost entries: { Self.Entries → List Entry };
+
+    ghost chosen: { Self.Choice → Result (List ℕ × Option Source) Fault };
+
+    /// Where the memory of what is read comes from.
+    fn alloc(&self) -> Global;
+
+    /// What the source shows at a request.
+    fn show(
+        self,
+        request: Request,
+    ) -> Result<Showing<Self, Self::Elements, Self::Entries, Self::Choice>, Self::Error>
+        ensures { Shows Self.Error.fault source elements entries chosen (shown request (source self)) result };
+
+    /// The reader of the next element.
+    fn next_element(rest: &mut Self::Elements) -> Option<Self>
+        ensures { TakesElement source (elements rest.old) (elements rest.new) result };
+
+    /// The readers of the next entry's key and value.
+    fn next_entry(rest: &mut Self::Entries) -> Option<(Self, Self)>
+        ensures { TakesEntry source (entries rest.old) (entries rest.new) result };
+
+    /// The readers of a variant's name and of its content, where it has one.
+    fn choose(choice: Self::Choice) -> Result<(Self, Option<Self>), Self::Error>
+        ensures { Names Self.Error.fault source (chosen choice) result };
+
+    /// The refusal of a value that is asked for before a key.
+    fn value_before_key() -> Self::Error
+        ensures { Self.Error.fault result ≡ map_value_before_key };
+
+    /// The refusal of a text that has more than the one character that was asked for.
+    fn more_than_one_char() -> Self::Error
+        ensures { Self.Error.fault result ≡ expected_char };
+
+    /// How many elements are left, where that is known.
+    fn elements_left(_rest: &Self::Elements) -> Option<usize>
+        ensures { Hints (elements _rest.now) result }
+    {
+        None
+    }
+
+    /// How many entries are left, where that is known.
+    fn entries_left(_rest: &Self::Entries) -> Option<usize>
+        ensures { Hints (entries _rest.now) result }
+    {
+        None
+    }
+}

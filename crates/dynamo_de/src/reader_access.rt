@@ -1,0 +1,151 @@
+ghost use Rattle.std.specs.Prelude.{◌≡◌, None};
+ghost use Rattle.dynamo_de.specs.Shows.{content_of};
+
+use crate::{DeserializeSeed, EnumAccess, Error, MapAccess, Reader, SeqAccess, VariantAccess};
+use std::alloc::Global;
+
+/// The elements that a reader shows.
+#[derive(Drop)]
+pub struct ReaderSeqAccess<R: Reader> {
+    elements: R::Elements,
+}
+
+impl<R: Reader> ReaderSeqAccess<R> {
+    /// The access to these elements. It takes no memory.
+    pub fn new(elements: R::Elements) -> Self
+        ensures { result.elements ≡ elements }
+    {
+        ReaderSeqAccess { elements }
+    }
+}
+
+impl<R: Reader> SeqAccess for ReaderSeqAccess<R> {
+    type Error = R::Error;
+
+    ghost left = { λ a. R.elements a.elements };
+
+    fn next_element_seed<T: DeserializeSeed>(
+        &mut self,
+        seed: T,
+    ) -> Result<Option<T::Value>, R::Error> {
+        match R::next_element(&mut self.elements) {
+            None => Ok(None),
+            Some(element) => Ok(Some(seed.deserialize(element)?)),
+        }
+    }
+
+    fn size_hint(&self) -> Option<usize> {
+        R::elements_left(&self.elements)
+    }
+}
+
+/// The entries that a reader shows, and a value whose key was read.
+#[derive(Drop)]
+pub struct ReaderMapAccess<R: Reader> {
+    entries: R::Entries,
+    pending: Option<R>,
+}
+
+impl<R: Reader> ReaderMapAccess<R> {
+    /// The access to these entries. It takes no memory.
+    pub fn new(entries: R::Entries) -> Self
+        ensures entries { result.entries ≡ entries }
+        ensures pending { result.pending ≡ None }
+    {
+        ReaderMapAccess {
+            entries,
+            pending: None,
+        }
+    }
+}
+
+impl<R: Reader> MapAccess for ReaderMapAccess<R> {
+    type Error = R::Error;
+
+    ghost left = { λ a. R.entries a.entries };
+
+    ghost pending = { λ a. content_of R.source a.pending };
+
+    fn next_key_seed<K: DeserializeSeed>(&mut self, seed: K) -> Result<Option<K::Value>, R::Error> {
+        match R::next_entry(&mut self.entries) {
+            None => Ok(None),
+            Some((key, value)) => {
+                self.pending = Some(value);
+                Ok(Some(seed.deserialize(key)?))
+            }
+        }
+    }
+
+    fn next_value_seed<V: DeserializeSeed>(&mut self, seed: V) -> Result<V::Value, R::Error> {
+        match self.pending.take() {
+            None => Err(R::value_before_key()),
+            Some(value) => seed.deserialize(value),
+        }
+    }
+
+    fn size_hint(&self) -> Option<usize> {
+        R::entries_left(&self.entries)
+    }
+}
+
+/// The variant that a reader shows.
+#[derive(Drop)]
+pub struct ReaderEnumAccess<R: Reader> {
+    choice: R::Choice,
+}
+
+impl<R: Reader> ReaderEnumAccess<R> {
+    /// The access to this variant. It takes no memory.
+    pub fn new(choice: R::Choice) -> Self
+        ensures { result.choice ≡ choice }
+    {
+        ReaderEnumAccess { choice }
+    }
+}
+
+impl<R: Reader> EnumAccess for ReaderEnumAccess<R> {
+    type Error = R::Error;
+
+    type Variant = ReaderVariantAccess<R>;
+
+    ghost chosen = { λ a. R.chosen a.choice };
+
+    fn variant_seed<S: DeserializeSeed>(
+        self,
+        seed: S,
+    ) -> Result<(S::Value, ReaderVariantAccess<R>), R::Error> {
+        let (name, content) = R::choose(self.choice)?;
+        let alloc = name.alloc();
+        let name = seed.deserialize(name)?;
+        Ok((name, ReaderVariantAccess { alloc, content }))
+    }
+}
+
+/// The content of a variant that a reader shows.
+#[derive(Drop)]
+pub struct ReaderVariantAccess<R: Reader> {
+    alloc: Global,
+    content: Option<R>,
+}
+
+impl<R: Reader> VariantAccess for ReaderVariantAccess<R> {
+    type Error = R::Error;
+
+    type Reader = R;
+
+    ghost content = { λ a. content_of R.source a.content };
+
+    fn unit_variant(self) -> Result<(), R::Error> {
+        Ok(())
+    }
+
+    fn reader(self) -> Result<R, R::Error> {
+        match self.content {
+            Some(reader) => Ok(reader),
+            None => Err(R::Error::custom(
+                self.alloc,
+                "invalid type: unit variant, expected a variant with content",
+            )),
+        }
+    }
+}

@@ -1,0 +1,5 @@
+pub mod FloatNumbers
+pub mod Floats
+pub mod Integers
+pub mod Numbers
+pub mod Rows

@@ -1,0 +1,9 @@
+pub use Rattle.dynamo_de.specs.Number
+pub use Rattle.dynamo_de.specs.Shown
+pub use Rattle.dynamo_de.specs.Shows
+pub use Rattle.dynamo_de.specs.Source
+pub use Rattle.dynamo_value.specs.Fault
+pub use Rattle.dynamo_value.specs.Kind
+pub mod Leaf
+pub mod Readers
+pub mod Outright
