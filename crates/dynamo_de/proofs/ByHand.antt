@@ -1,13 +1,12 @@
 -- For types that are read by hand: what is shown, and what a visitor takes of it, is what the type reads.
-use Rattle.std.proofs.Common.{◌≡◌, ℕ, true, false, List, Option, Result, Ok, Err, refl}
+use Rattle.std.proofs.Common.{ℕ, true, false, List, Option, Result, refl}
 use Rattle.dynamo_value.specs.Av as av
 use Rattle.dynamo_value.specs.Fault.{Fault}
-use Rattle.dynamo_de.specs.Answer.{After, Gives, Is}
-use Rattle.dynamo_de.specs.Contents.{Parts, read_newtype, read_parts, read_variant, or_its_fault}
+use Rattle.dynamo_de.specs.Answer.{After}
+use Rattle.dynamo_de.specs.Contents.{Parts, read_newtype, read_parts, read_variant}
 use Rattle.dynamo_de.specs.Meets.{Meets}
 use Rattle.dynamo_de.specs.Scalars.{read_identifier, read_unit_struct}
 use Rattle.dynamo_de.specs.Shown.{shown}
-use Rattle.dynamo_de.specs.Sight as sight
 use Rattle.dynamo_de.specs.Source.{Source, attribute, key_text, number_text, plain_text, byte_string}
 use Rattle.dynamo_de.specs.Takes.{Takes, Answers, Asks}
 use Rattle.dynamo_de.specs.Visitors.{claims_str, take_identifier, claims_unit, take_unit, claims_newtype, take_newtype, claims_struct, take_parts, claims_enum, take_variant}

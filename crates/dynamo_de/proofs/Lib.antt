@@ -2,6 +2,7 @@ pub mod ByHand
 pub mod Chars
 pub mod Contents
 pub mod Each
+pub mod Fields
 pub mod Ignored
 pub mod Integers
 pub mod Meets

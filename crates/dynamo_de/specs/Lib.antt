@@ -5,6 +5,7 @@ pub use Rattle.dynamo_value.specs.Kind
 pub mod Access
 pub mod Answer
 pub mod Contents
+pub mod Fields
 pub mod Ignored
 pub mod Meets
 pub mod Number

@@ -4,30 +4,30 @@
 mod output;
 mod run;
 
-use std::alloc::Global;
+use std::alloc::AllocError;
 use std::process::ExitCode;
 use std::{env, io};
 
-// The words after the program's name; none where one is no text.
-fn words(rt: &HostRuntime) -> Vec<String> {
+// The words after the program's name; none where one of them is no text. It fails for want of memory alone.
+fn words(rt: &HostRuntime) -> Result<Vec<String>, AllocError> {
     let mut words = Vec::new(rt.alloc());
-    let Ok(args) = env::args(rt) else {
-        return words;
+    let args = match env::args(rt) {
+        Ok(args) => args,
+        Err(error) if error.kind() == io::ErrorKind::OutOfMemory => return Err(AllocError),
+        Err(_) => return Ok(words),
     };
     for word in args.skip(1) {
         if words.push(word).is_err() {
-            return Vec::new(rt.alloc());
+            return Err(AllocError);
         }
     }
-    words
+    Ok(words)
 }
 
 fn main(rt: HostRuntime) -> ExitCode {
-    let words = words(&rt);
-    ExitCode::from(run::run(
-        rt.alloc(),
-        words.as_slice(),
-        &mut rt.reader(),
-        &mut io::writer(&rt),
-    ))
+    let mut writer = io::writer(&rt);
+    ExitCode::from(match words(&rt) {
+        Ok(words) => run::run(rt.alloc(), words.as_slice(), &mut rt.reader(), &mut writer),
+        Err(_) => run::lack_memory(&mut writer),
+    })
 }

@@ -33,8 +33,15 @@ pub fn run<R: Read, W: Output>(
     };
     match user_lines(alloc, id, name, age) {
         Ok(lines) => print(writer, &lines, 0),
-        Err(_) => print(writer, "error: out of memory\n", 1),
+        Err(_) => lack_memory(writer),
     }
+}
+
+/// Prints that there is no memory, and answers the status that the program ends with.
+pub fn lack_memory<W: Output>(writer: &mut W) -> u8
+    ensures { Prints W.write_gives writer.old writer.new lines.no_memory_line 1 result }
+{
+    print(writer, "error: out of memory\n", 1)
 }
 
 // Prints the text, which is whole. Where that fails the status is 1.

@@ -1,6 +1,7 @@
 pub use Rattle.dynamo_value.specs.Av
 pub use Rattle.dynamo_value.specs.Bytes
 pub use Rattle.dynamo_value.specs.Fault
+pub use Rattle.dynamo_value.specs.Integer
 pub use Rattle.dynamo_value.specs.Item
 pub use Rattle.dynamo_value.specs.Kind
 pub use Rattle.dynamo_value.specs.Text
@@ -12,6 +13,21 @@ pub use Rattle.dynamo_ser.specs.Pieces
 pub use Rattle.dynamo_ser.specs.Symbols
 pub use Rattle.dynamo_ser.specs.Wrapped
 pub use Rattle.dynamo_ser.specs.Writes
+pub use Rattle.dynamo_de.specs.Access
+pub use Rattle.dynamo_de.specs.Answer
+pub use Rattle.dynamo_de.specs.Contents
+pub use Rattle.dynamo_de.specs.Fields
+pub use Rattle.dynamo_de.specs.Ignored
+pub use Rattle.dynamo_de.specs.Meets
+pub use Rattle.dynamo_de.specs.Number
+pub use Rattle.dynamo_de.specs.Reads
+pub use Rattle.dynamo_de.specs.Scalars
+pub use Rattle.dynamo_de.specs.Shown
+pub use Rattle.dynamo_de.specs.Shows
+pub use Rattle.dynamo_de.specs.Sight
+pub use Rattle.dynamo_de.specs.Source
+pub use Rattle.dynamo_de.specs.Takes
+pub use Rattle.dynamo_de.specs.Visitors
 pub use Rattle.dynamo_write.specs.Answers
 pub use Rattle.dynamo_write.specs.Collect
 pub use Rattle.dynamo_write.specs.Held
@@ -19,3 +35,4 @@ pub use Rattle.dynamo_write.specs.Memory
 pub use Rattle.dynamo_write.specs.Set
 pub use Rattle.dynamo_write.specs.Written
 pub mod Samples
+pub mod SamplesRead

@@ -1,10 +1,23 @@
-//! Typed values as DynamoDB attribute values and items: [`to_attribute_value`] and [`to_item`] write them.
+//! Typed values as DynamoDB attribute values and items: [`to_attribute_value`] and [`to_item`] write them,
+//! [`from_attribute_value`], [`from_item`] and [`from_items`] read them.
 #![tactic(auto)]
 
+pub mod binary_set;
+pub mod de;
+pub mod number_set;
 pub mod samples;
 pub mod ser;
+pub mod string_set;
 
-pub use dynamo_ser::{BinarySet, NumberSet, StringSet, binary_set, number_set, string_set};
+pub use dynamo_leaf::{
+    DeserializerBytes, DeserializerMapKey, DeserializerNumber, DeserializerSeqBytes,
+    DeserializerSeqNumbers, DeserializerSeqStrings, StringDeserializer, is_float_text,
+};
+pub use dynamo_read::{
+    Deserializer, DeserializerEnum, DeserializerMap, DeserializerSeq, DeserializerVariant,
+    from_attribute_value, from_item, from_items,
+};
+pub use dynamo_ser::{BinarySet, NumberSet, StringSet};
 pub use dynamo_value::{
     AttributeValue, ByteBuf, Bytes, Error, ErrorImpl, Item, Items, Result, Text,
 };

@@ -1,0 +1,203 @@
+-- The fields of a struct, one after another: lemmas for types that are read by hand.
+use Rattle.std.proofs.Common.{◌≡◌, ◌⊎◌, ℕ, List, [], ◌∷◌, map, Option, Some, None, Result, Ok, Err, length, ◌<◌, ap, sym, subst, inl, inr, arith, ◌∙◌}
+use Rattle.dynamo_value.specs.Av.{Av}
+use Rattle.dynamo_value.specs.Fault.{Fault, out_of_memory}
+use Rattle.dynamo_de.specs.Access.{NextElement, NextKey, NextValue}
+use Rattle.std.specs.declared.alloc.Global.{Global}
+use Rattle.std.specs.declared.vec.Vec.{Vec}
+use Rattle.dynamo_de.specs.Answer as answer
+use Rattle.dynamo_de.specs.Answer.{Answer, ◌>>=◌, After, Is, Gives}
+use Rattle.dynamo_de.specs.Contents.{read_elements}
+use Rattle.dynamo_de.specs.Fields.{NamesOne, read_first, read_fields, read_all, LeadsTo}
+use Rattle.dynamo_de.specs.Meets.{IsMessage}
+use Rattle.dynamo_de.specs.Reads.{ReadsEach, ReadsList}
+use Rattle.dynamo_de.specs.Source.{Source, Entry, attribute}
+use Rattle.dynamo_de.proofs.Meets.{meets_more}
+
+-- ---- one step after another
+
+goes_on : {T A B V : Type 0} (seen : T → A) (x : Answer A) (f : A → Answer B) (next : B → Result V Fault → Type 0) (v : T) (r : Result V Fault) → Gives seen x (Ok v) → After (f (seen v)) next r → After (x >>= f) next r
+goes_on seen (answer.value y) f next v r h k = subst (λ z. After (f z) next r) h k
+goes_on seen (answer.fault g) f next v r h k = cc
+goes_on seen answer.refused f next v r h k = absurd h
+
+ok_same : {F : Type 0} (a b : F) → ◌≡◌ {A = Result F Fault} (Ok a) (Ok b) → a ≡ b
+ok_same a b e = cc
+
+err_same : {W : Type 0} (a b : Fault) → ◌≡◌ {A = Result W Fault} (Err a) (Err b) → a ≡ b
+err_same a b e = cc
+
+stops : {T A B V : Type 0} (seen : T → A) (x : Answer A) (f : A → Answer B) (next : B → Result V Fault → Type 0) (g : Fault) → Gives seen x (Err g) → After (x >>= f) next (Err g)
+stops seen (answer.value y) f next g h = absurd h
+stops {T} seen (answer.fault e) f next g h = ap Err (err_same {W = T} g e h)
+stops seen answer.refused f next g h = h
+
+-- what is made of what is read
+pub made : {T A B : Type 0} (seen : T → A) (make : A → B) (x : Answer A) (r : Result T Fault) → Gives seen x r → Gives (λ v. make (seen v)) (x >>= λ y. answer.value (make y)) r
+made seen make (answer.value y) (Ok v) h = ap make h
+made seen make (answer.value y) (Err f) h = absurd h
+made seen make (answer.fault g) r h = h
+made seen make answer.refused r h = h
+
+-- ---- in order
+
+module _ {T A B V E : Type 0} (fault : E → Fault) (seen : T → A) (reads : Source → Answer A) (rest : A → List Source → Answer B) (next : B → Result V Fault → Type 0) (left new : List Source) where
+  pub element_read : (v : T) (r : Result V Fault) → NextElement fault (λ s. Gives seen (reads s)) left new (Ok (Some v)) → After (rest (seen v) new) next r → After (read_first reads left rest) next r
+  unfolding read_first
+  element_read v r h k = along left h
+    where
+      along : (l : List Source) → NextElement fault (λ s. Gives seen (reads s)) l new (Ok (Some v)) → After (read_first reads l rest) next r
+      along [] a = cc
+      along (s ∷ ss) a = goes_on seen (reads s) (λ x. rest x ss) next v r a.1 (subst (λ l. After (rest (seen v) l) next r) a.0 k)
+
+  pub element_lacks : (f : Fault) → NextElement fault (λ s. Gives seen (reads s)) left new (Ok None) → IsMessage {V = V} (Err f) → After (read_first reads left rest) next (Err f)
+  unfolding read_first
+  element_lacks f h m = along left h
+    where
+      along : (l : List Source) → NextElement fault (λ s. Gives seen (reads s)) l new (Ok None) → After (read_first reads l rest) next (Err f)
+      along [] a = m
+      along (s ∷ ss) a = absurd a.1
+
+  pub element_fails : (e : E) → NextElement fault (λ s. Gives seen (reads s)) left new (Err e) → (fault e ≡ out_of_memory) ⊎ After (read_first reads left rest) next (Err (fault e))
+  unfolding read_first
+  element_fails e h = along left h
+    where
+      along : (l : List Source) → NextElement fault (λ s. Gives seen (reads s)) l new (Err e) → (fault e ≡ out_of_memory) ⊎ After (read_first reads l rest) next (Err (fault e))
+      along [] a = cc
+      along (s ∷ ss) a = elim a.1 [ inl lacks ↦ inl lacks | inr failed ↦ inr (stops seen (reads s) (λ x. rest x ss) next (fault e) failed) ]
+
+-- a list of sources
+each_gives : {T A : Type 0} (seen : T → A) (reads : Source → Answer A) (ss : List Source) (r : Result (List T) Fault) → ReadsEach (λ s. Gives seen (reads s)) ss r → Gives (λ vs. map seen vs) (read_all reads ss) r
+each_gives seen reads [] (Ok vs) h = ap (map seen) h
+each_gives seen reads [] (Err f) h = absurd h
+each_gives seen reads (s ∷ ss) (Ok vs) h =
+    goes_on seen (reads s) (λ x. read_all reads ss >>= λ xs. answer.value (x ∷ xs)) (Is (λ vs. map seen vs)) h.0 (Ok vs) h.3
+    (goes_on (λ ws. map seen ws) (read_all reads ss) (λ xs. answer.value (seen h.0 ∷ xs)) (Is (λ vs. map seen vs)) h.1 (Ok vs) (each_gives seen reads ss (Ok h.1) h.4) (ap (map seen) h.2))
+each_gives {T} seen reads (s ∷ ss) (Err f) h = elim h [
+  | inl failed ↦ stops seen (reads s) (λ x. read_all reads ss >>= λ xs. answer.value (x ∷ xs)) (Is (λ (vs : List T). map seen vs)) f failed
+  | inr later ↦ goes_on seen (reads s) (λ x. read_all reads ss >>= λ xs. answer.value (x ∷ xs)) (Is (λ (vs : List T). map seen vs)) later.0 (Err f) later.1
+      (stops (λ (ws : List T). map seen ws) (read_all reads ss) (λ xs. answer.value (seen later.0 ∷ xs)) (Is (λ (vs : List T). map seen vs)) f (each_gives seen reads ss (Err f) later.2))
+]
+
+-- what permits less permits as much, in an access
+pub element_more : {T E : Type 0} (fault : E → Fault) (P Q : Source → Result T Fault → Type 0) → ((s : Source) (r : Result T Fault) → P s r → Q s r) → (left new : List Source) (r : Result (Option T) E) → NextElement fault P left new r → NextElement fault Q left new r
+element_more fault P Q more [] new r h = h
+element_more fault P Q more (s ∷ ss) new (Ok None) h = h
+element_more fault P Q more (s ∷ ss) new (Ok (Some v)) h = (h.0, more s (Ok v) h.1)
+element_more fault P Q more (s ∷ ss) new (Err e) h = (h.0, elim h.1 [ inl lacks ↦ inl lacks | inr failed ↦ inr (more s (Err (fault e)) failed) ])
+
+pub value_more : {T E : Type 0} (fault : E → Fault) (P Q : Source → Result T Fault → Type 0) → ((s : Source) (r : Result T Fault) → P s r → Q s r) → (l l2 : List Entry) (p p2 : Option Source) (r : Result T E) → NextValue fault P l p l2 p2 r → NextValue fault Q l p l2 p2 r
+value_more fault P Q more l l2 None p2 r h = h
+value_more fault P Q more l l2 (Some s) p2 r h = (h.0, h.1, meets_more fault (P s) (Q s) (more s) r h.2)
+
+-- what a list reads, made of what its elements read
+pub list_made : {T A B : Type 0} (seen : T → A) (make : A → B) (reads : Source → Answer A) (s : Source) (r : Result (Vec T Global) Fault) → After (read_elements s) (ReadsList (λ s. Gives seen (reads s))) r
+    → Gives (λ v. map (λ x. make (seen x)) v.items) (read_elements s >>= read_all (λ s. reads s >>= λ x. answer.value (make x))) r
+list_made {T} seen make reads s r h = along (read_elements s) r h
+  where
+    each : (ss : List Source) (r : Result (List T) Fault) → ReadsEach (λ s. Gives seen (reads s)) ss r → ReadsEach (λ s. Gives (λ x. make (seen x)) (reads s >>= λ x. answer.value (make x))) ss r
+    each [] (Ok vs) h = h
+    each [] (Err f) h = h
+    each (s ∷ ss) (Ok vs) h = (h.0, h.1, h.2, made seen make (reads s) (Ok h.0) h.3, each ss (Ok h.1) h.4)
+    each (s ∷ ss) (Err f) h = elim h [ inl failed ↦ inl (made seen make (reads s) (Err f) failed) | inr later ↦ inr (later.0, made seen make (reads s) (Ok later.0) later.1, each ss (Err f) later.2) ]
+
+    along : (x : Answer (List Source)) (r : Result (Vec T Global) Fault) → After x (ReadsList (λ s. Gives seen (reads s))) r
+        → Gives (λ v. map (λ x. make (seen x)) v.items) (x >>= read_all (λ s. reads s >>= λ x. answer.value (make x))) r
+    along (answer.value ss) (Ok v) h = listed (read_all (λ s. reads s >>= λ x. answer.value (make x)) ss) v (each_gives (λ x. make (seen x)) (λ s. reads s >>= λ x. answer.value (make x)) ss (Ok v.items) (each ss (Ok v.items) h))
+      where
+        listed : (y : Answer (List _)) (v : Vec T Global) → Gives (λ vs. map (λ x. make (seen x)) vs) y (Ok v.items) → Gives (λ v. map (λ x. make (seen x)) v.items) y (Ok v)
+        listed (answer.value ws) v h = h
+        listed (answer.fault g) v h = cc
+        listed answer.refused v h = h
+    along (answer.value ss) (Err f) h = failed (read_all (λ s. reads s >>= λ x. answer.value (make x)) ss) (each_gives (λ x. make (seen x)) (λ s. reads s >>= λ x. answer.value (make x)) ss (Err f) (each ss (Err f) h))
+      where
+        failed : (y : Answer (List _)) → Gives (λ (vs : List T). map (λ x. make (seen x)) vs) y (Err f) → Gives (λ (v : Vec T Global). map (λ x. make (seen x)) v.items) y (Err f)
+        failed (answer.value ws) h = h
+        failed (answer.fault g) h = ap Err (err_same {W = List T} f g h)
+        failed answer.refused h = h
+    along (answer.fault g) r h = h
+    along answer.refused r h = h
+
+-- ---- by name
+
+module _ {F S A V E : Type 0} (fault : E → Fault) (named : List ℕ → F) (entry : F → S → Av → Answer S) (finish : S → Answer A) (next : A → Result V Fault → Type 0) (es : List Entry) (start so_far : S) (l l2 : List Entry) (p p2 : Option Source) where
+  abbrev Leads : S → List Entry → Type 0
+  Leads st left = LeadsTo next (read_fields named entry finish st left) (read_fields named entry finish start es)
+
+  -- a field is read
+  pub field_read : {T B : Type 0} (seen : T → B) (reads : Source → Answer B) (set : B → S) (f : F) (l3 : List Entry) (p3 : Option Source) (v : T)
+      → ((a : Av) → entry f so_far a ≡ (reads (attribute a) >>= λ x. answer.value (set x)))
+      → Leads so_far l → NextKey fault (NamesOne named) l p l2 p2 (Ok (Some f)) → NextValue fault (λ s. Gives seen (reads s)) l2 p2 l3 p3 (Ok v) → Leads (set (seen v)) l3
+  unfolding LeadsTo read_fields
+  field_read seen reads set f l3 p3 v is h key value = along l h key
+    where
+      again : (x : Answer _) (f : S → Answer A) (r : Result V Fault) → Gives seen x (Ok v) → After (f (set (seen v))) next r → After ((x >>= λ y. answer.value (set y)) >>= f) next r
+      again (answer.value y) f r given k = subst (λ z. After (f (set z)) next r) given k
+      again (answer.fault g) f r given k = cc
+      again answer.refused f r given k = absurd given
+
+      along : (k : List Entry) → LeadsTo next (read_fields named entry finish so_far k) (read_fields named entry finish start es) → NextKey fault (NamesOne named) k p l2 p2 (Ok (Some f))
+          → LeadsTo next (read_fields named entry finish (set (seen v)) l3) (read_fields named entry finish start es)
+      along [] h a = cc
+      along (e ∷ k) h a =
+          let c = subst (λ w. NextValue fault (λ s. Gives seen (reads s)) l2 w l3 p3 (Ok v)) a.1 value in
+          let name : f ≡ named e.0 = ok_same f (named e.0) a.2 in
+          λ r rest. h r (subst (λ g. After (entry g so_far e.1 >>= λ new. read_fields named entry finish new k) next r) name
+          (subst (λ x. After (x >>= λ new. read_fields named entry finish new k) next r) (sym (is e.1))
+          (again (reads (attribute e.1)) (λ new. read_fields named entry finish new k) r c.2 (subst (λ xs. After (read_fields named entry finish (set (seen v)) xs) next r) (c.0 ∙ a.0) rest))))
+
+  -- a field's fault is the struct's
+  pub field_fails : {T B : Type 0} (seen : T → B) (reads : Source → Answer B) (set : B → S) (f : F) (l3 : List Entry) (p3 : Option Source) (x : E)
+      → ((a : Av) → entry f so_far a ≡ (reads (attribute a) >>= λ y. answer.value (set y)))
+      → Leads so_far l → NextKey fault (NamesOne named) l p l2 p2 (Ok (Some f)) → NextValue {V = T} fault (λ s. Gives seen (reads s)) l2 p2 l3 p3 (Err x)
+      → (fault x ≡ out_of_memory) ⊎ After (read_fields named entry finish start es) next (Err (fault x))
+  unfolding LeadsTo read_fields
+  field_fails {T} {B} seen reads set f l3 p3 x is h key value = along l h key
+    where
+      again : (y : Answer B) (f : S → Answer A) → Gives seen y (Err (fault x)) → After ((y >>= λ z. answer.value (set z)) >>= f) next (Err (fault x))
+      again (answer.value z) f given = absurd given
+      again (answer.fault g) f given = ap Err (err_same {W = T} (fault x) g given)
+      again answer.refused f given = given
+
+      along : (k : List Entry) → LeadsTo next (read_fields named entry finish so_far k) (read_fields named entry finish start es) → NextKey fault (NamesOne named) k p l2 p2 (Ok (Some f))
+          → (fault x ≡ out_of_memory) ⊎ After (read_fields named entry finish start es) next (Err (fault x))
+      along [] h a = cc
+      along (e ∷ k) h a =
+          let c = subst (λ w. NextValue {V = T} fault (λ s. Gives seen (reads s)) l2 w l3 p3 (Err x)) a.1 value in
+          let name : f ≡ named e.0 = ok_same f (named e.0) a.2 in
+          elim c.2 [
+            | inl lacks ↦ inl lacks
+            | inr failed ↦ inr (h (Err (fault x)) (subst (λ g. After (entry g so_far e.1 >>= λ new. read_fields named entry finish new k) next (Err (fault x))) name
+                (subst (λ y. After (y >>= λ new. read_fields named entry finish new k) next (Err (fault x))) (sym (is e.1))
+                (again (reads (attribute e.1)) (λ new. read_fields named entry finish new k) failed))))
+          ]
+
+  -- a key is read from every text
+  pub key_lacks : (x : E) → NextKey {V = F} fault (NamesOne named) l p l2 p2 (Err x) → fault x ≡ out_of_memory
+  key_lacks x a = along l a
+    where
+      along : (k : List Entry) → NextKey {V = F} fault (NamesOne named) k p l2 p2 (Err x) → fault x ≡ out_of_memory
+      along [] a = cc
+      along (e ∷ k) a = elim a.2 [ inl lacks ↦ lacks | inr failed ↦ cc ]
+
+  -- after the last entry the struct is made
+  pub fields_end : (r : Result V Fault) → Leads so_far l → NextKey fault (NamesOne named) l p l2 p2 (Ok None) → After (finish so_far) next r → After (read_fields named entry finish start es) next r
+  unfolding LeadsTo read_fields
+  fields_end r h a k = along l h a
+    where
+      along : (j : List Entry) → LeadsTo next (read_fields named entry finish so_far j) (read_fields named entry finish start es) → NextKey fault (NamesOne named) j p l2 p2 (Ok None)
+          → After (read_fields named entry finish start es) next r
+      along [] h a = h r k
+      along (e ∷ j) h a = absurd a.2
+
+  -- an entry that was read is gone
+  pub entry_falls : {T : Type 0} (reads : Source → Result T Fault → Type 0) (f : F) (l3 : List Entry) (p3 : Option Source) (v : T) → NextKey fault (NamesOne named) l p l2 p2 (Ok (Some f)) → NextValue fault reads l2 p2 l3 p3 (Ok v) → length l3 < length l
+  entry_falls reads f l3 p3 v a b = along l a
+    where
+      along : (k : List Entry) → NextKey fault (NamesOne named) k p l2 p2 (Ok (Some f)) → length l3 < length k
+      along [] a = cc
+      along (e ∷ k) a = let c = subst (λ w. NextValue fault reads l2 w l3 p3 (Ok v)) a.1 b in rw (c.0, a.0) (omega arith)
+
+pub fields_start : {A V : Type 0} (next : A → Result V Fault → Type 0) (x : Answer A) → LeadsTo next x x
+unfolding LeadsTo
+fields_start next x r h = h

@@ -1,0 +1,5 @@
+pub mod Characters
+pub mod Integers
+pub mod Single
+pub mod Sorted
+pub mod Views

@@ -1,0 +1,32 @@
+-- What the accesses to lists, items and variants have left.
+use Rattle.std.specs.Prelude.{ℕ, List, Option, Some, Result}
+use Rattle.dynamo_value.specs.Fault.{Fault}
+use Rattle.dynamo_value.specs.View.{members_view}
+use Rattle.dynamo_de.specs.Shows.{content_of}
+use Rattle.dynamo_de.specs.Sight.{single}
+use Rattle.dynamo_de.specs.Source.{Source, Entry}
+use Rattle.dynamo_read.specs.Reader.{source_of}
+use Rattle.dynamo_read.specs.Unread.{elements_left, entries_left}
+use Rattle.dynamo_read.specs.declared.deserializer_seq.DeserializerSeq.{DeserializerSeq}
+use Rattle.dynamo_read.specs.declared.deserializer_map.DeserializerMap.{DeserializerMap}
+use Rattle.dynamo_read.specs.declared.deserializer_enum.DeserializerEnum.{DeserializerEnum}
+use Rattle.dynamo_read.specs.declared.deserializer_enum.DeserializerVariant.{DeserializerVariant}
+
+-- the sources of the elements of a list that are left
+abbrev pub seq_left : DeserializerSeq → List Source
+seq_left a = elements_left a.elements
+
+-- the entries of an item that are left, and the source of a value whose key was read
+abbrev pub map_left : DeserializerMap → List Entry
+map_left a = entries_left a.entries
+
+abbrev pub map_pending : DeserializerMap → Option Source
+map_pending a = content_of source_of a.pending
+
+-- the variant's name and the source of its content, or the fault of asking for it
+abbrev pub enum_chosen : DeserializerEnum → Result (List ℕ × Option Source) Fault
+enum_chosen a = single (members_view a.item.entries)
+
+-- the source of the variant's content
+abbrev pub variant_content : DeserializerVariant → Option Source
+variant_content a = Some (source_of a.content)

@@ -1,0 +1,15 @@
+pub use Rattle.dynamo_value.specs.Av
+pub use Rattle.dynamo_value.specs.Fault
+pub use Rattle.dynamo_value.specs.Item
+pub use Rattle.dynamo_value.specs.Kind
+pub use Rattle.dynamo_value.specs.View
+pub use Rattle.dynamo_de.specs.Access
+pub use Rattle.dynamo_de.specs.Meets
+pub use Rattle.dynamo_de.specs.Reads
+pub use Rattle.dynamo_de.specs.Shown
+pub use Rattle.dynamo_de.specs.Sight
+pub use Rattle.dynamo_de.specs.Source
+pub mod Accesses
+pub mod Entries
+pub mod Reader
+pub mod Unread

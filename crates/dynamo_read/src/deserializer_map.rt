@@ -1,0 +1,74 @@
+ghost use Rattle.std.specs.Prelude.{◌≡◌, [], length, Some, None, IfOk, IfErr, OnOk, OnErr};
+ghost use Rattle.dynamo_value.specs.Fault.{out_of_memory};
+ghost use Rattle.dynamo_value.specs.Kind.{fault_of};
+ghost use Rattle.dynamo_value.specs.View.{entries_view};
+ghost use Rattle.dynamo_de.specs.Access.{Hints};
+ghost use Rattle.dynamo_read.specs.Accesses.{map_left, map_pending};
+
+use crate::deserializer::Deserializer;
+use crate::unread::Entries;
+use dynamo_de::{DeserializeSeed, MapAccess, Reader};
+use dynamo_value::{AttributeValue, Error, Result};
+use std::alloc::Global;
+use std::collections::HashMap;
+
+/// The entries of an item in ascending order of the bytes of their keys, each read by a [`Deserializer`], and the value
+/// whose key was read last.
+#[derive(Drop)]
+pub struct DeserializerMap {
+    entries: Entries,
+    pending: Option<Deserializer>,
+}
+
+impl DeserializerMap {
+    /// The entries of this item, none of whose values is pending. All leave the item, which is empty then. Their list and
+    /// what is read take their memory from `alloc`.
+    ///
+    /// Where no memory is found for the list, the error is [`OutOfMemory`](dynamo_value::ErrorImpl::OutOfMemory), and the
+    /// item holds what it held.
+    pub fn from_item(alloc: Global, item: &mut HashMap<String, AttributeValue>) -> Result<Self>
+        ensures left { IfOk result (λ map. map_left map ≡ entries_view item.old.entries) }
+        ensures pending { IfOk result (λ map. map_pending map ≡ None) }
+        ensures empty { OnOk result (item.new.entries ≡ []) }
+        ensures err { IfErr result (λ e. fault_of e ≡ out_of_memory) }
+        ensures unchanged { OnErr result (item.new ≡ item.old) }
+    {
+        Ok(DeserializerMap {
+            entries: Entries::take(alloc, item)?,
+            pending: None,
+        })
+    }
+}
+
+impl MapAccess for DeserializerMap {
+    type Error = Error;
+
+    ghost left = { map_left };
+
+    ghost pending = { map_pending };
+
+    fn next_key_seed<K: DeserializeSeed>(&mut self, seed: K) -> Result<Option<K::Value>> {
+        match Deserializer::next_entry(&mut self.entries) {
+            None => Ok(None),
+            Some((key, value)) => {
+                self.pending = Some(value);
+                Ok(Some(seed.deserialize(key)?))
+            }
+        }
+    }
+
+    fn next_value_seed<V: DeserializeSeed>(&mut self, seed: V) -> Result<V::Value> {
+        match self.pending.take() {
+            None => Err(Deserializer::value_before_key()),
+            Some(value) => seed.deserialize(value),
+        }
+    }
+
+    /// How many entries are left, exactly.
+    fn size_hint(&self) -> Option<usize>
+        ensures hint { Hints (map_left self.now) result }
+        ensures exact { result ≡ Some (length (map_left self.now)) }
+    {
+        Deserializer::entries_left(&self.entries)
+    }
+}

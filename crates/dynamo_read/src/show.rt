@@ -1,0 +1,233 @@
+ghost use Rattle.std.specs.Prelude.{◌≡◌, Some, string_bytes};
+ghost use Rattle.std.specs.Str.{chars};
+ghost use Rattle.dynamo_value.specs.Integer.{IntegerKind};
+ghost use Rattle.dynamo_value.specs.Kind.{fault_of};
+ghost use Rattle.dynamo_value.specs.View.{view};
+ghost use Rattle.dynamo_de.specs.Shown.{any_shown, num_shown, bool_shown, char_shown, chars_shown, text_shown, bytes_shown, option_shown, null_shown, seq_shown, map_shown, struct_shown, enum_shown, attribute_shown, number_text_shown, key_shown, plain_text_shown};
+ghost use Rattle.dynamo_de.specs.Shows.{seen};
+ghost use Rattle.dynamo_leaf.specs.Leaf.{leaf_sight, asked};
+ghost use Rattle.dynamo_read.specs.Reader.{source_of, IsShown};
+ghost use Rattle.dynamo_read.specs.Unread.{elements_left, entries_left, chosen_of};
+
+use crate::deserializer::Deserializer;
+use crate::unread::{Choice, Elements, Entries};
+use dynamo_de::{Request, Showing};
+use dynamo_leaf::{Leaf, raise, show_key, show_number, show_plain_text};
+use dynamo_value::{AttributeValue, Error, ErrorImpl, Result};
+use std::alloc::Global;
+use std::collections::HashMap;
+
+pub(crate) type Shown = Showing<Deserializer, Elements, Entries, Choice>;
+
+// What an attribute value shows at each request.
+pub(crate) fn attribute_value(
+    alloc: Global,
+    request: Request,
+    value: AttributeValue,
+) -> Result<Shown>
+    ensures { IsShown (attribute_shown request (view value)) result }
+{
+    match request {
+        Request::Any | Request::IgnoredAny => any(alloc, value),
+        Request::Bool => boolean(value),
+        Request::I8
+        | Request::I16
+        | Request::I32
+        | Request::I64
+        | Request::I128
+        | Request::U8
+        | Request::U16
+        | Request::U32
+        | Request::U64
+        | Request::U128 => number(alloc, request, value),
+        Request::Char => character(value),
+        Request::Str | Request::String | Request::Identifier => text(value),
+        Request::Bytes | Request::ByteBuf => bytes(value),
+        Request::Option => option(alloc, value),
+        Request::Unit => null(ErrorImpl::ExpectedUnit, value),
+        Request::UnitStruct => null(ErrorImpl::ExpectedUnitStruct, value),
+        Request::NewtypeStruct => Ok(Showing::Newtype(Deserializer::from_attribute_value(
+            alloc, value,
+        ))),
+        Request::Seq | Request::Tuple | Request::TupleStruct => sequence(alloc, value),
+        Request::Map => map(alloc, value),
+        Request::Struct => structure(alloc, value),
+        Request::Enum => enumeration(alloc, value),
+    }
+}
+
+// Whatever is there.
+fn any(alloc: Global, value: AttributeValue) -> Result<Shown>
+    ensures { IsShown (any_shown (view value)) result }
+{
+    match value {
+        AttributeValue::N(text) => number_text(alloc, Request::Any, text),
+        AttributeValue::S(text) => Ok(Showing::Text(text)),
+        AttributeValue::Bool(b) => Ok(Showing::Bool(b)),
+        AttributeValue::B(bytes) => Ok(Showing::Bytes(bytes)),
+        AttributeValue::Null(true) => Ok(Showing::Unit),
+        AttributeValue::Null(false) => Err(Error::from(ErrorImpl::ExpectedUnit)),
+        AttributeValue::M(map) => Ok(Showing::Map(Entries::of_map(alloc, map)?)),
+        list_or_set => sequence(alloc, list_or_set),
+    }
+}
+
+// An integer of the kind that is asked for.
+fn number(alloc: Global, request: Request, value: AttributeValue) -> Result<Shown>
+    ensures { (kind : IntegerKind) → asked request ≡ Some kind → IsShown (num_shown kind (view value)) result }
+{
+    match value {
+        AttributeValue::N(text) => number_text(alloc, request, text),
+        _other => Err(Error::from(ErrorImpl::ExpectedNum)),
+    }
+}
+
+// A boolean.
+fn boolean(value: AttributeValue) -> Result<Shown>
+    ensures { IsShown (bool_shown (view value)) result }
+{
+    match value {
+        AttributeValue::Bool(b) => Ok(Showing::Bool(b)),
+        _other => Err(Error::from(ErrorImpl::ExpectedBool)),
+    }
+}
+
+// The one character of a string.
+fn character(value: AttributeValue) -> Result<Shown>
+    ensures { IsShown (char_shown (view value)) result }
+{
+    match value {
+        AttributeValue::S(text) => only_char(text.as_str()),
+        _other => Err(Error::from(ErrorImpl::ExpectedChar)),
+    }
+}
+
+// The one character of a text; the first where there are more, which a visitor may refuse for what it is.
+#[tactic(auto, using(crate::proofs::Characters::only_one, crate::proofs::Characters::first_of_more))]
+fn only_char(text: &str) -> Result<Shown>
+    ensures { IsShown (chars_shown (chars text.now)) result }
+{
+    let mut chars = text.chars();
+    let Some(first) = chars.next() else {
+        return Err(Error::from(ErrorImpl::ExpectedChar));
+    };
+    match chars.next() {
+        None => Ok(Showing::Char(first)),
+        Some(_) => Ok(Showing::FirstChar(first)),
+    }
+}
+
+// A string.
+fn text(value: AttributeValue) -> Result<Shown>
+    ensures { IsShown (text_shown (view value)) result }
+{
+    match value {
+        AttributeValue::S(text) => Ok(Showing::Text(text)),
+        _other => Err(Error::from(ErrorImpl::ExpectedString)),
+    }
+}
+
+// A byte string.
+fn bytes(value: AttributeValue) -> Result<Shown>
+    ensures { IsShown (bytes_shown (view value)) result }
+{
+    match value {
+        AttributeValue::B(bytes) => Ok(Showing::Bytes(bytes)),
+        _other => Err(Error::from(ErrorImpl::ExpectedBytes)),
+    }
+}
+
+// An option: none where `NULL` is true, and else the same value as its content, also where `NULL` is false.
+fn option(alloc: Global, value: AttributeValue) -> Result<Shown>
+    ensures { IsShown (option_shown (view value)) result }
+{
+    match value {
+        AttributeValue::Null(true) => Ok(Showing::None),
+        content => Ok(Showing::Some(Deserializer::from_attribute_value(alloc, content))),
+    }
+}
+
+// Null, or the fault.
+fn null(otherwise: ErrorImpl, value: AttributeValue) -> Result<Shown>
+    ensures { IsShown (null_shown (fault_of otherwise) (view value)) result }
+{
+    match value {
+        AttributeValue::Null(true) => Ok(Showing::Unit),
+        _other => Err(Error::from(otherwise)),
+    }
+}
+
+// A list, or a set of whatever kind.
+fn sequence(alloc: Global, value: AttributeValue) -> Result<Shown>
+    ensures { IsShown (seq_shown (view value)) result }
+{
+    match value {
+        AttributeValue::L(values) => Ok(Showing::Sequence(Elements::values(alloc, values))),
+        AttributeValue::Ss(texts) => Ok(Showing::Sequence(Elements::texts(alloc, texts))),
+        AttributeValue::Ns(numbers) => Ok(Showing::Sequence(Elements::numbers(alloc, numbers))),
+        AttributeValue::Bs(byte_strings) => Ok(Showing::Sequence(Elements::byte_strings(
+            alloc,
+            byte_strings,
+        ))),
+        _other => Err(Error::from(ErrorImpl::ExpectedSeq)),
+    }
+}
+
+// A map.
+fn map(alloc: Global, value: AttributeValue) -> Result<Shown>
+    ensures { IsShown (map_shown (view value)) result }
+{
+    match value {
+        AttributeValue::M(map) => Ok(Showing::Map(Entries::of_map(alloc, map)?)),
+        _other => Err(Error::from(ErrorImpl::ExpectedMap)),
+    }
+}
+
+// A map, or a list with the fields in order; no set.
+fn structure(alloc: Global, value: AttributeValue) -> Result<Shown>
+    ensures { IsShown (struct_shown (view value)) result }
+{
+    match value {
+        AttributeValue::L(values) => Ok(Showing::Sequence(Elements::values(alloc, values))),
+        map_or_other => map(alloc, map_or_other),
+    }
+}
+
+// A variant, by its name alone or by a map of its name to its content.
+fn enumeration(alloc: Global, value: AttributeValue) -> Result<Shown>
+    ensures { IsShown (enum_shown (view value)) result }
+{
+    match value {
+        AttributeValue::S(name) => Ok(Showing::Enum(Choice::name(alloc, name))),
+        AttributeValue::M(map) => Ok(Showing::Enum(Choice::map(alloc, map))),
+        _other => Err(Error::from(ErrorImpl::ExpectedEnum)),
+    }
+}
+
+// What the text of a number shows.
+pub(crate) fn number_text(alloc: Global, request: Request, text: String) -> Result<Shown>
+    ensures { IsShown (number_text_shown request (string_bytes text)) result }
+{
+    Ok(of_leaf(alloc, show_number(request, text)?))
+}
+
+// What the key of a map shows.
+pub(crate) fn key_text(alloc: Global, request: Request, text: String) -> Result<Shown>
+    ensures { IsShown (key_shown request (string_bytes text)) result }
+{
+    Ok(of_leaf(alloc, show_key(request, text)?))
+}
+
+// What a plain text shows.
+pub(crate) fn plain_text(alloc: Global, request: Request, text: String) -> Result<Shown>
+    ensures { IsShown (plain_text_shown request (string_bytes text)) result }
+{
+    Ok(of_leaf(alloc, show_plain_text(request, text)?))
+}
+
+// What a single text shows, with readers round what lies inside.
+fn of_leaf(alloc: Global, leaf: Leaf) -> Shown
+    ensures { seen source_of elements_left entries_left chosen_of result ≡ leaf_sight leaf }
+{
+    raise::<Deserializer, Elements, Entries>(alloc, leaf)
+}

@@ -1,0 +1,162 @@
+-- What the samples read, told as data.
+use Rattle.std.specs.Prelude.{ℕ, ℤ, List, Option, Some, None, Result, bytes_eq, codes, if◌then◌else◌}
+use Rattle.dynamo_value.specs.Av.{Av}
+use Rattle.dynamo_value.specs.Fault.{Fault}
+use Rattle.dynamo_value.specs.Integer.{u8, u64}
+use Rattle.dynamo_ser.specs.Datum as datum
+use Rattle.dynamo_ser.specs.Datum.{Datum}
+use Rattle.dynamo_de.specs.Answer as answer
+use Rattle.dynamo_de.specs.Answer.{Answer, ◌>>=◌, Gives}
+use Rattle.dynamo_de.specs.Contents.{Parts, by_name, in_order, read_elements, read_entries}
+use Rattle.dynamo_de.specs.Fields.{read_first, read_fields, read_all}
+use Rattle.dynamo_de.specs.Ignored.{read_ignored}
+use Rattle.dynamo_de.specs.Scalars.{read_string, read_bytes, read_integer}
+use Rattle.dynamo_de.specs.Source.{Source, Entry, attribute}
+use Rattle.serde_dynamo.specs.Samples.{user_of, user_told, event_unit, event_newtype, event_tuple, event_structy, event_told, sets_of, sets_told}
+use Rattle.serde_dynamo.specs.declared.samples.event.Event.{Event}
+use Rattle.serde_dynamo.specs.declared.samples.event.Field as structy
+use Rattle.serde_dynamo.specs.declared.samples.event.Tag as event
+use Rattle.serde_dynamo.specs.declared.samples.sets.Field as sets
+use Rattle.serde_dynamo.specs.declared.samples.sets.Sets.{Sets}
+use Rattle.serde_dynamo.specs.declared.samples.user.Field as user
+use Rattle.serde_dynamo.specs.declared.samples.user.User.{User}
+
+-- ---- a user
+
+abbrev pub user_field : List ℕ → user.Field
+user_field t = if bytes_eq t (codes "id") then user.Field.Id else if bytes_eq t (codes "name") then user.Field.Name else if bytes_eq t (codes "age") then user.Field.Age else user.Field.Other
+
+-- the fields that were read so far
+pub record UserFields : Type 0 where
+  pub id : Option (List ℕ)
+  pub name : Option (List ℕ)
+  pub age : Option ℤ
+
+abbrev pub no_user : UserFields
+no_user = record { id = None; name = None; age = None }
+
+-- an entry of a field is read by its type, and any other is ignored
+abbrev pub user_entry : user.Field → UserFields → Av → Answer UserFields
+user_entry user.Field.Id u a = read_string (attribute a) >>= λ t. answer.value (record { id = Some t; name = u.name; age = u.age })
+user_entry user.Field.Name u a = read_string (attribute a) >>= λ t. answer.value (record { id = u.id; name = Some t; age = u.age })
+user_entry user.Field.Age u a = read_integer u8 (attribute a) >>= λ n. answer.value (record { id = u.id; name = u.name; age = Some n })
+user_entry user.Field.Other u a = read_ignored (attribute a) >>= λ _. answer.value u
+
+abbrev pub whole_user : Option (List ℕ) → Option (List ℕ) → Option ℤ → Answer Datum
+whole_user (Some id) (Some name) (Some age) = answer.value (user_of id name age)
+whole_user _ _ _ = answer.refused
+
+abbrev pub finish_user : UserFields → Answer Datum
+finish_user u = whole_user u.id u.name u.age
+
+-- a missing field is refused after the last entry
+abbrev pub user_by_name : List Entry → Answer Datum
+user_by_name es = read_fields user_field user_entry finish_user no_user es
+
+abbrev pub user_in_order : List Source → Answer Datum
+user_in_order ss = read_first read_string ss (λ id ss. read_first read_string ss (λ name ss. read_first (read_integer u8) ss (λ age _. answer.value (user_of id name age))))
+
+abbrev pub user_parts : Parts → Answer Datum
+user_parts (by_name es) = user_by_name es
+user_parts (in_order ss) = user_in_order ss
+
+abbrev pub user_from_parts : Parts → Result User Fault → Type 0
+user_from_parts p r = Gives user_told (user_parts p) r
+
+-- ---- an event
+
+abbrev pub event_tag : List ℕ → event.Tag
+event_tag t = if bytes_eq t (codes "Unit") then event.Tag.Unit else if bytes_eq t (codes "Newtype") then event.Tag.Newtype else if bytes_eq t (codes "Tuple") then event.Tag.Tuple else if bytes_eq t (codes "Structy") then event.Tag.Structy else event.Tag.Other
+
+abbrev pub structy_field : List ℕ → structy.Field
+structy_field t = if bytes_eq t (codes "one") then structy.Field.One else if bytes_eq t (codes "two") then structy.Field.Two else structy.Field.Other
+
+pub record StructyFields : Type 0 where
+  pub one : Option ℤ
+  pub two : Option ℤ
+
+abbrev pub no_structy : StructyFields
+no_structy = record { one = None; two = None }
+
+abbrev pub structy_entry : structy.Field → StructyFields → Av → Answer StructyFields
+structy_entry structy.Field.One u a = read_integer u8 (attribute a) >>= λ n. answer.value (record { one = Some n; two = u.two })
+structy_entry structy.Field.Two u a = read_integer u8 (attribute a) >>= λ n. answer.value (record { one = u.one; two = Some n })
+structy_entry structy.Field.Other u a = read_ignored (attribute a) >>= λ _. answer.value u
+
+abbrev pub whole_structy : Option ℤ → Option ℤ → Answer Datum
+whole_structy (Some one) (Some two) = answer.value (event_structy one two)
+whole_structy _ _ = answer.refused
+
+abbrev pub finish_structy : StructyFields → Answer Datum
+finish_structy u = whole_structy u.one u.two
+
+abbrev pub structy_by_name : List Entry → Answer Datum
+structy_by_name es = read_fields structy_field structy_entry finish_structy no_structy es
+
+abbrev pub tuple_in_order : List Source → Answer Datum
+tuple_in_order ss = read_first (read_integer u8) ss (λ a ss. read_first (read_integer u8) ss (λ b _. answer.value (event_tuple a b)))
+
+-- where a variant has no content, none can be read
+abbrev pub of_content : (Source → Answer Datum) → Option Source → Answer Datum
+of_content reads None = answer.refused
+of_content reads (Some s) = reads s
+
+-- a unit variant needs nothing of its content
+abbrev pub event_content : event.Tag → Option Source → Answer Datum
+event_content event.Tag.Unit c = answer.value event_unit
+event_content event.Tag.Newtype c = of_content (λ s. read_integer u8 s >>= λ n. answer.value (event_newtype n)) c
+event_content event.Tag.Tuple c = of_content (λ s. read_elements s >>= tuple_in_order) c
+event_content event.Tag.Structy c = of_content (λ s. read_entries s >>= structy_by_name) c
+event_content event.Tag.Other c = answer.refused
+
+abbrev pub event_from_variant : List ℕ × Option Source → Result Event Fault → Type 0
+event_from_variant v r = Gives event_told (event_content (event_tag v.0) v.1) r
+
+-- ---- three sets
+
+abbrev pub sets_field : List ℕ → sets.Field
+sets_field t = if bytes_eq t (codes "names") then sets.Field.Names else if bytes_eq t (codes "numbers") then sets.Field.Numbers else if bytes_eq t (codes "blobs") then sets.Field.Blobs else sets.Field.Other
+
+pub record SetsFields : Type 0 where
+  pub names : Option (List Datum)
+  pub numbers : Option (List Datum)
+  pub blobs : Option (List Datum)
+
+abbrev pub no_sets : SetsFields
+no_sets = record { names = None; numbers = None; blobs = None }
+
+-- each of the three reads as a list does
+abbrev pub read_names : Source → Answer (List Datum)
+read_names s = read_elements s >>= read_all (λ s. read_string s >>= λ t. answer.value (datum.string t))
+
+abbrev pub read_numbers : Source → Answer (List Datum)
+read_numbers s = read_elements s >>= read_all (λ s. read_integer u64 s >>= λ n. answer.value (datum.integer u64 n))
+
+abbrev pub read_blobs : Source → Answer (List Datum)
+read_blobs s = read_elements s >>= read_all (λ s. read_bytes s >>= λ bytes. answer.value (datum.bytes bytes))
+
+abbrev pub sets_entry : sets.Field → SetsFields → Av → Answer SetsFields
+sets_entry sets.Field.Names u a = read_names (attribute a) >>= λ ds. answer.value (record { names = Some ds; numbers = u.numbers; blobs = u.blobs })
+sets_entry sets.Field.Numbers u a = read_numbers (attribute a) >>= λ ds. answer.value (record { names = u.names; numbers = Some ds; blobs = u.blobs })
+sets_entry sets.Field.Blobs u a = read_blobs (attribute a) >>= λ ds. answer.value (record { names = u.names; numbers = u.numbers; blobs = Some ds })
+sets_entry sets.Field.Other u a = read_ignored (attribute a) >>= λ _. answer.value u
+
+abbrev pub whole_sets : Option (List Datum) → Option (List Datum) → Option (List Datum) → Answer Datum
+whole_sets (Some names) (Some numbers) (Some blobs) = answer.value (sets_of names numbers blobs)
+whole_sets _ _ _ = answer.refused
+
+abbrev pub finish_sets : SetsFields → Answer Datum
+finish_sets u = whole_sets u.names u.numbers u.blobs
+
+abbrev pub sets_by_name : List Entry → Answer Datum
+sets_by_name es = read_fields sets_field sets_entry finish_sets no_sets es
+
+abbrev pub sets_in_order : List Source → Answer Datum
+sets_in_order ss = read_first read_names ss (λ names ss. read_first read_numbers ss (λ numbers ss. read_first read_blobs ss (λ blobs _. answer.value (sets_of names numbers blobs))))
+
+abbrev pub sets_parts : Parts → Answer Datum
+sets_parts (by_name es) = sets_by_name es
+sets_parts (in_order ss) = sets_in_order ss
+
+abbrev pub sets_from_parts : Parts → Result Sets Fault → Type 0
+sets_from_parts p r = Gives sets_told (sets_parts p) r

@@ -1,0 +1,8 @@
+//! The traits of the reading side, as serde's `de`. They stand in a module of their own, since `Deserializer` and `Error`
+//! are also the names of types.
+
+pub use dynamo_de::{
+    Deserialize, DeserializeSeed, Deserializer, EnumAccess, Error, IgnoredAny, Kind, MapAccess,
+    Reader, ReaderEnumAccess, ReaderMapAccess, ReaderSeqAccess, ReaderVariantAccess, Request,
+    SeqAccess, Showing, TypeSeed, VariantAccess, Visitor,
+};
