@@ -27,8 +27,8 @@ pub enum Kind {
 }
 
 impl Kind {
-    /// The kind, as the text of a refusal names it.
-    pub fn name(self) -> &'static str {
+    // The kind, as the text of a refusal names it.
+    pub(crate) fn name(self) -> &'static str {
         match self {
             Kind::Bool => "boolean",
             Kind::I8

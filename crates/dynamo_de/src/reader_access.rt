@@ -17,6 +17,13 @@ impl<R: Reader> ReaderSeqAccess<R> {
     {
         ReaderSeqAccess { elements }
     }
+
+    /// The elements that aren't read yet, lent.
+    pub fn elements(&self) -> &R::Elements
+        ensures { result.now ≡ self.now.elements }
+    {
+        &self.elements
+    }
 }
 
 impl<R: Reader> SeqAccess for ReaderSeqAccess<R> {
@@ -56,6 +63,13 @@ impl<R: Reader> ReaderMapAccess<R> {
             entries,
             pending: None,
         }
+    }
+
+    /// The entries that aren't read yet, lent.
+    pub fn entries(&self) -> &R::Entries
+        ensures { result.now ≡ self.now.entries }
+    {
+        &self.entries
     }
 }
 

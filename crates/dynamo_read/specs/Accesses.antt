@@ -14,14 +14,14 @@ use Rattle.dynamo_read.specs.declared.deserializer_enum.DeserializerVariant.{Des
 
 -- the sources of the elements of a list that are left
 abbrev pub seq_left : DeserializerSeq → List Source
-seq_left a = elements_left a.elements
+seq_left a = elements_left a.access.elements
 
 -- the entries of an item that are left, and the source of a value whose key was read
 abbrev pub map_left : DeserializerMap → List Entry
-map_left a = entries_left a.entries
+map_left a = entries_left a.access.entries
 
 abbrev pub map_pending : DeserializerMap → Option Source
-map_pending a = content_of source_of a.pending
+map_pending a = content_of source_of a.access.pending
 
 -- the variant's name and the source of its content, or the fault of asking for it
 abbrev pub enum_chosen : DeserializerEnum → Result (List ℕ × Option Source) Fault

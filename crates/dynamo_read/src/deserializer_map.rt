@@ -7,7 +7,7 @@ ghost use Rattle.dynamo_read.specs.Accesses.{map_left, map_pending};
 
 use crate::deserializer::Deserializer;
 use crate::unread::Entries;
-use dynamo_de::{DeserializeSeed, MapAccess, Reader};
+use dynamo_de::{DeserializeSeed, MapAccess, Reader, ReaderMapAccess};
 use dynamo_value::{AttributeValue, Error, Result};
 use std::alloc::Global;
 use std::collections::HashMap;
@@ -16,8 +16,7 @@ use std::collections::HashMap;
 /// whose key was read last.
 #[derive(Drop)]
 pub struct DeserializerMap {
-    entries: Entries,
-    pending: Option<Deserializer>,
+    access: ReaderMapAccess<Deserializer>,
 }
 
 impl DeserializerMap {
@@ -34,8 +33,7 @@ impl DeserializerMap {
         ensures unchanged { OnErr result (item.new ≡ item.old) }
     {
         Ok(DeserializerMap {
-            entries: Entries::take(alloc, item)?,
-            pending: None,
+            access: ReaderMapAccess::new(Entries::take(alloc, item)?),
         })
     }
 }
@@ -48,20 +46,11 @@ impl MapAccess for DeserializerMap {
     ghost pending = { map_pending };
 
     fn next_key_seed<K: DeserializeSeed>(&mut self, seed: K) -> Result<Option<K::Value>> {
-        match Deserializer::next_entry(&mut self.entries) {
-            None => Ok(None),
-            Some((key, value)) => {
-                self.pending = Some(value);
-                Ok(Some(seed.deserialize(key)?))
-            }
-        }
+        self.access.next_key_seed(seed)
     }
 
     fn next_value_seed<V: DeserializeSeed>(&mut self, seed: V) -> Result<V::Value> {
-        match self.pending.take() {
-            None => Err(Deserializer::value_before_key()),
-            Some(value) => seed.deserialize(value),
-        }
+        self.access.next_value_seed(seed)
     }
 
     /// How many entries are left, exactly.
@@ -69,6 +58,6 @@ impl MapAccess for DeserializerMap {
         ensures hint { Hints (map_left self.now) result }
         ensures exact { result ≡ Some (length (map_left self.now)) }
     {
-        Deserializer::entries_left(&self.entries)
+        Deserializer::entries_left(self.access.entries())
     }
 }

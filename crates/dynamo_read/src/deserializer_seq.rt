@@ -6,14 +6,14 @@ ghost use Rattle.dynamo_read.specs.Accesses.{seq_left};
 
 use crate::deserializer::Deserializer;
 use crate::unread::Elements;
-use dynamo_de::{DeserializeSeed, Reader, SeqAccess};
+use dynamo_de::{DeserializeSeed, Reader, ReaderSeqAccess, SeqAccess};
 use dynamo_value::{AttributeValue, Error, Result};
 use std::alloc::Global;
 
 /// The elements of a list, each read by a [`Deserializer`].
 #[derive(Drop)]
 pub struct DeserializerSeq {
-    elements: Elements,
+    access: ReaderSeqAccess<Deserializer>,
 }
 
 impl DeserializerSeq {
@@ -22,7 +22,7 @@ impl DeserializerSeq {
         ensures { seq_left result ≡ values_of (elements_view values.items) }
     {
         DeserializerSeq {
-            elements: Elements::values(alloc, values),
+            access: ReaderSeqAccess::new(Elements::values(alloc, values)),
         }
     }
 }
@@ -33,10 +33,7 @@ impl SeqAccess for DeserializerSeq {
     ghost left = { seq_left };
 
     fn next_element_seed<T: DeserializeSeed>(&mut self, seed: T) -> Result<Option<T::Value>> {
-        match Deserializer::next_element(&mut self.elements) {
-            None => Ok(None),
-            Some(element) => Ok(Some(seed.deserialize(element)?)),
-        }
+        self.access.next_element_seed(seed)
     }
 
     /// How many elements are left, exactly.
@@ -44,6 +41,6 @@ impl SeqAccess for DeserializerSeq {
         ensures hint { Hints (seq_left self.now) result }
         ensures exact { result ≡ Some (length (seq_left self.now)) }
     {
-        Deserializer::elements_left(&self.elements)
+        Deserializer::elements_left(self.access.elements())
     }
 }
