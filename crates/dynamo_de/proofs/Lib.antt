@@ -7,4 +7,5 @@ pub mod Ignored
 pub mod Integers
 pub mod Meets
 pub mod Pairs
+pub mod Rows
 pub mod Scalars
