@@ -4,7 +4,7 @@ ghost use Rattle.serde_dynamo.specs.Datum as datum;
 use serde_dynamo::ser::{Serialize, SerializeStruct, SerializeTupleStruct, Serializer};
 
 /// `struct UnitStruct;`.
-#[derive(Clone, Copy, PartialEq, Eq, Hash)]
+#[derive(Clone, Copy, Debug, Drop, PartialEq, Eq, Hash)]
 pub struct UnitStruct;
 
 impl Serialize for UnitStruct {
@@ -32,7 +32,7 @@ impl Serialize for Empty {
 }
 
 /// `struct Name(String)`, a newtype.
-#[derive(Drop, PartialEq, Eq, Hash)]
+#[derive(Debug, Drop, PartialEq, Eq, Hash)]
 pub struct Name(pub String);
 
 impl Serialize for Name {

@@ -5,7 +5,21 @@
 #[cfg(test)]
 mod builders;
 #[cfg(test)]
+mod by_hand;
+#[cfg(test)]
+mod careless;
+#[cfg(test)]
+mod content_rows;
+#[cfg(test)]
+mod elements;
+#[cfg(test)]
+mod entries;
+#[cfg(test)]
 mod faults;
+#[cfg(test)]
+mod floats;
+#[cfg(test)]
+mod idle;
 #[cfg(test)]
 mod items;
 #[cfg(test)]
@@ -13,14 +27,42 @@ mod kinds;
 #[cfg(test)]
 mod maps;
 #[cfg(test)]
+mod named;
+#[cfg(test)]
+mod notation;
+#[cfg(test)]
+mod options;
+#[cfg(test)]
+mod order;
+#[cfg(test)]
+mod pairs;
+#[cfg(test)]
+mod reading;
+#[cfg(test)]
+mod refusals;
+#[cfg(test)]
 mod refuses;
+#[cfg(test)]
+mod request_rows;
+#[cfg(test)]
+mod requests;
+#[cfg(test)]
+mod samples;
+#[cfg(test)]
+mod sequences;
 #[cfg(test)]
 mod sets;
 #[cfg(test)]
 mod show;
 #[cfg(test)]
+mod struct_rows;
+#[cfg(test)]
+mod teller;
+#[cfg(test)]
 mod tree;
 #[cfg(test)]
 mod values;
+#[cfg(test)]
+mod variants;
 #[cfg(test)]
 mod writing;

@@ -1,10 +1,13 @@
 use crate::kinds::Name;
+use crate::reading::{agrees, answer};
 use crate::refuses::Refuses;
-use crate::show;
 use crate::writing::writes;
+use crate::{notation, show};
 use serde_dynamo::{
-    BinarySet, ByteBuf, NumberSet, Serializer, StringSet, binary_set, number_set, string_set,
+    BinarySet, ByteBuf, Deserializer, NumberSet, Serializer, StringSet, binary_set, number_set,
+    string_set,
 };
+use std::alloc::Global;
 use std::test::Fail;
 
 #[test]
@@ -101,4 +104,44 @@ fn the_symbols_differ(rt: HostRuntime) {
     assert_ne!(rt; string_set::NEWTYPE_SYMBOL, number_set::NEWTYPE_SYMBOL);
     assert_ne!(rt; string_set::NEWTYPE_SYMBOL, binary_set::NEWTYPE_SYMBOL);
     assert_ne!(rt; number_set::NEWTYPE_SYMBOL, binary_set::NEWTYPE_SYMBOL);
+}
+
+// The reader of the attribute value of this text.
+fn reader(alloc: Global, text: &str) -> Result<Deserializer, Fail> {
+    let value = notation::value(alloc, text)?;
+    Ok(Deserializer::from_attribute_value(alloc, value))
+}
+
+#[test]
+fn the_functions_of_the_modules_read_sets(rt: HostRuntime) -> Result<(), Fail> {
+    let alloc = rt.alloc();
+    for texts in [r#"Ss ["a", "b"]"#, r#"L [S "a", S "b"]"#] {
+        let read: serde_dynamo::Result<Vec<String>> = string_set::deserialize(
+            alloc,
+            reader(alloc, texts)?,
+        );
+        assert_eq!(rt; answer(alloc, &read)?.as_str(), r#"["a", "b"]"#);
+    }
+    for numbers in [r#"Ns ["1", "2"]"#, r#"L [N "1", N "2"]"#] {
+        let read: serde_dynamo::Result<Vec<u8>> = number_set::deserialize(
+            alloc,
+            reader(alloc, numbers)?,
+        );
+        assert_eq!(rt; answer(alloc, &read)?.as_str(), "[1, 2]");
+    }
+    for blobs in ["Bs [[1], []]", "L [B [1], B []]"] {
+        let read: serde_dynamo::Result<Vec<ByteBuf>> = binary_set::deserialize(
+            alloc,
+            reader(alloc, blobs)?,
+        );
+        let bytes = "[ByteBuf { bytes: [1] }, ByteBuf { bytes: [] }]";
+        assert_eq!(rt; answer(alloc, &read)?.as_str(), bytes);
+    }
+    let read: serde_dynamo::Result<Vec<u8>> = number_set::deserialize(
+        alloc,
+        reader(alloc, r#"Ns ["1", "256"]"#)?,
+    );
+    let past = "Failed to parse '256' as an integer: ..";
+    assert!(rt; agrees(answer(alloc, &read)?.as_str(), past));
+    Ok(())
 }
