@@ -153,7 +153,7 @@ fn the_elements_of_a_set_are_read_without_a_count(rt: HostRuntime) -> Result<(),
     let mut seq = DeserializerSeqStrings::from_vec(alloc, texts);
     assert_eq!(rt; seq.size_hint(), None);
     let first: Option<String> = seq.next_element(alloc)?;
-    assert!(rt; matches!(first, Some(text) if text.as_str() == "a"));
+    assert!(rt; matches!(&first, Some(text) if text.as_str() == "a"));
     assert!(rt; seq.next_element::<String>(alloc)?.is_none());
 
     let numbers = vec![in alloc; String::from_str(alloc, "7")?]?;
@@ -166,7 +166,7 @@ fn the_elements_of_a_set_are_read_without_a_count(rt: HostRuntime) -> Result<(),
     let mut seq = DeserializerSeqBytes::from_vec(alloc, byte_strings);
     assert_eq!(rt; seq.size_hint(), None);
     let first: Option<String> = seq.next_element(alloc)?;
-    assert!(rt; matches!(first, Some(text) if text.as_str() == "ab"));
+    assert!(rt; matches!(&first, Some(text) if text.as_str() == "ab"));
     assert!(rt; seq.next_element::<String>(alloc)?.is_none());
     Ok(())
 }
