@@ -106,75 +106,29 @@ fn integers_read_to_the_ends_of_their_ranges(rt: HostRuntime) -> Result<(), Fail
     reads_back(&rt, alloc, 0_u8)
 }
 
+// The number of this text isn't read as the integer type, by a fault that holds the text.
+fn refuses<T: Deserialize + Debug>(rt: &impl Abort, alloc: Global, text: &str) -> Result<(), Fail> {
+    let source = format!(in alloc; "N \"{text}\"")?;
+    let fault = format!(in alloc; "Failed to parse '{text}' as an integer: ..")?;
+    reads::<T>(rt, alloc, source.as_str(), fault.as_str())
+}
+
 #[test]
 fn integers_past_their_range_are_refused(rt: HostRuntime) -> Result<(), Fail> {
     let alloc = rt.alloc();
-    reads::<i8>(
-        &rt,
-        alloc,
-        r#"N "128""#,
-        "Failed to parse '128' as an integer: ..",
-    )?;
-    reads::<i8>(
-        &rt,
-        alloc,
-        r#"N "-129""#,
-        "Failed to parse '-129' as an integer: ..",
-    )?;
-    reads::<i16>(
-        &rt,
-        alloc,
-        r#"N "32768""#,
-        "Failed to parse '32768' as an integer: ..",
-    )?;
-    reads::<i32>(
-        &rt,
-        alloc,
-        r#"N "2147483648""#,
-        "Failed to parse '2147483648' as an integer: ..",
-    )?;
-    let past = "Failed to parse '18446744073709551615' as an integer: ..";
-    reads::<i64>(&rt, alloc, r#"N "18446744073709551615""#, past)?;
-    let past = "Failed to parse '170141183460469231731687303715884105728' as an integer: ..";
-    reads::<i128>(
-        &rt,
-        alloc,
-        r#"N "170141183460469231731687303715884105728""#,
-        past,
-    )?;
-    reads::<u8>(
-        &rt,
-        alloc,
-        r#"N "256""#,
-        "Failed to parse '256' as an integer: ..",
-    )?;
-    reads::<u8>(
-        &rt,
-        alloc,
-        r#"N "-1""#,
-        "Failed to parse '-1' as an integer: ..",
-    )?;
-    reads::<u16>(
-        &rt,
-        alloc,
-        r#"N "65536""#,
-        "Failed to parse '65536' as an integer: ..",
-    )?;
-    reads::<u32>(
-        &rt,
-        alloc,
-        r#"N "4294967296""#,
-        "Failed to parse '4294967296' as an integer: ..",
-    )?;
-    let past = "Failed to parse '18446744073709551616' as an integer: ..";
-    reads::<u64>(&rt, alloc, r#"N "18446744073709551616""#, past)?;
-    let past = "Failed to parse '340282366920938463463374607431768211456' as an integer: ..";
-    reads::<u128>(
-        &rt,
-        alloc,
-        r#"N "340282366920938463463374607431768211456""#,
-        past,
-    )
+    refuses::<i8>(&rt, alloc, "128")?;
+    refuses::<i8>(&rt, alloc, "-129")?;
+    refuses::<i16>(&rt, alloc, "32768")?;
+    refuses::<i32>(&rt, alloc, "2147483648")?;
+    refuses::<i64>(&rt, alloc, "9223372036854775808")?;
+    refuses::<i64>(&rt, alloc, "18446744073709551615")?;
+    refuses::<i128>(&rt, alloc, "170141183460469231731687303715884105728")?;
+    refuses::<u8>(&rt, alloc, "256")?;
+    refuses::<u8>(&rt, alloc, "-1")?;
+    refuses::<u16>(&rt, alloc, "65536")?;
+    refuses::<u32>(&rt, alloc, "4294967296")?;
+    refuses::<u64>(&rt, alloc, "18446744073709551616")?;
+    refuses::<u128>(&rt, alloc, "340282366920938463463374607431768211456")
 }
 
 #[test]
@@ -193,85 +147,18 @@ fn integers_read_from_each_of_their_texts(rt: HostRuntime) -> Result<(), Fail> {
 #[test]
 fn texts_of_no_integer_are_refused(rt: HostRuntime) -> Result<(), Fail> {
     let alloc = rt.alloc();
-    reads::<u8>(
-        &rt,
-        alloc,
-        r#"N """#,
-        "Failed to parse '' as an integer: ..",
-    )?;
-    reads::<u8>(
-        &rt,
-        alloc,
-        r#"N "-0""#,
-        "Failed to parse '-0' as an integer: ..",
-    )?;
-    reads::<u128>(
-        &rt,
-        alloc,
-        r#"N "-0""#,
-        "Failed to parse '-0' as an integer: ..",
-    )?;
-    reads::<u8>(
-        &rt,
-        alloc,
-        r#"N "+""#,
-        "Failed to parse '+' as an integer: ..",
-    )?;
-    reads::<i8>(
-        &rt,
-        alloc,
-        r#"N "-""#,
-        "Failed to parse '-' as an integer: ..",
-    )?;
-    reads::<i8>(
-        &rt,
-        alloc,
-        r#"N "+-1""#,
-        "Failed to parse '+-1' as an integer: ..",
-    )?;
-    reads::<u8>(
-        &rt,
-        alloc,
-        r#"N " 1""#,
-        "Failed to parse ' 1' as an integer: ..",
-    )?;
-    reads::<u8>(
-        &rt,
-        alloc,
-        r#"N "1_0""#,
-        "Failed to parse '1_0' as an integer: ..",
-    )?;
-    reads::<u8>(
-        &rt,
-        alloc,
-        r#"N "0x1""#,
-        "Failed to parse '0x1' as an integer: ..",
-    )?;
-    reads::<u8>(
-        &rt,
-        alloc,
-        r#"N "x""#,
-        "Failed to parse 'x' as an integer: ..",
-    )?;
-    reads::<i64>(
-        &rt,
-        alloc,
-        r#"N "1e5""#,
-        "Failed to parse '1e5' as an integer: ..",
-    )?;
-    reads::<i128>(
-        &rt,
-        alloc,
-        r#"N "1.5""#,
-        "Failed to parse '1.5' as an integer: ..",
-    )?;
     // The digits are those of ASCII.
-    reads::<u8>(
-        &rt,
-        alloc,
-        "N \"\u{0663}\"",
-        "Failed to parse '\u{0663}' as an integer: ..",
-    )
+    for text in [
+        "", "+", "-", "+-1", " 1", "1 ", "1_0", "0x1", "x", "1e5", "1.", "1.5", "\u{0663}",
+    ] {
+        refuses::<u8>(&rt, alloc, text)?;
+        refuses::<i64>(&rt, alloc, text)?;
+        refuses::<i128>(&rt, alloc, text)?;
+    }
+    // At types without a sign no text begins with a minus.
+    refuses::<u8>(&rt, alloc, "-0")?;
+    refuses::<u64>(&rt, alloc, "-0")?;
+    refuses::<u128>(&rt, alloc, "-0")
 }
 
 #[test]
