@@ -1,18 +1,16 @@
-// Types that are read by hand, each in one of the forms that a struct can have.
+//! Types of the forms that a struct can have, read by hand as a user would write them.
 ghost use Rattle.std.specs.Prelude.{codes, string_bytes};
 ghost use Rattle.serde_dynamo.specs.Answer.{After, Gives};
 ghost use Rattle.serde_dynamo.specs.Contents.{read_newtype};
 ghost use Rattle.serde_dynamo.specs.Datum as datum;
 ghost use Rattle.serde_dynamo.specs.Integer as integers;
 ghost use Rattle.serde_dynamo.specs.Scalars.{read_integer, read_string, read_unit_struct};
-ghost use Rattle.serde_dynamo.specs.Visitors.{claims_newtype, claims_seq, claims_unit, take_newtype, take_unit};
+ghost use Rattle.serde_dynamo.specs.Visitors.{claims_newtype, claims_unit, take_newtype, take_unit};
 
 use crate::kinds::{Name, UnitStruct};
-use crate::reading::{reads, reads_back};
-use serde_dynamo::de::{Deserialize, Deserializer, Error, Kind, SeqAccess, Visitor};
+use serde_dynamo::de::{Deserialize, Deserializer, Error, Kind, Visitor};
 use serde_dynamo::ser::{Serialize, Serializer};
 use std::alloc::Global;
-use std::test::Fail;
 
 #[derive(Drop)]
 struct UnitStructVisitor {
@@ -140,87 +138,4 @@ impl Deserialize for Count {
     fn deserialize<D: Deserializer>(alloc: Global, deserializer: D) -> Result<Count, D::Error> {
         deserializer.deserialize_newtype_struct("Count", CountVisitor { alloc })
     }
-}
-
-/// `struct Point(u8, u8)`, a tuple struct.
-#[derive(Clone, Copy, Debug, Drop, PartialEq, Eq)]
-pub struct Point(pub u8, pub u8);
-
-#[derive(Drop)]
-struct PointVisitor {
-    alloc: Global,
-}
-
-impl Visitor for PointVisitor {
-    type Value = Point;
-
-    ghost claimed = { λ _. claims_seq };
-
-    // Whatever it answers to a sequence is permitted: the test says what that is.
-    ghost takes = { λ _ _ _. Unit {0} };
-
-    fn expecting(&self) -> &'static str {
-        "tuple struct Point"
-    }
-
-    fn alloc(&self) -> Global {
-        self.alloc
-    }
-
-    fn claims(&self, kind: Kind) -> bool {
-        matches!(kind, Kind::Seq)
-    }
-
-    fn visit_seq<A: SeqAccess>(self, mut seq: A) -> Result<Point, A::Error> {
-        let too_short = "invalid length: too few elements, expected tuple struct Point";
-        let Some(x) = seq.next_element::<u8>(self.alloc)? else {
-            return Err(A::Error::custom(self.alloc, too_short));
-        };
-        let Some(y) = seq.next_element::<u8>(self.alloc)? else {
-            return Err(A::Error::custom(self.alloc, too_short));
-        };
-        Ok(Point(x, y))
-    }
-}
-
-impl Deserialize for Point {
-    ghost reads = { λ _ _. Unit {0} };
-
-    fn deserialize<D: Deserializer>(alloc: Global, deserializer: D) -> Result<Point, D::Error> {
-        deserializer.deserialize_tuple_struct("Point", 2, PointVisitor { alloc })
-    }
-}
-
-#[test]
-fn a_unit_struct_reads_from_null(rt: HostRuntime) -> Result<(), Fail> {
-    let alloc = rt.alloc();
-    reads_back(&rt, alloc, UnitStruct)?;
-    reads::<UnitStruct>(&rt, alloc, "Null(true)", "UnitStruct")?;
-    reads::<UnitStruct>(&rt, alloc, "Null(false)", "Expected unit struct")?;
-    reads::<UnitStruct>(&rt, alloc, r#"S "UnitStruct""#, "Expected unit struct")?;
-    reads::<UnitStruct>(&rt, alloc, "M {}", "Expected unit struct")
-}
-
-#[test]
-fn a_newtype_reads_from_what_its_content_reads_from(rt: HostRuntime) -> Result<(), Fail> {
-    let alloc = rt.alloc();
-    reads_back(&rt, alloc, Count(5))?;
-    reads_back(&rt, alloc, Name(String::from_str(alloc, "one")?))?;
-    reads::<Count>(&rt, alloc, r#"N "1""#, "Count(1)")?;
-    reads::<Count>(&rt, alloc, r#"S "1""#, "Expected num")?;
-    reads::<Option<Count>>(&rt, alloc, r#"N "1""#, "Some(Count(1))")?;
-    reads::<Vec<Count>>(&rt, alloc, r#"L [N "1"]"#, "[Count(1)]")?;
-    // The elements of a set show no newtype.
-    reads::<Vec<Count>>(&rt, alloc, r#"Ns ["1"]"#, "a message")?;
-    reads::<Vec<Name>>(&rt, alloc, "Bs [[97]]", "a message")
-}
-
-#[test]
-fn a_tuple_struct_reads_from_a_list(rt: HostRuntime) -> Result<(), Fail> {
-    let alloc = rt.alloc();
-    reads::<Point>(&rt, alloc, r#"L [N "1", N "2"]"#, "Point(1, 2)")?;
-    reads::<Point>(&rt, alloc, r#"Ns ["1", "2", "3"]"#, "Point(1, 2)")?;
-    reads::<Point>(&rt, alloc, r#"L [N "1"]"#, "a message")?;
-    reads::<Point>(&rt, alloc, r#"L [N "1", S "2"]"#, "Expected num")?;
-    reads::<Point>(&rt, alloc, "M {}", "Expected seq")
 }

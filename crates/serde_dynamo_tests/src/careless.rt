@@ -1,15 +1,14 @@
 // Visitors and callers of maps that ask too early, too often or past the end, and go on after a fault.
-ghost use Rattle.serde_dynamo.specs.Visitors.{claims_map};
-
+use crate::opener::{Manner, Opener};
 use crate::reading::{agrees, item, told};
-use serde_dynamo::de::{Deserializer, Error, Kind, MapAccess, Visitor};
+use serde_dynamo::de::{Deserializer, Error, MapAccess};
 use serde_dynamo::{AttributeValue, DeserializerMap};
 use std::alloc::{AllocError, Global};
 use std::process::Abort;
 use std::test::Fail;
 
 /// The text, or want of memory.
-pub fn or_no_memory<E: Error>(text: Result<String, AllocError>) -> Result<String, E> {
+pub(crate) fn or_no_memory<E: Error>(text: Result<String, AllocError>) -> Result<String, E> {
     match text {
         Ok(text) => Ok(text),
         Err(_) => Err(E::out_of_memory()),
@@ -18,7 +17,7 @@ pub fn or_no_memory<E: Error>(text: Result<String, AllocError>) -> Result<String
 
 /// A call on the entries of a map.
 #[derive(Clone, Copy, Debug, PartialEq, Eq)]
-pub enum Call {
+pub(crate) enum EntryCall {
     TextKey,
     NumberKey,
     Text,
@@ -27,25 +26,29 @@ pub enum Call {
 }
 
 // The text of the answer to a call.
-fn make<A: MapAccess>(alloc: Global, map: &mut A, call: Call) -> Result<String, A::Error> {
+fn make<A: MapAccess>(alloc: Global, map: &mut A, call: EntryCall) -> Result<String, A::Error> {
     let text = match call {
-        Call::TextKey => match map.next_key::<String>(alloc)? {
+        EntryCall::TextKey => match map.next_key::<String>(alloc)? {
             Some(key) => Ok(key),
             None => String::from_str(alloc, "none"),
         },
-        Call::NumberKey => match map.next_key::<u8>(alloc)? {
+        EntryCall::NumberKey => match map.next_key::<u8>(alloc)? {
             Some(key) => key.to_string(alloc),
             None => String::from_str(alloc, "none"),
         },
-        Call::Text => Ok(map.next_value::<String>(alloc)?),
-        Call::Number => map.next_value::<u8>(alloc)?.to_string(alloc),
-        Call::HowMany => format!(in alloc; "{:?}", map.size_hint()),
+        EntryCall::Text => Ok(map.next_value::<String>(alloc)?),
+        EntryCall::Number => map.next_value::<u8>(alloc)?.to_string(alloc),
+        EntryCall::HowMany => format!(in alloc; "{:?}", map.size_hint()),
     };
     or_no_memory(text)
 }
 
 // Makes the calls in turn, and goes on after each fault. The answer to the last call is the answer.
-fn ask_all<A: MapAccess>(alloc: Global, map: &mut A, calls: &[Call]) -> Result<String, A::Error> {
+pub(crate) fn ask_all<A: MapAccess>(
+    alloc: Global,
+    map: &mut A,
+    calls: &[EntryCall],
+) -> Result<String, A::Error> {
     let mut last = Ok(String::new(alloc));
     for call in calls {
         last = make(alloc, map, *call);
@@ -53,48 +56,23 @@ fn ask_all<A: MapAccess>(alloc: Global, map: &mut A, calls: &[Call]) -> Result<S
     last
 }
 
-// A visitor of maps that makes these calls.
-#[derive(Drop)]
-struct AskAll {
-    alloc: Global,
-    calls: &'static [Call],
-}
-
-impl Visitor for AskAll {
-    type Value = String;
-
-    ghost claimed = { λ _. claims_map };
-
-    ghost takes = { λ _ _ _. Unit {0} };
-
-    fn expecting(&self) -> &'static str {
-        "a map"
-    }
-
-    fn alloc(&self) -> Global {
-        self.alloc
-    }
-
-    fn claims(&self, kind: Kind) -> bool {
-        matches!(kind, Kind::Map)
-    }
-
-    fn visit_map<A: MapAccess>(self, mut map: A) -> Result<String, A::Error> {
-        ask_all(self.alloc, &mut map, self.calls)
-    }
-}
-
 // These calls on the entries of this map end in this answer, in a visitor and on the entries themselves.
 fn ends(
     rt: &impl Abort,
     alloc: Global,
     source: &str,
-    calls: &'static [Call],
+    calls: &'static [EntryCall],
     expected: &str,
 ) -> Result<(), Fail> {
     let value = AttributeValue::M(item(alloc, source)?);
     let reader = serde_dynamo::Deserializer::from_attribute_value(alloc, value);
-    let answer = told(alloc, reader.deserialize_map(AskAll { alloc, calls }))?;
+    let answer = told(
+        alloc,
+        reader.deserialize_map(Opener {
+            alloc,
+            manner: Manner::Entries(calls),
+        }),
+    )?;
     assert!(rt;
         agrees(answer.as_str(), expected),
         "{calls:?} of {source}: {answer}"
@@ -115,17 +93,35 @@ const TOO_EARLY: &str = "MapAccess::next_value called before MapAccess::next_key
 fn a_value_before_a_key_is_refused(rt: HostRuntime) -> Result<(), Fail> {
     let alloc = rt.alloc();
     let two = r#"M {"a": N "1", "b": N "2"}"#;
-    ends(&rt, alloc, "M {}", &[Call::Number], TOO_EARLY)?;
-    ends(&rt, alloc, r#"M {"a": N "1"}"#, &[Call::Number], TOO_EARLY)?;
-    ends(&rt, alloc, two, &[Call::Text], TOO_EARLY)?;
+    ends(&rt, alloc, "M {}", &[EntryCall::Number], TOO_EARLY)?;
+    ends(
+        &rt,
+        alloc,
+        r#"M {"a": N "1"}"#,
+        &[EntryCall::Number],
+        TOO_EARLY,
+    )?;
+    ends(&rt, alloc, two, &[EntryCall::Text], TOO_EARLY)?;
     // It changes nothing.
-    ends(&rt, alloc, two, &[Call::Number, Call::HowMany], "Some(2)")?;
-    ends(&rt, alloc, two, &[Call::Number, Call::TextKey], "a")?;
     ends(
         &rt,
         alloc,
         two,
-        &[Call::Number, Call::TextKey, Call::Number],
+        &[EntryCall::Number, EntryCall::HowMany],
+        "Some(2)",
+    )?;
+    ends(
+        &rt,
+        alloc,
+        two,
+        &[EntryCall::Number, EntryCall::TextKey],
+        "a",
+    )?;
+    ends(
+        &rt,
+        alloc,
+        two,
+        &[EntryCall::Number, EntryCall::TextKey, EntryCall::Number],
         "1",
     )
 }
@@ -135,14 +131,25 @@ fn a_value_that_fails_is_gone(rt: HostRuntime) -> Result<(), Fail> {
     let alloc = rt.alloc();
     let one = r#"M {"a": N "x"}"#;
     let faulty = "Failed to parse 'x' as an integer: ..";
-    ends(&rt, alloc, one, &[Call::TextKey], "a")?;
-    ends(&rt, alloc, one, &[Call::TextKey, Call::Number], faulty)?;
-    let again = &[Call::TextKey, Call::Number, Call::Number];
+    ends(&rt, alloc, one, &[EntryCall::TextKey], "a")?;
+    ends(
+        &rt,
+        alloc,
+        one,
+        &[EntryCall::TextKey, EntryCall::Number],
+        faulty,
+    )?;
+    let again = &[EntryCall::TextKey, EntryCall::Number, EntryCall::Number];
     ends(&rt, alloc, one, again, TOO_EARLY)?;
-    let on = &[Call::TextKey, Call::Number, Call::TextKey];
+    let on = &[EntryCall::TextKey, EntryCall::Number, EntryCall::TextKey];
     ends(&rt, alloc, one, on, "none")?;
     let two = r#"M {"a": N "x", "b": N "2"}"#;
-    let on = &[Call::TextKey, Call::Number, Call::TextKey, Call::Number];
+    let on = &[
+        EntryCall::TextKey,
+        EntryCall::Number,
+        EntryCall::TextKey,
+        EntryCall::Number,
+    ];
     ends(&rt, alloc, two, on, "2")
 }
 
@@ -150,20 +157,26 @@ fn a_value_that_fails_is_gone(rt: HostRuntime) -> Result<(), Fail> {
 fn a_key_that_fails_leaves_its_value(rt: HostRuntime) -> Result<(), Fail> {
     let alloc = rt.alloc();
     let one = r#"M {"x": S "v"}"#;
-    ends(&rt, alloc, one, &[Call::NumberKey], "Expected num")?;
+    ends(&rt, alloc, one, &[EntryCall::NumberKey], "Expected num")?;
     ends(
         &rt,
         alloc,
         one,
-        &[Call::NumberKey, Call::HowMany],
+        &[EntryCall::NumberKey, EntryCall::HowMany],
         "Some(0)",
     )?;
-    ends(&rt, alloc, one, &[Call::NumberKey, Call::Text], "v")?;
-    let again = &[Call::NumberKey, Call::Text, Call::Text];
+    ends(
+        &rt,
+        alloc,
+        one,
+        &[EntryCall::NumberKey, EntryCall::Text],
+        "v",
+    )?;
+    let again = &[EntryCall::NumberKey, EntryCall::Text, EntryCall::Text];
     ends(&rt, alloc, one, again, TOO_EARLY)?;
     // A key that fails drops the value that waited before it.
     let two = r#"M {"a": S "v", "b": S "w"}"#;
-    let later = &[Call::TextKey, Call::NumberKey, Call::Text];
+    let later = &[EntryCall::TextKey, EntryCall::NumberKey, EntryCall::Text];
     ends(&rt, alloc, two, later, "w")
 }
 
@@ -171,10 +184,21 @@ fn a_key_that_fails_leaves_its_value(rt: HostRuntime) -> Result<(), Fail> {
 fn a_second_key_drops_the_value_of_the_first(rt: HostRuntime) -> Result<(), Fail> {
     let alloc = rt.alloc();
     let two = r#"M {"a": N "1", "b": N "2"}"#;
-    ends(&rt, alloc, two, &[Call::TextKey, Call::TextKey], "b")?;
-    let value = &[Call::TextKey, Call::TextKey, Call::Number];
+    ends(
+        &rt,
+        alloc,
+        two,
+        &[EntryCall::TextKey, EntryCall::TextKey],
+        "b",
+    )?;
+    let value = &[EntryCall::TextKey, EntryCall::TextKey, EntryCall::Number];
     ends(&rt, alloc, two, value, "2")?;
-    let values = &[Call::TextKey, Call::TextKey, Call::Number, Call::Number];
+    let values = &[
+        EntryCall::TextKey,
+        EntryCall::TextKey,
+        EntryCall::Number,
+        EntryCall::Number,
+    ];
     ends(&rt, alloc, two, values, TOO_EARLY)
 }
 
@@ -182,14 +206,20 @@ fn a_second_key_drops_the_value_of_the_first(rt: HostRuntime) -> Result<(), Fail
 fn a_value_stays_where_no_key_is_left(rt: HostRuntime) -> Result<(), Fail> {
     let alloc = rt.alloc();
     let one = r#"M {"a": N "1"}"#;
-    ends(&rt, alloc, one, &[Call::TextKey, Call::TextKey], "none")?;
-    let value = &[Call::TextKey, Call::TextKey, Call::Number];
+    ends(
+        &rt,
+        alloc,
+        one,
+        &[EntryCall::TextKey, EntryCall::TextKey],
+        "none",
+    )?;
+    let value = &[EntryCall::TextKey, EntryCall::TextKey, EntryCall::Number];
     ends(&rt, alloc, one, value, "1")?;
     let value = &[
-        Call::TextKey,
-        Call::NumberKey,
-        Call::NumberKey,
-        Call::Number,
+        EntryCall::TextKey,
+        EntryCall::NumberKey,
+        EntryCall::NumberKey,
+        EntryCall::Number,
     ];
     ends(&rt, alloc, one, value, "1")
 }
@@ -198,10 +228,26 @@ fn a_value_stays_where_no_key_is_left(rt: HostRuntime) -> Result<(), Fail> {
 fn past_the_end_there_is_no_key(rt: HostRuntime) -> Result<(), Fail> {
     let alloc = rt.alloc();
     let one = r#"M {"a": N "1"}"#;
-    ends(&rt, alloc, "M {}", &[Call::TextKey, Call::TextKey], "none")?;
-    let past = &[Call::TextKey, Call::Number, Call::TextKey, Call::TextKey];
+    ends(
+        &rt,
+        alloc,
+        "M {}",
+        &[EntryCall::TextKey, EntryCall::TextKey],
+        "none",
+    )?;
+    let past = &[
+        EntryCall::TextKey,
+        EntryCall::Number,
+        EntryCall::TextKey,
+        EntryCall::TextKey,
+    ];
     ends(&rt, alloc, one, past, "none")?;
-    let value = &[Call::TextKey, Call::Number, Call::TextKey, Call::Number];
+    let value = &[
+        EntryCall::TextKey,
+        EntryCall::Number,
+        EntryCall::TextKey,
+        EntryCall::Number,
+    ];
     ends(&rt, alloc, one, value, TOO_EARLY)
 }
 
@@ -209,12 +255,23 @@ fn past_the_end_there_is_no_key(rt: HostRuntime) -> Result<(), Fail> {
 fn the_entries_not_yet_taken_are_counted(rt: HostRuntime) -> Result<(), Fail> {
     let alloc = rt.alloc();
     let two = r#"M {"a": N "1", "b": N "2"}"#;
-    ends(&rt, alloc, "M {}", &[Call::HowMany], "Some(0)")?;
-    ends(&rt, alloc, two, &[Call::HowMany], "Some(2)")?;
-    ends(&rt, alloc, two, &[Call::TextKey, Call::HowMany], "Some(1)")?;
-    let value = &[Call::TextKey, Call::Number, Call::HowMany];
+    ends(&rt, alloc, "M {}", &[EntryCall::HowMany], "Some(0)")?;
+    ends(&rt, alloc, two, &[EntryCall::HowMany], "Some(2)")?;
+    ends(
+        &rt,
+        alloc,
+        two,
+        &[EntryCall::TextKey, EntryCall::HowMany],
+        "Some(1)",
+    )?;
+    let value = &[EntryCall::TextKey, EntryCall::Number, EntryCall::HowMany];
     ends(&rt, alloc, two, value, "Some(1)")?;
-    let end = &[Call::TextKey, Call::TextKey, Call::TextKey, Call::HowMany];
+    let end = &[
+        EntryCall::TextKey,
+        EntryCall::TextKey,
+        EntryCall::TextKey,
+        EntryCall::HowMany,
+    ];
     ends(&rt, alloc, two, end, "Some(0)")
 }
 
@@ -225,7 +282,7 @@ fn an_item_is_empty_while_its_entries_are_read(rt: HostRuntime) -> Result<(), Fa
     let mut map = DeserializerMap::from_item(alloc, &mut two)?;
     assert!(rt; two.is_empty());
     assert_eq!(rt; map.size_hint(), Some(2));
-    let first = told(alloc, make(alloc, &mut map, Call::TextKey))?;
+    let first = told(alloc, make(alloc, &mut map, EntryCall::TextKey))?;
     assert_eq!(rt; first.as_str(), "a");
     Ok(())
 }

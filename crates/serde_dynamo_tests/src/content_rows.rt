@@ -1,7 +1,7 @@
 // What requests that look at what their source holds show of it, or the fault, in the form of the rows of all requests.
 
 /// Requests that look at what their source holds.
-pub const MORE: &str = r#"N "300"
+pub(crate) const MORE: &str = r#"N "300"
   any i64 ignored_any = i64 300
   i8 u8 = Failed to parse '300' as an integer: ..
   i16 = i16 300

@@ -1,10 +1,9 @@
 // Callers of sequences that ask past the end, take nothing, and go on after a fault.
-ghost use Rattle.serde_dynamo.specs.Visitors.{claims_seq};
-
 use crate::careless::or_no_memory;
 use crate::notation;
+use crate::opener::{Manner, Opener};
 use crate::reading::{agrees, told};
-use serde_dynamo::de::{Deserializer, Error, Kind, SeqAccess, TypeSeed, Visitor};
+use serde_dynamo::de::{Deserializer, SeqAccess, TypeSeed};
 use serde_dynamo::{
     AttributeValue, DeserializerSeq, DeserializerSeqBytes, DeserializerSeqNumbers,
     DeserializerSeqStrings,
@@ -14,7 +13,11 @@ use std::process::Abort;
 use std::test::Fail;
 
 // Asks so many times for a u8, and goes on after each fault. The text of the last answer.
-fn ask_on<A: SeqAccess>(alloc: Global, seq: &mut A, times: u8) -> Result<String, A::Error> {
+pub(crate) fn ask_on<A: SeqAccess>(
+    alloc: Global,
+    seq: &mut A,
+    times: u8,
+) -> Result<String, A::Error> {
     let mut last = Ok(None);
     for _ in 0..times {
         last = seq.next_element::<u8>(alloc);
@@ -22,37 +25,6 @@ fn ask_on<A: SeqAccess>(alloc: Global, seq: &mut A, times: u8) -> Result<String,
     match last? {
         Some(number) => or_no_memory(number.to_string(alloc)),
         None => or_no_memory(String::from_str(alloc, "none")),
-    }
-}
-
-// A visitor of sequences that asks so many times.
-#[derive(Drop)]
-struct Often {
-    alloc: Global,
-    times: u8,
-}
-
-impl Visitor for Often {
-    type Value = String;
-
-    ghost claimed = { λ _. claims_seq };
-
-    ghost takes = { λ _ _ _. Unit {0} };
-
-    fn expecting(&self) -> &'static str {
-        "a sequence"
-    }
-
-    fn alloc(&self) -> Global {
-        self.alloc
-    }
-
-    fn claims(&self, kind: Kind) -> bool {
-        matches!(kind, Kind::Seq)
-    }
-
-    fn visit_seq<A: SeqAccess>(self, mut seq: A) -> Result<String, A::Error> {
-        ask_on(self.alloc, &mut seq, self.times)
     }
 }
 
@@ -98,7 +70,13 @@ fn answers(rt: &impl Abort, alloc: Global, source: &str, expected: &[&str]) -> R
             "call {times} on {source}: {answer}"
         );
         let reader = serde_dynamo::Deserializer::from_attribute_value(alloc, value);
-        let answer = told(alloc, reader.deserialize_seq(Often { alloc, times }))?;
+        let answer = told(
+            alloc,
+            reader.deserialize_seq(Opener {
+                alloc,
+                manner: Manner::Elements(times),
+            }),
+        )?;
         assert!(rt;
             agrees(answer.as_str(), expected),
             "call {times} in {source}: {answer}"

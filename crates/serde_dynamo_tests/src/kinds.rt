@@ -1,3 +1,4 @@
+//! Types of the forms that a struct can have, written by hand as a user would write them.
 ghost use Rattle.std.specs.Prelude.{codes, string_bytes};
 ghost use Rattle.serde_dynamo.specs.Datum as datum;
 

@@ -4,8 +4,7 @@
 
 #[cfg(test)]
 mod builders;
-#[cfg(test)]
-mod by_hand;
+pub mod by_hand;
 #[cfg(test)]
 mod careless;
 #[cfg(test)]
@@ -22,14 +21,15 @@ mod floats;
 mod idle;
 #[cfg(test)]
 mod items;
-#[cfg(test)]
-mod kinds;
+pub mod kinds;
 #[cfg(test)]
 mod maps;
 #[cfg(test)]
 mod named;
 #[cfg(test)]
 mod notation;
+#[cfg(test)]
+mod opener;
 #[cfg(test)]
 mod options;
 #[cfg(test)]
@@ -55,13 +55,13 @@ mod sets;
 #[cfg(test)]
 mod show;
 #[cfg(test)]
+mod struct_forms;
+#[cfg(test)]
 mod struct_rows;
 #[cfg(test)]
 mod teller;
 #[cfg(test)]
 mod tree;
-#[cfg(test)]
-mod valued;
 #[cfg(test)]
 mod values;
 #[cfg(test)]

@@ -1,5 +1,5 @@
 // A struct that is read by hand.
-ghost use Rattle.serde_dynamo.specs.Visitors.{claims_str, claims_struct};
+ghost use Rattle.serde_dynamo.specs.Visitors.{claims_struct};
 
 use serde_dynamo::de::{
     Deserialize, Deserializer, Error, IgnoredAny, Kind, MapAccess, SeqAccess, Visitor,
@@ -8,62 +8,10 @@ use std::alloc::Global;
 
 /// A number with a name, and perhaps a note.
 #[derive(Debug, Drop, PartialEq, Eq)]
-pub struct Named {
+pub(crate) struct Named {
     pub id: String,
     pub value: u64,
     pub note: Option<String>,
-}
-
-// The names of the fields, and any other name.
-#[derive(Clone, Copy, Debug, Drop, PartialEq, Eq)]
-enum Field {
-    Id,
-    Value,
-    Note,
-    Other,
-}
-
-#[derive(Drop)]
-struct FieldVisitor {
-    alloc: Global,
-}
-
-impl Visitor for FieldVisitor {
-    type Value = Field;
-
-    ghost claimed = { λ _. claims_str };
-
-    // The tests say what is read.
-    ghost takes = { λ _ _ _. Unit {0} };
-
-    fn expecting(&self) -> &'static str {
-        "field identifier"
-    }
-
-    fn alloc(&self) -> Global {
-        self.alloc
-    }
-
-    fn claims(&self, kind: Kind) -> bool {
-        matches!(kind, Kind::Str)
-    }
-
-    fn visit_str<E: Error>(self, v: &str) -> Result<Field, E> {
-        match v {
-            "id" => Ok(Field::Id),
-            "value" => Ok(Field::Value),
-            "note" => Ok(Field::Note),
-            _ => Ok(Field::Other),
-        }
-    }
-}
-
-impl Deserialize for Field {
-    ghost reads = { λ _ _. Unit {0} };
-
-    fn deserialize<D: Deserializer>(alloc: Global, deserializer: D) -> Result<Field, D::Error> {
-        deserializer.deserialize_identifier(FieldVisitor { alloc })
-    }
 }
 
 #[derive(Drop)]
@@ -109,12 +57,12 @@ impl Visitor for NamedVisitor {
         let mut id = None;
         let mut value = None;
         let mut note = None;
-        while let Some(field) = map.next_key::<Field>(self.alloc)? {
-            match field {
-                Field::Id => id = Some(map.next_value::<String>(self.alloc)?),
-                Field::Value => value = Some(map.next_value::<u64>(self.alloc)?),
-                Field::Note => note = map.next_value::<Option<String>>(self.alloc)?,
-                Field::Other => {
+        while let Some(key) = map.next_key::<String>(self.alloc)? {
+            match key.as_str() {
+                "id" => id = Some(map.next_value::<String>(self.alloc)?),
+                "value" => value = Some(map.next_value::<u64>(self.alloc)?),
+                "note" => note = map.next_value::<Option<String>>(self.alloc)?,
+                _ => {
                     map.next_value::<IgnoredAny>(self.alloc)?;
                 }
             }

@@ -125,7 +125,7 @@ fn tokens(alloc: Global, text: &str) -> Result<Vec<Token>, AllocError> {
 }
 
 /// The attribute value of a text, as [`show::value`] prints it.
-pub fn value(alloc: Global, text: &str) -> Result<AttributeValue, Fail> {
+pub(crate) fn value(alloc: Global, text: &str) -> Result<AttributeValue, Fail> {
     let mut part = Part::new(alloc, String::new(alloc));
     let mut outer = Vec::new(alloc);
     let mut before = String::new(alloc);

@@ -11,7 +11,7 @@ use std::process::Abort;
 use std::test::Fail;
 
 /// The text of what was read, or of the fault, where the text of a message isn't told.
-pub fn answer<T: Debug>(
+pub(crate) fn answer<T: Debug>(
     alloc: Global,
     answer: &serde_dynamo::Result<T>,
 ) -> Result<String, AllocError> {
@@ -22,7 +22,7 @@ pub fn answer<T: Debug>(
 }
 
 /// The text of the fault, where the text of a message isn't told.
-pub fn fault(alloc: Global, error: &Error) -> Result<String, AllocError> {
+pub(crate) fn fault(alloc: Global, error: &Error) -> Result<String, AllocError> {
     match error.kind() {
         ErrorImpl::Message(_) => String::from_str(alloc, "a message"),
         kind => kind.to_string(alloc),
@@ -30,7 +30,10 @@ pub fn fault(alloc: Global, error: &Error) -> Result<String, AllocError> {
 }
 
 /// The text that was answered, or that of the fault.
-pub fn told(alloc: Global, answer: serde_dynamo::Result<String>) -> Result<String, AllocError> {
+pub(crate) fn told(
+    alloc: Global,
+    answer: serde_dynamo::Result<String>,
+) -> Result<String, AllocError> {
     match answer {
         Ok(text) => Ok(text),
         Err(error) => fault(alloc, &error),
@@ -38,7 +41,7 @@ pub fn told(alloc: Global, answer: serde_dynamo::Result<String>) -> Result<Strin
 }
 
 /// Whether this is the text that is expected; where that ends in two points, whether it begins as that does.
-pub fn agrees(text: &str, expected: &str) -> bool {
+pub(crate) fn agrees(text: &str, expected: &str) -> bool {
     match expected.strip_suffix("..") {
         Some(beginning) => text.starts_with(beginning),
         None => text == expected,
@@ -46,7 +49,7 @@ pub fn agrees(text: &str, expected: &str) -> bool {
 }
 
 /// The attribute value of this text reads as this value, or meets this fault.
-pub fn reads<T: Deserialize + Debug>(
+pub(crate) fn reads<T: Deserialize + Debug>(
     rt: &impl Abort,
     alloc: Global,
     source: &str,
@@ -65,7 +68,7 @@ pub fn reads<T: Deserialize + Debug>(
 }
 
 /// What is written of the value reads back as the value.
-pub fn reads_back<T: Serialize + Deserialize + PartialEq + Debug>(
+pub(crate) fn reads_back<T: Serialize + Deserialize + PartialEq + Debug>(
     rt: &impl Abort,
     alloc: Global,
     value: T,
@@ -77,7 +80,7 @@ pub fn reads_back<T: Serialize + Deserialize + PartialEq + Debug>(
 }
 
 /// The item whose map has this text.
-pub fn item(alloc: Global, text: &str) -> Result<HashMap<String, AttributeValue>, Fail> {
+pub(crate) fn item(alloc: Global, text: &str) -> Result<HashMap<String, AttributeValue>, Fail> {
     match notation::value(alloc, text)? {
         AttributeValue::M(map) => Ok(map),
         _ => Err(Fail::from("no map")),

@@ -1,12 +1,12 @@
 // What nobody gave a body to is refused by a message that ends with what was expected.
-ghost use Rattle.std.specs.Prelude.{false, true};
-ghost use Rattle.serde_dynamo.specs.Visitors.{claims_char};
+ghost use Rattle.std.specs.Prelude.{false};
 
 use crate::notation;
+use crate::opener::{Manner, Opener};
 use crate::reading::{agrees, fault};
 use crate::request_rows::{INSIDE, VALUES};
 use crate::requests::{REQUESTS, ask_source, expected};
-use serde_dynamo::de::{Deserialize, Deserializer, Error, Kind, Visitor};
+use serde_dynamo::de::{Deserialize, Deserializer, Kind, Visitor};
 use serde_dynamo::{ErrorImpl, from_attribute_value};
 use std::alloc::Global;
 use std::process::Abort;
@@ -123,47 +123,16 @@ fn the_types_of_the_library_tell_what_they_expect(rt: HostRuntime) -> Result<(),
     expects::<Vec<serde_dynamo::ByteBuf>>(&rt, alloc, numbers, ", expected byte array")
 }
 
-// A visitor that refuses each character.
-#[derive(Drop)]
-struct NoCharacters {
-    alloc: Global,
-}
-
-impl Visitor for NoCharacters {
-    type Value = ();
-
-    ghost claimed = { λ _. claims_char };
-
-    ghost takes = { λ _ _ _. Unit {0} };
-
-    fn expecting(&self) -> &'static str {
-        "no character"
-    }
-
-    fn alloc(&self) -> Global {
-        self.alloc
-    }
-
-    fn claims(&self, kind: Kind) -> bool {
-        matches!(kind, Kind::Char | Kind::Str)
-    }
-
-    fn visit_char<E: Error>(self, _v: char) -> Result<(), E> {
-        Err(E::custom(self.alloc, "no character is wanted"))
-    }
-
-    fn visit_str<E: Error>(self, _v: &str) -> Result<(), E> {
-        Ok(())
-    }
-}
-
 #[test]
 fn a_refused_first_character_comes_before_a_second(rt: HostRuntime) -> Result<(), Fail> {
     let alloc = rt.alloc();
     for (source, refused) in [(r#"S "a""#, true), (r#"S "ab""#, true), (r#"S """#, false)] {
         let value = notation::value(alloc, source)?;
         let reader = serde_dynamo::Deserializer::from_attribute_value(alloc, value);
-        let answer = reader.deserialize_char(NoCharacters { alloc });
+        let answer = reader.deserialize_char(Opener {
+            alloc,
+            manner: Manner::Idle,
+        });
         assert_eq!(rt;
             is_message(&answer, "no character is wanted"),
             refused,

@@ -5,7 +5,7 @@ use serde_dynamo::ser::{Error, Serialize, Serializer};
 
 /// A value that refuses to be written, by the text `no`.
 #[derive(Clone, Copy, PartialEq, Eq, Hash)]
-pub struct Refuses;
+pub(crate) struct Refuses;
 
 impl Serialize for Refuses {
     ghost tells = { λ _. datum.refuse (codes "no") };

@@ -3,7 +3,7 @@
 // in two points.
 
 /// All requests to an attribute value of each kind.
-pub const VALUES: &str = r#"N "5"
+pub(crate) const VALUES: &str = r#"N "5"
   any i64 ignored_any = i64 5
   bool = Expected bool
   i8 = i8 5
@@ -166,7 +166,7 @@ Bs [[97], [], [98]]
   enum = Expected enum"#;
 
 /// All requests to the sources inside of attribute values: the elements of sets, and the keys of maps.
-pub const INSIDE: &str = r#"number text 5
+pub(crate) const INSIDE: &str = r#"number text 5
   any bool i64 char str string bytes byte_buf option unit unit_struct newtype_struct seq tuple tuple_struct map struct enum identifier ignored_any = i64 5
   i8 = i8 5
   i16 = i16 5

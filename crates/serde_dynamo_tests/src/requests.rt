@@ -1,12 +1,11 @@
 // Each request to each source shows what the rows say.
-ghost use Rattle.serde_dynamo.specs.Visitors.{claims_struct};
-
 use crate::content_rows::MORE;
 use crate::notation;
+use crate::opener::{Manner, Opener};
 use crate::reading::{agrees, told};
 use crate::request_rows::{INSIDE, VALUES};
 use crate::teller::Teller;
-use serde_dynamo::de::{DeserializeSeed, Deserializer, Error, Kind, MapAccess, SeqAccess, Visitor};
+use serde_dynamo::de::{DeserializeSeed, Deserializer, Error, Visitor};
 use serde_dynamo::{
     AttributeValue, DeserializerBytes, DeserializerMapKey, DeserializerNumber, StringDeserializer,
 };
@@ -16,7 +15,7 @@ use std::process::Abort;
 use std::test::Fail;
 
 /// The names of all requests.
-pub const REQUESTS: [&str; 29] = [
+pub(crate) const REQUESTS: [&str; 29] = [
     "any",
     "bool",
     "i8",
@@ -49,7 +48,7 @@ pub const REQUESTS: [&str; 29] = [
 ];
 
 /// Makes the request of this name.
-pub fn ask<D: Deserializer, V: Visitor>(
+pub(crate) fn ask<D: Deserializer, V: Visitor>(
     reader: D,
     request: &str,
     visitor: V,
@@ -89,7 +88,7 @@ pub fn ask<D: Deserializer, V: Visitor>(
 }
 
 /// What the visitor makes of what the source of this text shows at the request.
-pub fn ask_source<V: Visitor>(
+pub(crate) fn ask_source<V: Visitor>(
     source: &str,
     request: &str,
     visitor: V,
@@ -132,11 +131,17 @@ pub fn ask_source<V: Visitor>(
     Ok(answer)
 }
 
-// Makes a request of the first source inside of a list, a set or a map.
+/// Makes a request of what stands inside of a list, a set or a map, and tells what it shows.
 #[derive(Drop)]
-struct Within {
+pub(crate) struct Within {
     alloc: Global,
-    request: String,
+    request: &'static str,
+}
+
+impl Within {
+    pub(crate) fn new(alloc: Global, request: &'static str) -> Self {
+        Within { alloc, request }
+    }
 }
 
 impl DeserializeSeed for Within {
@@ -145,39 +150,7 @@ impl DeserializeSeed for Within {
     ghost reads = { λ _ _ _. Unit {0} };
 
     fn deserialize<D: Deserializer>(self, deserializer: D) -> Result<String, D::Error> {
-        ask(
-            deserializer,
-            self.request.as_str(),
-            Teller { alloc: self.alloc },
-        )
-    }
-}
-
-impl Visitor for Within {
-    type Value = Option<String>;
-
-    ghost claimed = { λ _. claims_struct };
-
-    ghost takes = { λ _ _ _. Unit {0} };
-
-    fn expecting(&self) -> &'static str {
-        "something inside"
-    }
-
-    fn alloc(&self) -> Global {
-        self.alloc
-    }
-
-    fn claims(&self, kind: Kind) -> bool {
-        matches!(kind, Kind::Seq | Kind::Map)
-    }
-
-    fn visit_seq<A: SeqAccess>(self, mut seq: A) -> Result<Option<String>, A::Error> {
-        seq.next_element_seed(self)
-    }
-
-    fn visit_map<A: MapAccess>(self, mut map: A) -> Result<Option<String>, A::Error> {
-        map.next_key_seed(self)
+        ask(deserializer, self.request, Teller { alloc: self.alloc })
     }
 }
 
@@ -201,17 +174,19 @@ fn around(alloc: Global, source: &str) -> Result<AttributeValue, Fail> {
 }
 
 // What the source of this text tells where it stands inside of a list, a set or a map.
-fn ask_inside(alloc: Global, source: &str, request: &str) -> Result<String, Fail> {
+fn ask_inside(alloc: Global, source: &str, request: &'static str) -> Result<String, Fail> {
     let value = around(alloc, source)?;
     let reader = serde_dynamo::Deserializer::from_attribute_value(alloc, value);
-    let request = String::from_str(alloc, request)?;
-    let answer = reader.deserialize_any(Within { alloc, request });
-    Ok(told(alloc, answer.map(|text| text.unwrap_or(String::new(alloc))))?)
+    let first = Opener {
+        alloc,
+        manner: Manner::First(request),
+    };
+    Ok(told(alloc, reader.deserialize_any(first))?)
 }
 
 /// What is expected at a request; nothing where no row names it. The first line is the text of the source; in
 /// each of the others requests stand before ` = `.
-pub fn expected<'a>(rows: &'a str, request: &str) -> Option<&'a str> {
+pub(crate) fn expected<'a>(rows: &'a str, request: &str) -> Option<&'a str> {
     for line in rows.lines() {
         if let Some((requests, expected)) = line.split_once(" = ")
             && requests.split(' ').any(|named| named == request)

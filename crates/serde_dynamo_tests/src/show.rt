@@ -5,7 +5,10 @@ use std::collections::{BTreeMap, HashMap};
 /// The text of an attribute value, in which the rows are written: `N "1"`, `Null(true)`, `B [1, 2]`, `L [S "a"]`,
 /// `Ss ["a", "b"]`, `M {"a": N "1"}` with the keys in order.
 #[cycle(show)]
-pub fn value(alloc: Global, value: &AttributeValue) -> std::result::Result<String, AllocError> {
+pub(crate) fn value(
+    alloc: Global,
+    value: &AttributeValue,
+) -> std::result::Result<String, AllocError> {
     match value {
         AttributeValue::N(text) => format!(in alloc; "N {text:?}"),
         AttributeValue::S(text) => format!(in alloc; "S {text:?}"),
@@ -54,7 +57,7 @@ fn map(
 }
 
 /// The text of an attribute value, or of the fault.
-pub fn answer(
+pub(crate) fn answer(
     alloc: Global,
     answer: &Result<AttributeValue>,
 ) -> std::result::Result<String, AllocError> {

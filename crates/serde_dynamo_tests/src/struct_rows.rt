@@ -109,7 +109,8 @@ fn fields_read_by_their_types(rt: HostRuntime) -> Result<(), Fail> {
     let three = r#"L [M {"id": S "a", "value": N "1"}, L [S "b", N "2", Null(true)]]"#;
     let named =
         r#"[Named { id: "a", value: 1, note: None }, Named { id: "b", value: 2, note: None }]"#;
-    reads::<Vec<Named>>(&rt, alloc, three, named)
+    reads::<Vec<Named>>(&rt, alloc, three, named)?;
+    reads::<Named>(&rt, alloc, r#"Ss ["a"]"#, "Expected map")
 }
 
 #[test]

@@ -10,7 +10,7 @@ use std::alloc::Global;
 /// Tells what it is shown by its kind and its content: `i8 5`, `text a`, `unit`, `seq 2` with the number of elements, `map a
 /// b` with the keys as they come, `enum a` with the variant's name.
 #[derive(Drop)]
-pub struct Teller {
+pub(crate) struct Teller {
     pub alloc: Global,
 }
 
@@ -110,25 +110,40 @@ impl Visitor for Teller {
         or_no_memory(String::from_str(self.alloc, "newtype"))
     }
 
-    fn visit_seq<A: SeqAccess>(self, mut seq: A) -> Result<String, A::Error> {
-        let mut elements = 0_u32;
-        while seq.next_element::<IgnoredAny>(self.alloc)?.is_some() {
-            elements = elements.saturating_add(1);
-        }
-        or_no_memory(format!(in self.alloc; "seq {elements}"))
+    fn visit_seq<A: SeqAccess>(self, seq: A) -> Result<String, A::Error> {
+        count(self.alloc, seq)
     }
 
-    fn visit_map<A: MapAccess>(self, mut map: A) -> Result<String, A::Error> {
-        let mut text = or_no_memory(String::from_str(self.alloc, "map"))?;
-        while let Some((key, _)) = map.next_entry::<String, IgnoredAny>(self.alloc)? {
-            text = or_no_memory(format!(in self.alloc; "{text} {key}"))?;
-        }
-        Ok(text)
+    fn visit_map<A: MapAccess>(self, map: A) -> Result<String, A::Error> {
+        keys(self.alloc, map)
     }
 
     fn visit_enum<A: EnumAccess>(self, variant: A) -> Result<String, A::Error> {
-        let (name, content) = variant.variant::<String>(self.alloc)?;
-        content.unit_variant()?;
-        or_no_memory(format!(in self.alloc; "enum {name}"))
+        name(self.alloc, variant)
     }
+}
+
+// The number of the elements.
+fn count<A: SeqAccess>(alloc: Global, mut seq: A) -> Result<String, A::Error> {
+    let mut elements = 0_u32;
+    while seq.next_element::<IgnoredAny>(alloc)?.is_some() {
+        elements = elements.saturating_add(1);
+    }
+    or_no_memory(format!(in alloc; "seq {elements}"))
+}
+
+// The keys as they come.
+fn keys<A: MapAccess>(alloc: Global, mut map: A) -> Result<String, A::Error> {
+    let mut text = or_no_memory(String::from_str(alloc, "map"))?;
+    while let Some((key, _)) = map.next_entry::<String, IgnoredAny>(alloc)? {
+        text = or_no_memory(format!(in alloc; "{text} {key}"))?;
+    }
+    Ok(text)
+}
+
+// The name of a unit variant.
+fn name<A: EnumAccess>(alloc: Global, variant: A) -> Result<String, A::Error> {
+    let (name, content) = variant.variant::<String>(alloc)?;
+    content.unit_variant()?;
+    or_no_memory(format!(in alloc; "enum {name}"))
 }

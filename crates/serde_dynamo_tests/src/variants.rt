@@ -1,11 +1,10 @@
 // Each call on a variant and on its content.
-ghost use Rattle.serde_dynamo.specs.Visitors.{claims_enum};
-
 use crate::careless::or_no_memory;
 use crate::notation;
+use crate::opener::{Manner, Opener};
 use crate::reading::{agrees, item, told};
 use crate::teller::Teller;
-use serde_dynamo::de::{Deserializer, EnumAccess, Error, Kind, TypeSeed, VariantAccess, Visitor};
+use serde_dynamo::de::{Deserializer, EnumAccess, TypeSeed, VariantAccess};
 use serde_dynamo::{
     DeserializerBytes, DeserializerEnum, DeserializerMapKey, DeserializerNumber,
     DeserializerVariant, StringDeserializer,
@@ -16,7 +15,7 @@ use std::test::Fail;
 
 /// A call on the content of a variant.
 #[derive(Clone, Copy, Debug, PartialEq, Eq)]
-enum Call {
+pub(crate) enum VariantCall {
     Unit,
     Newtype,
     NewtypeSeed,
@@ -24,80 +23,62 @@ enum Call {
     Struct,
 }
 
-const CALLS: [Call; 5] = [
-    Call::Unit,
-    Call::Newtype,
-    Call::NewtypeSeed,
-    Call::Tuple,
-    Call::Struct,
+const CALLS: [VariantCall; 5] = [
+    VariantCall::Unit,
+    VariantCall::Newtype,
+    VariantCall::NewtypeSeed,
+    VariantCall::Tuple,
+    VariantCall::Struct,
 ];
 
 // Tells what the content answers to the call; newtypes are read as a u8.
 fn open_content<A: VariantAccess>(
     alloc: Global,
     content: A,
-    call: Call,
+    call: VariantCall,
 ) -> Result<String, A::Error> {
     match call {
-        Call::Unit => {
+        VariantCall::Unit => {
             content.unit_variant()?;
             or_no_memory(String::from_str(alloc, "unit"))
         }
-        Call::Newtype => or_no_memory(content.newtype_variant::<u8>(alloc)?.to_string(alloc)),
-        Call::NewtypeSeed => {
+        VariantCall::Newtype => or_no_memory(
+            content.newtype_variant::<u8>(alloc)?.to_string(alloc),
+        ),
+        VariantCall::NewtypeSeed => {
             let seed = TypeSeed::<u8>::new(alloc);
             or_no_memory(content.newtype_variant_seed(seed)?.to_string(alloc))
         }
-        Call::Tuple => content.tuple_variant(2, Teller { alloc }),
-        Call::Struct => content.struct_variant(&["one", "two"], Teller { alloc }),
+        VariantCall::Tuple => content.tuple_variant(2, Teller { alloc }),
+        VariantCall::Struct => content.struct_variant(&["one", "two"], Teller { alloc }),
     }
 }
 
 // Tells the variant's name and what its content answers.
-fn open_variant<A: EnumAccess>(alloc: Global, variant: A, call: Call) -> Result<String, A::Error> {
+pub(crate) fn open_variant<A: EnumAccess>(
+    alloc: Global,
+    variant: A,
+    call: VariantCall,
+) -> Result<String, A::Error> {
     let (name, content) = variant.variant::<String>(alloc)?;
     let told = open_content(alloc, content, call)?;
     or_no_memory(format!(in alloc; "{name} {told}"))
-}
-
-// The visitor that makes this call on the variant.
-#[derive(Drop)]
-struct Choose {
-    alloc: Global,
-    call: Call,
-}
-
-impl Visitor for Choose {
-    type Value = String;
-
-    ghost claimed = { λ _. claims_enum };
-
-    ghost takes = { λ _ _ _. Unit {0} };
-
-    fn expecting(&self) -> &'static str {
-        "an enum"
-    }
-
-    fn alloc(&self) -> Global {
-        self.alloc
-    }
-
-    fn claims(&self, kind: Kind) -> bool {
-        matches!(kind, Kind::Enum)
-    }
-
-    fn visit_enum<A: EnumAccess>(self, variant: A) -> Result<String, A::Error> {
-        open_variant(self.alloc, variant, self.call)
-    }
 }
 
 // What the reader's variant tells at each call.
 fn tells<D: Deserializer<Error = serde_dynamo::Error>>(
     alloc: Global,
     reader: D,
-    call: Call,
+    call: VariantCall,
 ) -> Result<String, Fail> {
-    let answer = reader.deserialize_enum("Event", &["Unit"], Choose { alloc, call });
+    let answer = reader.deserialize_enum(
+        "Event",
+        &["Unit"],
+        Opener {
+            alloc,
+            manner: Manner::Variant(call),
+        },
+    );
     Ok(told(alloc, answer)?)
 }
 
@@ -174,7 +155,7 @@ fn a_variant_of_a_text_has_no_content(rt: HostRuntime) -> Result<(), Fail> {
     let alloc = rt.alloc();
     let text = || String::from_str(alloc, "a");
     for call in CALLS {
-        let expected = if call == Call::Unit {
+        let expected = if call == VariantCall::Unit {
             "a unit"
         } else {
             "a message"

@@ -9,7 +9,7 @@ use std::process::Abort;
 use std::test::Fail;
 
 /// Writing the value answers this.
-pub fn writes<T: Serialize + Drop>(
+pub(crate) fn writes<T: Serialize + Drop>(
     rt: &impl Abort,
     alloc: Global,
     value: T,
