@@ -115,7 +115,7 @@ at_key-push [] e q a = refl
 at_key-push (d ∷ es) e q a = ap (cond (bytes_eq q (string_bytes d.0)) (Some d.1)) (at_key-push es e q a.1)
     ∙ swapped q (string_bytes e.0) (string_bytes d.0) (Some e.1) (Some d.1) (at_key q es) a.0
 
-entries-push : (es : List Entry) (e : Entry) → Apart (string_bytes e.0) es
+pub entries-push : (es : List Entry) (e : Entry) → Apart (string_bytes e.0) es
     → entries_view (es ++ e ∷ []) ≡ put text_cmp (string_bytes e.0) (view e.1) (entries_view es)
 entries-push es e a =
     let k = string_bytes e.0 in
@@ -132,7 +132,7 @@ later k [] e rest h = h.0
 later k (d ∷ es) e rest h = later k es e rest h.1
 
 -- an entry's key differs from those before it
-apart : (es : List Entry) (e : Entry) (rest : List Entry) → IsDistinct string_eq (keys_of (es ++ e ∷ rest)) → Apart (string_bytes e.0) es
+pub apart : (es : List Entry) (e : Entry) (rest : List Entry) → IsDistinct string_eq (keys_of (es ++ e ∷ rest)) → Apart (string_bytes e.0) es
 unfolding IsDistinct
 apart [] e rest h = tt
 apart (d ∷ es) e rest h = (later d.0 es e rest h.0, apart es e rest h.1)

@@ -1,10 +1,16 @@
 pub mod Av
+pub mod Base64
 pub mod Bytes
 pub mod Equal
 pub mod Fault
+pub mod HasBytes
 pub mod Integer
 pub mod Item
 pub mod Kind
+pub mod Prefix
+pub mod PrefixView
+pub mod Refusal
+pub mod SingleKey
 pub mod Table
 pub mod Text
 pub mod View

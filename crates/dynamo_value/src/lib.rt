@@ -3,13 +3,17 @@
 #![tactic(auto)]
 
 mod attribute_value;
+pub mod base64_text;
 mod bytes;
 mod error;
 mod item;
+mod prefix;
+pub mod refusal;
 mod text;
 
 pub use attribute_value::AttributeValue;
 pub use bytes::{ByteBuf, Bytes};
 pub use error::{Error, ErrorImpl, Result};
 pub use item::{Item, Items};
+pub use prefix::Prefix;
 pub use text::Text;
