@@ -1,0 +1,8 @@
+use Rattle.std.proofs.Common.{◌≡◌, Ok, map, take}
+use Rattle.serde_json.specs.View as sj
+use Rattle.dynamo_json.specs.Parsed.{blob_in}
+use Rattle.dynamo_json.proofs.Each.{each}
+use Rattle.dynamo_json.proofs.from_json.blobs.Given as goal
+
+abbrev pub invariant-loop-json : goal.invariant-loop-json
+invariant-loop-json l = each (λ v. blob_in (sj.view v)) (take l.json-index l.json-items) ≡ Ok (map (λ b. b.items) l.blobs.items)

@@ -1,0 +1,11 @@
+pub mod Entries
+pub mod Json
+pub mod JsonBack
+pub mod Laws
+pub mod Parsed
+pub mod Plain
+pub mod PlainAnswers
+pub mod PlainMemory
+pub mod Square
+pub mod Texts
+pub mod ViaJson

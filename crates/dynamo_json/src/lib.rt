@@ -1,0 +1,15 @@
+//! JSON: attribute values and items as DynamoDB JSON, both ways, and values as plain JSON.
+#![tactic(auto)]
+
+mod dynamo;
+mod from_json;
+mod plain;
+mod to_json;
+mod via_json;
+
+pub use dynamo::DynamoJson;
+pub use plain::to_json_value;
+pub use via_json::to_attribute_value_via_json;
+
+#[cfg(test)]
+mod tests;

@@ -1,0 +1,212 @@
+ghost use Rattle.std.specs.Prelude.{MatchResult, ◌≡◌, map};
+ghost use Rattle.serde_json.specs.Data as json;
+ghost use Rattle.serde_json.specs.View.{view, items_of};
+ghost use Rattle.dynamo_value.specs.Fault.{out_of_memory};
+ghost use Rattle.dynamo_value.specs.Kind.{fault_of};
+ghost use Rattle.dynamo_json.specs.Plain.{byte_number};
+ghost use Rattle.dynamo_json.specs.PlainAnswers.{AnswersPlain, refused};
+
+use super::serializer_map::SerializerMap;
+use super::serializer_seq::SerializerSeq;
+use super::serializer_struct::SerializerStruct;
+use super::serializer_struct_variant::SerializerStructVariant;
+use super::serializer_tuple_variant::SerializerTupleVariant;
+use super::{numbers, objects};
+use dynamo_ser::{Outcomes, Wrapper};
+use dynamo_value::{Error, Result};
+use serde_json::Value;
+use std::alloc::Global;
+
+// The serializer of plain JSON.
+#[derive(Clone, Copy)]
+pub struct Serializer {
+    alloc: Global,
+}
+
+impl Serializer {
+    pub fn new(alloc: Global) -> Serializer
+        ensures { result.alloc ≡ alloc }
+    {
+        Serializer { alloc }
+    }
+
+    fn string(self, text: &str) -> Result<Value>
+        ensures { MatchResult result (λ v. view v ≡ json.string text.now) (λ e. fault_of e ≡ out_of_memory) }
+    {
+        Ok(Value::String(String::from_str(self.alloc, text)?))
+    }
+
+    // The array of the bytes' numbers.
+    fn numbers(self, bytes: &[u8]) -> Result<Value>
+        ensures { MatchResult result (λ v. view v ≡ json.array (items_of (map byte_number bytes.now))) (λ e. fault_of e ≡ out_of_memory) }
+    {
+        let mut numbers = Vec::with_capacity(self.alloc, bytes.len())?;
+        for byte in bytes {
+            numbers.push(Value::from(*byte))?;
+        }
+        Ok(Value::Array(numbers))
+    }
+}
+
+impl Outcomes for Serializer {
+    type Ok = Value;
+
+    type Error = Error;
+
+    ghost outcome = { λ s d r. AnswersPlain d r };
+
+    ghost refusal = { λ s text e is. refused text e is };
+
+    fn alloc(&self) -> Global {
+        self.alloc
+    }
+}
+
+impl dynamo_ser::Serializer for Serializer {
+    type SerializeSeq = SerializerSeq;
+
+    type SerializeTuple = SerializerSeq;
+
+    type SerializeTupleStruct = SerializerSeq;
+
+    type SerializeTupleVariant = SerializerTupleVariant<'static>;
+
+    type SerializeMap = SerializerMap;
+
+    type SerializeStruct = SerializerStruct;
+
+    type SerializeStructVariant = SerializerStructVariant<'static>;
+
+    ghost content = { λ s w. s };
+
+    fn content_serializer(&self, _wrapper: Wrapper) -> Result<Serializer> {
+        Ok(*self)
+    }
+
+    fn wrap(self, wrapper: Wrapper, written: Value) -> Result<Value> {
+        match wrapper {
+            Wrapper::Option => Ok(written),
+            Wrapper::NewtypeStruct(_) => Ok(written),
+            Wrapper::NewtypeVariant(_, _, variant) => {
+                objects::single(self.alloc, variant, written)
+            }
+        }
+    }
+
+    fn serialize_bool(self, v: bool) -> Result<Value> {
+        Ok(Value::Bool(v))
+    }
+
+    fn serialize_i8(self, v: i8) -> Result<Value> {
+        Ok(numbers::signed(i64::from(v)))
+    }
+
+    fn serialize_i16(self, v: i16) -> Result<Value> {
+        Ok(numbers::signed(i64::from(v)))
+    }
+
+    fn serialize_i32(self, v: i32) -> Result<Value> {
+        Ok(numbers::signed(i64::from(v)))
+    }
+
+    fn serialize_i64(self, v: i64) -> Result<Value> {
+        Ok(numbers::signed(v))
+    }
+
+    fn serialize_i128(self, v: i128) -> Result<Value> {
+        numbers::wide_signed(self.alloc, v)
+    }
+
+    fn serialize_u8(self, v: u8) -> Result<Value> {
+        Ok(numbers::unsigned(u64::from(v)))
+    }
+
+    fn serialize_u16(self, v: u16) -> Result<Value> {
+        Ok(numbers::unsigned(u64::from(v)))
+    }
+
+    fn serialize_u32(self, v: u32) -> Result<Value> {
+        Ok(numbers::unsigned(u64::from(v)))
+    }
+
+    fn serialize_u64(self, v: u64) -> Result<Value> {
+        Ok(numbers::unsigned(v))
+    }
+
+    fn serialize_u128(self, v: u128) -> Result<Value> {
+        numbers::wide_unsigned(self.alloc, v)
+    }
+
+    fn serialize_char(self, v: char) -> Result<Value> {
+        Ok(Value::String(v.to_string(self.alloc)?))
+    }
+
+    fn serialize_str(self, v: &str) -> Result<Value> {
+        self.string(v)
+    }
+
+    fn serialize_bytes(self, v: &[u8]) -> Result<Value> {
+        self.numbers(v)
+    }
+
+    fn serialize_none(self) -> Result<Value> {
+        Ok(Value::Null)
+    }
+
+    fn serialize_unit(self) -> Result<Value> {
+        Ok(Value::Null)
+    }
+
+    fn serialize_unit_struct(self, _name: &'static str) -> Result<Value> {
+        Ok(Value::Null)
+    }
+
+    fn serialize_unit_variant(
+        self,
+        _name: &'static str,
+        _index: u32,
+        variant: &'static str,
+    ) -> Result<Value> {
+        self.string(variant)
+    }
+
+    fn serialize_seq(self, _len: Option<usize>) -> Result<SerializerSeq> {
+        Ok(SerializerSeq::new(self.alloc))
+    }
+
+    fn serialize_tuple(self, _len: usize) -> Result<SerializerSeq> {
+        Ok(SerializerSeq::new(self.alloc))
+    }
+
+    fn serialize_tuple_struct(self, _name: &'static str, _len: usize) -> Result<SerializerSeq> {
+        Ok(SerializerSeq::new(self.alloc))
+    }
+
+    fn serialize_tuple_variant(
+        self,
+        _name: &'static str,
+        _index: u32,
+        variant: &'static str,
+        _len: usize,
+    ) -> Result<SerializerTupleVariant<'static>> {
+        Ok(SerializerTupleVariant::new(self.alloc, variant))
+    }
+
+    fn serialize_map(self, _len: Option<usize>) -> Result<SerializerMap> {
+        Ok(SerializerMap::new(self.alloc))
+    }
+
+    fn serialize_struct(self, _name: &'static str, _len: usize) -> Result<SerializerStruct> {
+        Ok(SerializerStruct::new(self.alloc))
+    }
+
+    fn serialize_struct_variant(
+        self,
+        _name: &'static str,
+        _index: u32,
+        variant: &'static str,
+        _len: usize,
+    ) -> Result<SerializerStructVariant<'static>> {
+        Ok(SerializerStructVariant::new(self.alloc, variant))
+    }
+}

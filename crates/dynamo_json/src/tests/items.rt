@@ -1,0 +1,62 @@
+use super::{Wanted, read, refused, text_of};
+use dynamo_value::{AttributeValue, Item};
+use std::test::Fail;
+
+// A part of the item of the ProductCatalog sample in DynamoDB's guide.
+#[test]
+fn an_item_reads_by_its_names(rt: HostRuntime) -> Result<(), Fail> {
+    let alloc = rt.alloc();
+    let text =
+        r#"{"Id":{"N":"103"},"Authors":{"SS":["Author1","Author2"]},"InPublication":{"BOOL":false}}"#;
+    let item: Item = read(alloc, text)?;
+    assert_eq!(rt; item.inner().len(), 3);
+    assert!(rt; matches!(item.get("Id"), Some(AttributeValue::N(text)) if text.as_str() == "103"));
+    assert!(rt; matches!(item.get("InPublication"), Some(AttributeValue::Bool(false))));
+    assert!(rt; matches!(item.get("Authors"), Some(AttributeValue::Ss(set)) if set.len() == 2));
+    assert_eq!(rt;
+        text_of(alloc, &item)?.as_str(),
+        r#"{"Authors":{"SS":["Author1","Author2"]},"Id":{"N":"103"},"InPublication":{"BOOL":false}}"#
+    );
+    Ok(())
+}
+
+#[test]
+fn items_are_given_back(rt: HostRuntime) -> Result<(), Fail> {
+    let alloc = rt.alloc();
+    let texts = [
+        "{}",
+        r#"{"":{"S":""}}"#,
+        r#"{"l":{"L":[{"S":"Cookies"},{"S":"Coffee"},{"N":"3.14159"}]},"m":{"M":{"Age":{"N":"35"},"Name":{"S":"Joe"}}},"ns":{"NS":["42.2","-19","7.5","3.14"]}}"#,
+    ];
+    for text in texts {
+        let item: Item = read(alloc, text)?;
+        assert_eq!(rt; text_of(alloc, &item)?.as_str(), text);
+        assert!(rt; read::<Item>(alloc, text)? == item);
+    }
+    Ok(())
+}
+
+#[test]
+fn an_item_is_refused_by_its_first_attribute(rt: HostRuntime) -> Result<(), Fail> {
+    let rows = [
+        ("7", Wanted::Anything),
+        ("null", Wanted::Anything),
+        ("[]", Wanted::Anything),
+        (
+            r#"{"S":"a"}"#,
+            Wanted::Contains("expected an object with a single key"),
+        ),
+        (
+            r#"{"b":{},"a":{"X":"1"}}"#,
+            Wanted::Is("The key 'X' is not a known DynamoDB prefix"),
+        ),
+        (
+            r#"{"a":{"S":"1"},"b":{}}"#,
+            Wanted::Is("Expected exactly one key in the object, found none"),
+        ),
+    ];
+    for (text, wanted) in rows {
+        refused::<Item>(&rt, rt.alloc(), text, wanted)?;
+    }
+    Ok(())
+}
