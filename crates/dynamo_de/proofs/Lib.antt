@@ -1,10 +1,14 @@
 pub mod ByHand
 pub mod Chars
 pub mod Contents
+pub mod Decimals
 pub mod Each
 pub mod Fields
 pub mod Ignored
 pub mod Integers
+pub mod Json
+mod JsonRows
+pub mod JsonSteps
 pub mod Meets
 pub mod Pairs
 pub mod Rows

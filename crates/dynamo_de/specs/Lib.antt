@@ -7,8 +7,10 @@ pub mod Answer
 pub mod Contents
 pub mod Fields
 pub mod Ignored
+pub mod JsonItems
 pub mod Meets
 pub mod Number
+pub mod ReadJson
 pub mod Reads
 pub mod Scalars
 pub mod Shown

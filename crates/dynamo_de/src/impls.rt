@@ -1,3 +1,4 @@
+mod json;
 mod maps;
 mod numbers;
 mod options;

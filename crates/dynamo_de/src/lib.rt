@@ -3,6 +3,9 @@
 //! Who writes a type, a visitor or a seed sees serde: `impl Deserialize`, with [`Deserializer`]'s requests, [`Visitor`] and
 //! the four accesses. Who writes a reader gives the calls of [`Reader`], which show without visitors; serde's requests come
 //! with them.
+//!
+//! A `serde_json::Value` reads whatever JSON has a form for: a unit and `None` as null, whole numbers of 64 bits, a map as
+//! an object. A number that no 64 bits hold, a float among them, and a byte string are refused by a message.
 #![tactic(auto)]
 
 mod access;

@@ -12,7 +12,12 @@ use std::alloc::Global;
 
 /// The refusal of a provided body: a message that names what was shown and what was expected. Where the kind is claimed,
 /// nobody gave it a body, and the refusal is that for want of memory.
-fn refuse<E: Error, V>(alloc: Global, shown: Kind, claimed: bool, expecting: &str) -> Result<V, E>
+pub(crate) fn refuse<E: Error, V>(
+    alloc: Global,
+    shown: Kind,
+    claimed: bool,
+    expecting: &str,
+) -> Result<V, E>
     ensures { Meets E.fault (Refuses claimed) result }
 {
     if claimed {

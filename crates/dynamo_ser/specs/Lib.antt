@@ -3,6 +3,7 @@ pub use Rattle.dynamo_value.specs.Fault
 pub use Rattle.dynamo_value.specs.Integer
 pub use Rattle.dynamo_value.specs.Kind
 pub mod Datum
+pub mod JsonValue
 pub mod Key
 pub mod Options
 pub mod Pieces

@@ -7,6 +7,10 @@
 //! Scalars, texts, byte strings, options, boxes, references, lists, tuples and maps are written as they are. A list is
 //! written as one of DynamoDB's sets by [`string_set`], [`number_set`] and [`binary_set`], or by the wrappers
 //! [`StringSet`], [`NumberSet`] and [`BinarySet`].
+//!
+//! A `serde_json::Value` is written as what it is: null as a unit, a whole number as a `u64`, or an `i64` where it is
+//! negative, an array as a sequence, an object as a map in the order of its keys. A float, which this data model doesn't
+//! have, is refused by the message `JSON floats are not supported`.
 #![tactic(auto)]
 
 pub mod binary_set;

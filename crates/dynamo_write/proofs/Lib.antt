@@ -1,3 +1,4 @@
 pub mod Builders
+pub mod Collected
 mod Rows
 pub mod Sets

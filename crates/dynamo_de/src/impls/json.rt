@@ -1,0 +1,104 @@
+ghost use Rattle.std.specs.Prelude.{◌≡◌, MatchResult, encode_utf8};
+ghost use Rattle.serde_json.specs.Data as json;
+ghost use Rattle.serde_json.specs.View.{view, items_view, members_view};
+ghost use Rattle.dynamo_value.specs.Fault.{out_of_memory};
+ghost use Rattle.dynamo_de.specs.Answer.{Gives};
+ghost use Rattle.dynamo_de.specs.Meets.{Meets, IsMessage};
+ghost use Rattle.dynamo_de.specs.ReadJson.{read_json, read_sources, read_entries};
+
+use crate::visitor::refuse;
+use crate::{Deserialize, Deserializer, Error, Kind, Reader, Request, Showing};
+use serde_json::{Map, Value};
+use std::alloc::Global;
+
+impl Deserialize for Value {
+    ghost reads = { λ s. Gives view (read_json s) };
+
+    fn deserialize<D: Deserializer>(alloc: Global, deserializer: D) -> Result<Value, D::Error> {
+        read(alloc, deserializer)
+    }
+}
+
+/// Reads what is there, by the reader's own calls: the value holds itself, so no visitor could read it.
+#[cycle(read)]
+#[tactic(auto, using(crate::proofs::Json::json_as_shown))]
+fn read<R: Reader>(alloc: Global, reader: R) -> Result<Value, R::Error>
+    ensures { Meets R.Error.fault (Gives view (read_json (R.source reader))) result }
+{
+    match reader.show(Request::Any)? {
+        Showing::Bool(v) => Ok(Value::Bool(v)),
+        Showing::I8(v) => Ok(Value::from(v)),
+        Showing::I16(v) => Ok(Value::from(v)),
+        Showing::I32(v) => Ok(Value::from(v)),
+        Showing::I64(v) => Ok(Value::from(v)),
+        Showing::U8(v) => Ok(Value::from(v)),
+        Showing::U16(v) => Ok(Value::from(v)),
+        Showing::U32(v) => Ok(Value::from(v)),
+        Showing::U64(v) => Ok(Value::from(v)),
+        Showing::Char(v) => character(alloc, v),
+        Showing::Text(v) => Ok(Value::String(v)),
+        Showing::None => Ok(Value::Null),
+        Showing::Unit => Ok(Value::Null),
+        Showing::Some(content) => read(alloc, content),
+        Showing::Sequence(elements) => Ok(Value::Array(read_elements::<R>(alloc, elements)?)),
+        Showing::Map(entries) => Ok(Value::Object(read_members::<R>(alloc, entries)?)),
+        Showing::I128(_) => refuse_json(alloc, Kind::I128),
+        Showing::U128(_) => refuse_json(alloc, Kind::U128),
+        Showing::NumberText(_) => refuse_json(alloc, Kind::NumberText),
+        Showing::FirstChar(_) => refuse_json(alloc, Kind::Char),
+        Showing::Bytes(_) => refuse_json(alloc, Kind::Bytes),
+        Showing::Newtype(_) => refuse_json(alloc, Kind::NewtypeStruct),
+        Showing::Enum(_) => refuse_json(alloc, Kind::Enum),
+    }
+}
+
+#[cycle(read)]
+fn read_elements<R: Reader>(
+    alloc: Global,
+    mut elements: R::Elements,
+) -> Result<Vec<Value>, R::Error>
+    ensures { Meets R.Error.fault (Gives (λ v. items_view v.items) (read_sources (R.elements elements))) result }
+{
+    let mut items = Vec::new(alloc);
+    while let Some(element) = R::next_element(&mut elements) {
+        let item = read(alloc, element)?;
+        if items.push(item).is_err() {
+            return Err(R::Error::out_of_memory());
+        }
+    }
+    Ok(items)
+}
+
+#[cycle(read)]
+fn read_members<R: Reader>(
+    alloc: Global,
+    mut entries: R::Entries,
+) -> Result<Map<String, Value>, R::Error>
+    ensures { Meets R.Error.fault (Gives (λ m. members_view m.entries) (read_entries json.no_members (R.entries entries))) result }
+{
+    let mut members = Map::new(alloc);
+    while let Some((key, value)) = R::next_entry(&mut entries) {
+        let name = String::deserialize(alloc, key)?;
+        let member = read(alloc, value)?;
+        if members.insert(name, member).is_err() {
+            return Err(R::Error::out_of_memory());
+        }
+    }
+    Ok(members)
+}
+
+// A character is its text.
+fn character<E: Error>(alloc: Global, v: char) -> Result<Value, E>
+    ensures { MatchResult result (λ j. view j ≡ json.string (encode_utf8 v)) (λ e. E.fault e ≡ out_of_memory) }
+{
+    match v.to_string(alloc) {
+        Ok(text) => Ok(Value::String(text)),
+        Err(_) => Err(E::out_of_memory()),
+    }
+}
+
+fn refuse_json<E: Error>(alloc: Global, shown: Kind) -> Result<Value, E>
+    ensures { Meets E.fault IsMessage result }
+{
+    refuse(alloc, shown, false, "any valid JSON value")
+}
