@@ -1,0 +1,31 @@
+-- Each datum is the same as itself.
+use Rattle.std.proofs.Common.{refl, inl}
+use Rattle.dynamo_ser.specs.Datum as datum
+use Rattle.dynamo_ser.specs.Datum.{Datum, some, newtype_struct, newtype_variant, seq, tuple, tuple_struct, tuple_variant, map, struct, struct_variant, Pairs, no_pairs, pair, Fields, no_fields, field}
+use Rattle.dynamo_shape.specs.Same.{Same, SameElements, SamePairs, SameFields}
+
+mutual
+  pub same_refl : (d : Datum) → Same d d
+  same_refl (some d) = (d, refl, same_refl d)
+  same_refl (newtype_struct name d) = (d, refl, same_refl d)
+  same_refl (newtype_variant v d) = (d, refl, same_refl d)
+  same_refl (seq ds) = (ds, refl, data_refl ds)
+  same_refl (tuple ds) = (ds, refl, data_refl ds)
+  same_refl (tuple_struct name ds) = (ds, refl, data_refl ds)
+  same_refl (tuple_variant v ds) = (ds, refl, data_refl ds)
+  same_refl (map ps) = (ps, refl, pairs_refl ps)
+  same_refl (struct name fs) = (fs, refl, fields_refl fs)
+  same_refl (struct_variant v fs) = (fs, refl, fields_refl fs)
+  same_refl d = refl
+
+  pub data_refl : (ds : datum.Elements) → SameElements ds ds
+  data_refl datum.no_elements = refl
+  data_refl (datum.element d ds) = (d, ds, refl, same_refl d, data_refl ds)
+
+  pairs_refl : (ps : Pairs) → SamePairs ps ps
+  pairs_refl no_pairs = refl
+  pairs_refl (pair k d ps) = (k, d, ps, inl (refl, refl, refl), same_refl k, same_refl d, pairs_refl ps)
+
+  pub fields_refl : (fs : Fields) → SameFields fs fs
+  fields_refl no_fields = refl
+  fields_refl (field name d fs) = (d, fs, refl, same_refl d, fields_refl fs)

@@ -1,0 +1,35 @@
+-- Two permitted results are one answer.
+use Rattle.std.proofs.Common.{Result, Ok, Err, sym, ◌∙◌, inl, inr}
+use Rattle.dynamo_shape.proofs.Equivalence.{same_sym, same_trans}
+use Rattle.dynamo_de.specs.Answer.{Answer, value, fault, refused}
+use Rattle.dynamo_de.specs.Source.{Source}
+use Rattle.dynamo_ser.specs.Datum.{Datum}
+use Rattle.dynamo_shape.specs.Permits.{Permits, SameAnswer, FaultsOrSame}
+use Rattle.dynamo_shape.specs.Read.{read}
+use Rattle.dynamo_shape.specs.ReadsBack.{IsDetermined, WalksAgree}
+use Rattle.dynamo_shape.specs.Same.{Same}
+use Rattle.dynamo_shape.specs.Shape.{Shape}
+use Rattle.dynamo_value.specs.Fault.{Fault}
+
+one : (x : Answer Datum) (r q : Result Datum Fault) → Permits Same x r → Permits Same x q → SameAnswer Same r q
+one (value d) (Ok x) (Ok y) h k = same_trans x d y (same_sym d x h) k
+one (value d) (Err f) q h k = absurd h
+one (value d) (Ok x) (Err g) h k = absurd k
+one (fault f) (Ok x) q h k = absurd h
+one (fault f) (Err g) (Ok y) h k = absurd k
+one (fault f) (Err g) (Err e) h k = inl (h ∙ sym k)
+one refused (Ok x) q h k = absurd h
+one refused (Err g) (Ok y) h k = absurd k
+one refused (Err g) (Err e) h k = inr (h, k)
+
+pub determined : (s : Shape) (src : Source) → IsDetermined s src
+determined s src r q h k = one (read s src) r q h k
+
+weaker : (r q : Result Datum Fault) → SameAnswer Same r q → FaultsOrSame Same r q
+weaker (Ok x) (Ok y) h = h
+weaker (Err f) (Err g) h = tt
+weaker (Ok x) (Err g) h = absurd h
+weaker (Err f) (Ok y) h = absurd h
+
+pub walks : (s : Shape) (src : Source) → WalksAgree s src
+walks s src r q h k = weaker r q (determined s src r q h k)

@@ -1,0 +1,127 @@
+-- Worked rows of reading, by computation.
+use Rattle.std.proofs.Common.{◌≡◌, ℕ, pos, ◌-◌, ◌^◌, true, false, [], ◌∷◌, refl}
+use Rattle.std.specs.Prelude.{codes}
+use Rattle.std.specs.Str.{chars}
+use Rattle.dynamo_value.specs.Av as av
+use Rattle.dynamo_ser.specs.Datum as datum
+use Rattle.dynamo_de.specs.Answer.{value, fault, refused}
+use Rattle.dynamo_de.specs.Source.{Text, attribute}
+use Rattle.dynamo_ser.specs.Datum.{Variant, Datum, Pairs, no_pairs, pair, Fields, no_fields, field}
+use Rattle.dynamo_shape.specs.Read.{read}
+use Rattle.dynamo_shape.specs.Shape.{Shape, boolean, char, string, unit, integer, option, newtype, list, tuple, map, struct, enum, no_shapes, shape, no_field_shapes, field_shape, nothing, one, several, named, no_variants, variant}
+use Rattle.dynamo_value.specs.Av.{Av, N, S, B, Boolean, Null, Ss, Ns, Bs, L, M, Members, no_members, member}
+use Rattle.dynamo_value.specs.Fault.{Fault, message, failed_to_parse_int, failed_to_parse_float, expected_num, expected_map, expected_string, expected_unit, expected_enum, expected_char, expected_seq, expected_single_key}
+use Rattle.dynamo_value.specs.Integer.{IntegerKind, i64, i128, u8, u64, u128}
+
+abbrev byte : ℕ → Datum
+byte n = datum.integer u8 (pos n)
+
+abbrev bytes_map : Shape
+bytes_map = map (integer u8) (integer u8)
+
+a_char_of_four_bytes : read char (attribute (S (0xF0 ∷ 0x9F ∷ 0xA5 ∷ 0xB3 ∷ []))) ≡ value (datum.char 0x1F973)
+unfolding chars
+a_char_of_four_bytes = refl
+
+past_the_range : read (integer i64) (attribute (N (codes "18446744073709551615"))) ≡ fault (failed_to_parse_int (codes "18446744073709551615"))
+past_the_range = refl
+
+none_alone_is_read : read (option (option (integer u8))) (attribute (Null true)) ≡ value datum.none
+none_alone_is_read = refl
+
+integers_by_their_texts : (read (integer u8) (attribute (N (codes "256"))) ≡ fault (failed_to_parse_int (codes "256"))) × (read (integer u8) (attribute (N (codes "-0"))) ≡ fault (failed_to_parse_int (codes "-0"))) × (read (integer u8) (attribute (N (codes "007"))) ≡ value (byte 7)) × (read (integer u8) (attribute (S (codes "7"))) ≡ fault expected_num)
+integers_by_their_texts = (refl, refl, refl, refl)
+
+-- the value under the last of the texts of a key
+the_last_text_of_a_key : read bytes_map (attribute (M (member (codes "01") (N (codes "5")) (member (codes "1") (N (codes "6")) no_members)))) ≡ value (datum.map (pair (byte 1) (byte 6) no_pairs))
+the_last_text_of_a_key = refl
+
+a_key_of_letters : read bytes_map (attribute (M (member (codes "x") (N (codes "5")) no_members))) ≡ fault expected_num
+a_key_of_letters = refl
+
+abbrev event : Shape
+event = enum (codes "Event") (variant (codes "Unit") nothing (variant (codes "Newtype") (one (integer u8)) (variant (codes "Tuple") (several (shape (integer u8) (shape (integer u8) no_shapes))) (variant (codes "Structy") (named (field_shape (codes "one") (integer u8) (field_shape (codes "two") (integer u8) no_field_shapes))) no_variants))))
+
+abbrev event_variant : ℕ → Text → Variant
+event_variant i name = record { enum = codes "Event"; index = i; name = name }
+
+variants : (read event (attribute (M (member (codes "Unit") (N (codes "x")) no_members))) ≡ value (datum.unit_variant (event_variant 0 (codes "Unit"))))
+    × (read event (attribute (M no_members)) ≡ fault expected_single_key)
+    × (read event (attribute (S (codes "Newtype"))) ≡ refused)
+    × (read event (attribute (N (codes "1"))) ≡ fault expected_enum)
+    × (read event (attribute (M (member (codes "Tuple") (L (av.element (N (codes "1")) (av.element (N (codes "2")) av.no_elements))) no_members))) ≡ value (datum.tuple_variant (event_variant 2 (codes "Tuple")) (datum.element (byte 1) (datum.element (byte 2) datum.no_elements))))
+    × (read event (attribute (M (member (codes "Structy") (M (member (codes "one") (N (codes "1")) (member (codes "two") (N (codes "2")) no_members))) no_members))) ≡ value (datum.struct_variant (event_variant 3 (codes "Structy")) (field (codes "one") (byte 1) (field (codes "two") (byte 2) no_fields))))
+variants = (refl, refl, refl, refl, refl, refl)
+
+-- what stands under the wrong variant
+wrong_contents : (read event (attribute (M (member (codes "Tuple") (S (codes "a")) no_members))) ≡ fault expected_seq)
+    × (read event (attribute (M (member (codes "Structy") (L (av.element (N (codes "1")) (av.element (N (codes "2")) av.no_elements))) no_members))) ≡ fault expected_map)
+    × (read (map boolean (integer u8)) (attribute (M (member (codes "yes") (N (codes "1")) no_members))) ≡ fault expected_string)
+wrong_contents = (refl, refl, refl)
+
+abbrev two_bytes : Shape
+two_bytes = tuple (shape (integer u8) (shape (integer u8) no_shapes))
+
+two_elements_at_least : (read two_bytes (attribute (L (av.element (N (codes "1")) av.no_elements))) ≡ refused) × (read two_bytes (attribute (L (av.element (N (codes "1")) (av.element (N (codes "2")) (av.element (N (codes "3")) av.no_elements))))) ≡ value (datum.tuple (datum.element (byte 1) (datum.element (byte 2) datum.no_elements))))
+two_elements_at_least = (refl, refl)
+
+abbrev record_shape : Shape
+record_shape = struct (codes "Struct") (field_shape (codes "id") string (field_shape (codes "value") (integer u64) no_field_shapes))
+
+abbrev old_item : Av → Av
+old_item a = M (member (codes "aws:rep:updatetime") a (member (codes "id") (S (codes "test-4")) (member (codes "value") (N (codes "42")) no_members)))
+
+abbrev found : Datum
+found = datum.struct (codes "Struct") (field (codes "id") (datum.string (codes "test-4")) (field (codes "value") (datum.integer u64 (pos 42)) no_fields))
+
+unknown_attributes : (read record_shape (attribute (old_item (N (codes "1565723640.315001")))) ≡ value found) × (read record_shape (attribute (old_item (N (codes "abc")))) ≡ fault (failed_to_parse_float (codes "abc"))) × (read record_shape (attribute (old_item (Null false))) ≡ fault expected_unit)
+unknown_attributes = (refl, refl, refl)
+
+one_character : (read char (attribute (S [])) ≡ fault expected_char) × (read char (attribute (S (codes "ab"))) ≡ fault expected_char) × (read (map char (integer u8)) (attribute (M (member (codes "ab") (N (codes "1")) no_members))) ≡ refused)
+unfolding chars
+one_character = (refl, refl, refl)
+
+wide_integers : (read (integer i128) (attribute (N (codes "170141183460469231731687303715884105728"))) ≡ fault (failed_to_parse_int (codes "170141183460469231731687303715884105728")))
+    × (read (integer i128) (attribute (N (codes "1.5"))) ≡ fault (failed_to_parse_int (codes "1.5")))
+    × (read (integer i128) (attribute (S (codes "5"))) ≡ fault expected_num)
+    × (read (integer u128) (attribute (N (codes "340282366920938463463374607431768211455"))) ≡ value (datum.integer u128 (pos (2 ^ 128 - 1))))
+    × (read (map (integer i128) unit) (attribute (M (member (codes "5") (Null true) no_members))) ≡ value (datum.map (pair (datum.integer i128 (pos 5)) datum.unit no_pairs)))
+wide_integers = (refl, refl, refl, refl, refl)
+
+wide_integers_in_sets : (read (list (integer u128)) (attribute (Ns (codes "18446744073709551616" ∷ []))) ≡ value (datum.seq (datum.element (datum.integer u128 (pos 18446744073709551616)) datum.no_elements)))
+    × (read (list (integer u64)) (attribute (Ns (codes "18446744073709551616" ∷ []))) ≡ fault (failed_to_parse_int (codes "18446744073709551616")))
+wide_integers_in_sets = (refl, refl)
+
+no_newtype_in_a_set : read (list (newtype (codes "Name") string)) (attribute (Ss (codes "a" ∷ []))) ≡ refused
+no_newtype_in_a_set = refl
+
+abbrev user : Shape
+user = struct (codes "User") (field_shape (codes "id") string (field_shape (codes "name") string (field_shape (codes "age") (integer u8) no_field_shapes)))
+
+forms_of_a_struct : (read (option (integer u8)) (attribute (Null false)) ≡ fault expected_num)
+    × (read user (attribute (L (av.element (S (codes "a")) (av.element (S (codes "b")) (av.element (N (codes "7")) av.no_elements))))) ≡ value (datum.struct (codes "User") (field (codes "id") (datum.string (codes "a")) (field (codes "name") (datum.string (codes "b")) (field (codes "age") (byte 7) no_fields)))))
+    × (read user (attribute (Ss (codes "a" ∷ []))) ≡ fault expected_map)
+forms_of_a_struct = (refl, refl, refl)
+
+-- without an age; a list with a wrong element; a set with one
+what_is_missing_or_wrong : (read user (attribute (M (member (codes "id") (S (codes "x")) (member (codes "name") (S (codes "n")) no_members)))) ≡ refused)
+    × (read (list (integer u8)) (attribute (L (av.element (N (codes "1")) (av.element (S (codes "2")) av.no_elements)))) ≡ fault expected_num)
+    × (read (list (integer u8)) (attribute (Ns (codes "1" ∷ codes "256" ∷ []))) ≡ fault (failed_to_parse_int (codes "256")))
+    × (read (list (option string)) (attribute (Ss (codes "a" ∷ []))) ≡ refused)
+what_is_missing_or_wrong = (refl, refl, refl, refl)
+
+-- maps read in order
+three_texts_of_a_key : read bytes_map (attribute (M (member (codes "+1") (N (codes "7")) (member (codes "01") (N (codes "5")) (member (codes "1") (N (codes "6")) no_members))))) ≡ value (datum.map (pair (byte 1) (byte 6) no_pairs))
+three_texts_of_a_key = refl
+
+the_first_fault_by_keys : read (map string (integer u8)) (attribute (M (member (codes "a") (N (codes "x")) (member (codes "b") (Null false) no_members)))) ≡ fault (failed_to_parse_int (codes "x"))
+the_first_fault_by_keys = refl
+
+a_value_before_a_later_key : read bytes_map (attribute (M (member (codes "1") (N (codes "y")) (member (codes "x") (N (codes "1")) no_members)))) ≡ fault (failed_to_parse_int (codes "y"))
+a_value_before_a_later_key = refl
+
+a_field_before_a_later_one : read user (attribute (M (member (codes "age") (S (codes "1")) (member (codes "id") (N (codes "2")) (member (codes "name") (S (codes "n")) no_members))))) ≡ fault expected_num
+a_field_before_a_later_one = refl
+
+an_unknown_attribute_first : read user (attribute (M (member (codes "aa") (Null false) (member (codes "age") (S (codes "1")) (member (codes "id") (S (codes "x")) (member (codes "name") (S (codes "n")) no_members)))))) ≡ fault expected_unit
+an_unknown_attribute_first = refl

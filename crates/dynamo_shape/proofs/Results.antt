@@ -1,0 +1,32 @@
+-- Results and answers that are values.
+use Rattle.std.proofs.Common.{◌≡◌, ℕ, [], ◌∷◌, Result, Ok, Err, Some, refl, sym, ap, ◌∙◌}
+use Rattle.std.specs.Prelude.{chars, encode_utf8, is_ok}
+use Rattle.std.specs.Result.{result_unwrap_or}
+use Rattle.std.specs.Char.{IsScalar}
+use Rattle.std.proofs.lemmas.Bool.{true≢false}
+use Rattle.std.proofs.lemmas.Str.{chars-encodes}
+use Rattle.dynamo_write.proofs.Collected.{nothing_more}
+use Rattle.dynamo_de.specs.Answer.{Answer, value, fault, refused}
+use Rattle.dynamo_de.specs.Scalars.{one_char, the_only}
+use Rattle.dynamo_value.specs.Fault.{Fault, ◌>>=◌}
+
+pub ok_same : {A : Type 0} {x y : A} → ◌≡◌ {A = Result A Fault} (Ok x) (Ok y) → x ≡ y
+ok_same {x = x} e = ap (λ r. result_unwrap_or r x) e
+
+pub err_ok : {A : Type 0} {f : Fault} {x : A} → ◌≡◌ {A = Result A Fault} (Err f) (Ok x) → ⊥
+err_ok e = true≢false (sym (ap is_ok e))
+
+abbrev given : {A : Type 0} → Answer A → A → A
+given (value x) y = x
+given (fault f) y = y
+given refused y = y
+
+pub value_same : {A : Type 0} {x y : A} → value x ≡ value y → x ≡ y
+value_same {x = x} e = ap (λ r. given r x) e
+
+pub bind_ok : {A B : Type 0} (r : Result A Fault) (f : A → Result B Fault) (y : B) → r >>= f ≡ Ok y → (x : A) × (r ≡ Ok x) × (f x ≡ Ok y)
+bind_ok (Ok x) f y h = (x, refl, h)
+bind_ok (Err e) f y h = absurd (err_ok h)
+
+pub one_char-encode : (c : ℕ) → IsScalar c → one_char (encode_utf8 c) ≡ Some c
+one_char-encode c h = ap the_only (ap chars (sym (nothing_more (encode_utf8 c))) ∙ chars-encodes (c ∷ []) (rw h refl))

@@ -1,0 +1,103 @@
+-- What the scalar types read is permitted by reading at their shapes, and what they tell tells them apart.
+use Rattle.std.proofs.Common.{◌≡◌, ℕ, ℤ, pos, Bool, true, List, [], Result, Ok, Err, refl, sym, ap, subst, ◌∙◌}
+use Rattle.std.specs.Prelude.{is_ok, ⊤}
+use Rattle.std.proofs.lemmas.Bool.{true≢false}
+use Rattle.dynamo_value.specs.Fault.{Fault}
+use Rattle.dynamo_value.specs.Integer.{IntegerKind}
+use Rattle.dynamo_ser.specs.Datum as datum
+use Rattle.dynamo_ser.specs.Datum.{Datum}
+use Rattle.dynamo_de.specs.Answer as answer
+use Rattle.dynamo_de.specs.Answer.{Answer, Gives}
+use Rattle.dynamo_de.specs.Scalars.{read_bool, read_integer, read_char, read_string, read_bytes, read_unit}
+use Rattle.dynamo_shape.specs.Conforms.{conforms}
+use Rattle.dynamo_shape.specs.Laws.{Answers, ReadsByShape, IsToldByValue}
+use Rattle.dynamo_shape.specs.Read.{into}
+use Rattle.dynamo_shape.specs.Same.{Same}
+use Rattle.dynamo_shape.specs.Shape as shape
+use Rattle.dynamo_shape.proofs.Alike.{same_refl}
+
+abbrev fault_or : {T : Type 0} → Result T Fault → Fault → Fault
+fault_or (Ok v) f = f
+fault_or (Err g) f = g
+
+pub no_fault : {T : Type 0} {v : T} {f : Fault} → ◌≡◌ {A = Result T Fault} (Ok v) (Err f) → ⊥
+no_fault h = true≢false (ap is_ok h)
+
+pub same_fault : {T : Type 0} {f g : Fault} → ◌≡◌ {A = Result T Fault} (Err g) (Err f) → g ≡ f
+same_fault {f = f} h = ap (λ r. fault_or r f) h
+
+-- a call that gives what is read gives what is read by shape
+pub given : {A T : Type 0} (C : Datum → Type 0) (seen : T → A) (make : A → Datum) (a : Answer A) (r : Result T Fault) → Gives seen a r → Answers C Same (λ v. make (seen v)) (into make a) r
+given C seen make (answer.value x) (Ok v) h = (make x, refl, λ _. subst (λ y. Same (make x) (make y)) (sym h) (same_refl (make x)))
+given C seen make (answer.value x) (Err f) h = h
+given C seen make (answer.fault f) (Ok v) h = absurd (no_fault h)
+given C seen make (answer.fault f) (Err g) h = same_fault h
+given C seen make answer.refused (Ok v) h = absurd h
+given C seen make answer.refused (Err g) h = h
+
+-- ---- what a scalar's datum holds
+
+abbrev bool_in : Datum → Bool
+bool_in (datum.boolean b) = b
+bool_in _ = true
+
+abbrev integer_in : Datum → ℤ
+integer_in (datum.integer k z) = z
+integer_in _ = pos 0
+
+abbrev number_in : ℤ → ℕ
+number_in (pos n) = n
+number_in _ = 0
+
+abbrev char_in : Datum → ℕ
+char_in (datum.char c) = c
+char_in _ = 0
+
+abbrev bytes_in : Datum → List ℕ
+bytes_in (datum.string text) = text
+bytes_in (datum.bytes bytes) = bytes
+bytes_in _ = []
+
+-- ---- the types
+
+pub bool_permitted : ReadsByShape shape.boolean datum.boolean (λ s. Gives (λ b. b) (read_bool s))
+bool_permitted s r h = given (conforms shape.boolean) (λ b. b) datum.boolean (read_bool s) r h
+
+pub bool_told : IsToldByValue datum.boolean (λ a b. a ≡ b)
+bool_told a b h = ap bool_in h
+
+pub signed_permitted : (k : IntegerKind) → ReadsByShape (shape.integer k) (datum.integer k) (λ s. Gives (λ z. z) (read_integer k s))
+signed_permitted k s r h = given (conforms (shape.integer k)) (λ z. z) (datum.integer k) (read_integer k s) r h
+
+pub signed_told : (k : IntegerKind) → IsToldByValue (datum.integer k) (λ a b. a ≡ b)
+signed_told k a b h = ap integer_in h
+
+pub unsigned_permitted : (k : IntegerKind) → ReadsByShape (shape.integer k) (λ n. datum.integer k (pos n)) (λ s. Gives pos (read_integer k s))
+unsigned_permitted k s r h = given (conforms (shape.integer k)) pos (datum.integer k) (read_integer k s) r h
+
+pub unsigned_told : (k : IntegerKind) → IsToldByValue (λ n. datum.integer k (pos n)) (λ a b. a ≡ b)
+unsigned_told k a b h = ap (λ d. number_in (integer_in d)) h
+
+pub char_permitted : ReadsByShape shape.char datum.char (λ s. Gives (λ c. c) (read_char s))
+char_permitted s r h = given (conforms shape.char) (λ c. c) datum.char (read_char s) r h
+
+pub char_told : IsToldByValue datum.char (λ a b. a ≡ b)
+char_told a b h = ap char_in h
+
+pub text_permitted : {T : Type 0} (seen : T → List ℕ) → ReadsByShape shape.string (λ t. datum.string (seen t)) (λ s. Gives seen (read_string s))
+text_permitted seen s r h = given (conforms shape.string) seen datum.string (read_string s) r h
+
+pub text_told : {T : Type 0} (seen : T → List ℕ) → IsToldByValue (λ t. datum.string (seen t)) (λ a b. seen a ≡ seen b)
+text_told seen a b h = ap bytes_in h
+
+pub bytes_permitted : {T : Type 0} (seen : T → List ℕ) → ReadsByShape shape.bytes (λ t. datum.bytes (seen t)) (λ s. Gives seen (read_bytes s))
+bytes_permitted seen s r h = given (conforms shape.bytes) seen datum.bytes (read_bytes s) r h
+
+pub bytes_told : {T : Type 0} (seen : T → List ℕ) → IsToldByValue (λ t. datum.bytes (seen t)) (λ a b. seen a ≡ seen b)
+bytes_told seen a b h = ap bytes_in h
+
+pub unit_permitted : ReadsByShape {T = ⊤} shape.unit (λ _. datum.unit) (λ s. Gives (λ u. u) (read_unit s))
+unit_permitted s r h = given (conforms shape.unit) (λ u. u) (λ _. datum.unit) (read_unit s) r h
+
+pub unit_told : IsToldByValue {T = ⊤} (λ _. datum.unit) (λ a b. a ≡ b)
+unit_told a b h = refl

@@ -1,0 +1,53 @@
+-- Worked rows of what conforms, what is kept, and which shapes are clear, by computation.
+use Rattle.std.proofs.Common.{◌≡◌, pos, ◌-◌, ◌^◌, true, false, refl, inl, inr}
+use Rattle.std.specs.Prelude.{codes, ⊤}
+use Rattle.dynamo_ser.specs.Datum as datum
+use Rattle.dynamo_ser.specs.Datum.{Datum}
+use Rattle.dynamo_ser.specs.Symbols.{strings, numbers, symbol}
+use Rattle.dynamo_shape.specs.Clear.{Nullable, IsKey, IsElement, NearlyClear, NoneNested}
+use Rattle.dynamo_shape.specs.Conforms.{conforms}
+use Rattle.dynamo_shape.specs.Kept.{kept}
+use Rattle.dynamo_shape.specs.Same.{Same}
+use Rattle.dynamo_shape.specs.SameKey.{same_key, put_pair}
+use Rattle.dynamo_shape.specs.Shape.{Shape, boolean, char, string, unit, integer, option, newtype, list, set, map, enum, nothing, one, no_variants, variant}
+use Rattle.dynamo_value.specs.Integer.{u8, u64}
+
+abbrev seven : Datum
+seven = datum.integer u8 (pos 7)
+
+-- some of null is none; some of anything else stays, and so does what stands inside of it
+what_is_kept : (kept (datum.some datum.none) ≡ datum.none) × (kept (datum.some datum.unit) ≡ datum.none) × (kept (datum.some (datum.newtype_struct (codes "Unit") datum.unit)) ≡ datum.none) × (kept (datum.some seven) ≡ datum.some seven)
+    × (kept (datum.seq (datum.element (datum.some datum.unit) datum.no_elements)) ≡ datum.seq (datum.element datum.none datum.no_elements))
+what_is_kept = (refl, refl, refl, refl, refl)
+
+conforming : conforms (integer u8) seven × conforms (option (integer u8)) datum.none × conforms (option (integer u8)) (datum.some seven) × conforms (set numbers (integer u8)) (datum.newtype_struct (symbol numbers) (datum.seq (datum.element seven datum.no_elements)))
+conforming = ((pos 7, refl, refl), inl refl, inr (seven, refl, (pos 7, refl, refl)), (datum.element seven datum.no_elements, refl, ((pos 7, refl, refl), tt)))
+
+-- an option over what may be null nests none; over anything else it doesn't
+nested : (NoneNested (option (option boolean)) → ⊥) × (NoneNested (list (option unit)) → ⊥) × NoneNested (option (list unit))
+nested = (λ h. h.0 tt, λ h. h.0 tt, ((λ n. n), tt))
+
+key_shapes : IsKey (newtype (codes "Id") (integer u64)) × IsKey (enum (codes "Kind") (variant (codes "A") nothing (variant (codes "B") nothing no_variants))) × (IsKey (list char) → ⊥) × (IsKey (enum (codes "Kind") (variant (codes "A") (one char) no_variants)) → ⊥)
+key_shapes = ((refl, tt), (refl, (refl, tt)), (λ h. h), (λ h. h))
+
+element_shapes : IsElement strings string × IsElement numbers (integer u8) × (IsElement strings (newtype (codes "Name") string) → ⊥) × (IsElement numbers string → ⊥)
+element_shapes = (tt, tt, (λ h. h), (λ h. h))
+
+-- a newtype named by the symbol of a set is not clear, nor are two variants of one name
+unclear : (NearlyClear (newtype (symbol strings) string) → ⊥) × (NearlyClear (enum (codes "E") (variant (codes "A") nothing (variant (codes "A") nothing no_variants))) → ⊥)
+unclear = ((λ h. cc), (λ h. cc))
+
+-- a pair is put in the place of its key, or last
+abbrev pairs : datum.Pairs
+pairs = datum.pair seven datum.unit (datum.pair (datum.char 97) datum.unit datum.no_pairs)
+
+put_in_place : (put_pair (datum.char 97) datum.none pairs ≡ datum.pair seven datum.unit (datum.pair (datum.char 97) datum.none datum.no_pairs))
+    × (put_pair (datum.integer u64 (pos 7)) datum.none pairs ≡ datum.pair seven datum.unit (datum.pair (datum.char 97) datum.unit (datum.pair (datum.integer u64 (pos 7)) datum.none datum.no_pairs)))
+put_in_place = (refl, refl)
+
+-- maps are the same in whatever order, lists are not
+abbrev swapped : datum.Pairs
+swapped = datum.pair (datum.char 97) datum.unit (datum.pair seven datum.unit datum.no_pairs)
+
+same_in_order : Same (datum.map pairs) (datum.map swapped)
+same_in_order = (swapped, refl, (seven, datum.unit, datum.pair (datum.char 97) datum.unit datum.no_pairs, inr (datum.no_pairs, refl, inl (refl, refl, refl)), refl, refl, (datum.char 97, datum.unit, datum.no_pairs, inl (refl, refl, refl), refl, refl, refl)))

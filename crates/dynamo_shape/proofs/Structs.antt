@@ -1,0 +1,122 @@
+-- What is written for fields reads back by their names.
+use Rattle.std.proofs.Common.{◌≡◌, true, false, cond, List, [], ◌∷◌, Ok, Some, refl, sym, ap, subst, ◌∙◌, inl, inr}
+use Rattle.std.specs.Prelude.{⊤, bytes_eq}
+use Rattle.std.specs.List.{AllByRecursion}
+use Rattle.std.proofs.lemmas.Bool.{true≢false, cases_Bool}
+use Rattle.std.proofs.lemmas.Option.{none-some, same_Some}
+use Rattle.std.proofs.lemmas.Slice.Eq.{bytes_eq-Decides}
+use Rattle.dynamo_shape.proofs.Results.{value_same}
+use Rattle.dynamo_shape.proofs.Members.{EachMember, get_member, collected}
+use Rattle.dynamo_shape.proofs.Found.{same_bytes, HasNames, KeysIn, names_keys, Found, found, Unseen, unseen_none, unseen_more}
+use Rattle.dynamo_de.specs.Answer.{Answer, value}
+use Rattle.dynamo_de.specs.Source.{Text, attribute, entries_of}
+use Rattle.dynamo_ser.specs.Datum.{Datum, Fields, no_fields, field}
+use Rattle.dynamo_shape.specs.Clear.{is_field, NearlyClearFields}
+use Rattle.dynamo_shape.specs.Kept.{kept_fields}
+use Rattle.dynamo_shape.specs.Read.{read, read_field, read_each_entry, lookup, fields_among, fields_by_name}
+use Rattle.dynamo_shape.specs.ReadsBack.{ReadsBack}
+use Rattle.dynamo_shape.specs.Same.{SameFields}
+use Rattle.dynamo_shape.specs.Shape.{Shape, FieldShapes, no_field_shapes, field_shape}
+use Rattle.dynamo_value.specs.Av.{Av, Members, no_members, member, members_of}
+use Rattle.dynamo_write.specs.Collect.{collect}
+use Rattle.dynamo_write.specs.Written.{written_fields}
+
+-- the entries read as the fields, by the shapes in order
+abbrev pub ReadAs : FieldShapes → List (Text × Av) → Fields → Type 0
+ReadAs no_field_shapes [] no_fields = ⊤
+ReadAs (field_shape name s fs) (e ∷ es) (field n y hs) = (e.0 ≡ name) × (n ≡ name) × (read s (attribute e.1) ≡ value y) × ReadAs fs es hs
+ReadAs _ _ _ = ⊥
+
+-- the same by R
+abbrev EachRead : (Text → Av → Answer Datum) → List (Text × Av) → Fields → Type 0
+EachRead R [] no_fields = ⊤
+EachRead R (e ∷ es) (field n y hs) = (R e.0 e.1 ≡ value y) × EachRead R es hs
+EachRead R _ _ = ⊥
+
+has_names : (fs : FieldShapes) (es : List (Text × Av)) (hs : Fields) → ReadAs fs es hs → HasNames fs es
+has_names no_field_shapes [] no_fields h = tt
+has_names (field_shape name s fs) (e ∷ es) (field n y hs) h = (h.0, has_names fs es hs h.3)
+has_names no_field_shapes [] (field n y hs) h = absurd h
+has_names no_field_shapes (e ∷ es) hs h = absurd h
+has_names (field_shape name s fs) [] hs h = absurd h
+has_names (field_shape name s fs) (e ∷ es) no_fields h = absurd h
+
+-- a field in front changes nothing for the others
+in_front : (name : Text) (s : Shape) (fs : FieldShapes) (es : List (Text × Av)) (hs : Fields) → is_field fs name ≡ false → KeysIn (λ t. is_field fs t ≡ true) es → EachRead (read_field fs) es hs → EachRead (read_field (field_shape name s fs)) es hs
+in_front name s fs [] no_fields n k h = tt
+in_front name s fs [] (field m y hs) n k h = absurd h
+in_front name s fs (e ∷ es) no_fields n k h = absurd h
+in_front name s fs (e ∷ es) (field m y hs) n k h =
+    let other : bytes_eq e.0 name ≡ false = elim (cases_Bool (bytes_eq e.0 name)) [
+      | inl p ↦ absurd (true≢false (sym k.0 ∙ ap (is_field fs) ((bytes_eq-Decides e.0 name).0 p) ∙ n))
+      | inr p ↦ p
+    ] in
+    (rw other h.0, in_front name s fs es hs n k.1 h.1)
+
+each_read : (fs : FieldShapes) (es : List (Text × Av)) (hs : Fields) → NearlyClearFields fs → ReadAs fs es hs → EachRead (read_field fs) es hs
+each_read no_field_shapes [] no_fields n h = tt
+each_read no_field_shapes [] (field m y hs) n h = absurd h
+each_read no_field_shapes (e ∷ es) hs n h = absurd h
+each_read (field_shape name s fs) [] hs n h = absurd h
+each_read (field_shape name s fs) (e ∷ es) no_fields n h = absurd h
+each_read (field_shape name s fs) (e ∷ es) (field m y hs) n h =
+    (rw (ap (bytes_eq e.0) (sym h.0) ∙ same_bytes e.0) h.2, in_front name s fs es hs n.0 (names_keys fs es (has_names fs es hs h.3)) (each_read fs es hs n.2 h.3))
+
+-- ---- the entries that are read
+
+abbrev Readable : (Text → Av → Answer Datum) → Text → Av → Type 0
+Readable R t a = (y : Datum) × (R t a ≡ value y)
+
+readable : (R : Text → Av → Answer Datum) (es : List (Text × Av)) (hs : Fields) → EachRead R es hs → AllByRecursion (λ e. Readable R e.0 e.1) es
+readable R [] hs h = tt
+readable R (e ∷ es) no_fields h = absurd h
+readable R (e ∷ es) (field n y hs) h = ((y, h.0), readable R es hs h.1)
+
+abbrev Looks : (Text → Av → Answer Datum) → Members → List (Text × Datum) → Type 0
+Looks R ms rs = (t : Text) (a : Av) (y : Datum) → get_member t ms ≡ Some a → R t a ≡ value y → lookup t rs ≡ Some y
+
+looks : (R : Text → Av → Answer Datum) (u : Text) (b : Av) (x : Datum) (ms : Members) (rs : List (Text × Datum)) → R u b ≡ value x → Looks R ms rs → Looks R (member u b ms) ((u, x) ∷ rs)
+looks R u b x ms rs e f t a y =
+    elim (bytes_eq t u) as (λ c. bytes_eq t u ≡ c → cond c (Some b) (get_member t ms) ≡ Some a → R t a ≡ value y → cond c (Some x) (lookup t rs) ≡ Some y) [
+      | true ↦ λ q g h. ap Some (value_same (sym e ∙ (λ i. R (sym ((bytes_eq-Decides t u).0 q) i) (same_Some b a g i)) ∙ h))
+      | false ↦ λ q g h. f t a y g h
+    ] refl
+
+entries_read : (R : Text → Av → Answer Datum) (ms : Members) → EachMember (Readable R) ms → (rs : List (Text × Datum)) × (read_each_entry R (entries_of ms) ≡ value rs) × Looks R ms rs
+entries_read R no_members h = ([], refl, λ t a y g k. absurd (none-some a g))
+entries_read R (member u b ms) h =
+    let r = entries_read R ms h.1 in
+    ((u, h.0.0) ∷ r.0, rw (h.0.1, r.1) refl, looks R u b h.0.0 ms r.0 h.0.1 r.2)
+
+fields_read : (R : Text → Av → Answer Datum) (fs : FieldShapes) (es : List (Text × Av)) (hs : Fields) (seen : List Text) (ms : Members) (rs : List (Text × Datum)) → ReadAs fs es hs → EachRead R es hs → Found es ms → NearlyClearFields fs → Unseen fs seen → Looks R ms rs → fields_among fs seen rs ≡ value hs
+fields_read R no_field_shapes [] no_fields seen ms rs h k f n u look = refl
+fields_read R no_field_shapes [] (field m y hs) seen ms rs h k f n u look = absurd h
+fields_read R no_field_shapes (e ∷ es) hs seen ms rs h k f n u look = absurd h
+fields_read R (field_shape name s fs) [] hs seen ms rs h k f n u look = absurd h
+fields_read R (field_shape name s fs) (e ∷ es) no_fields seen ms rs h k f n u look = absurd h
+fields_read R (field_shape name s fs) (e ∷ es) (field m y hs) seen ms rs h k f n u look =
+    let there : lookup name rs ≡ Some y = subst (λ t. lookup t rs ≡ Some y) h.0 (look e.0 e.1 y f.0 k.0) in
+    let rest = fields_read R fs es hs (name ∷ seen) ms rs h.3 k.1 f.1 n.2 (unseen_more fs seen name n.0 u.1) look in
+    rw (u.0, there, rest) (ap (λ t. value (field t y hs)) (sym h.1))
+
+pub named_read : (fs : FieldShapes) (es : List (Text × Av)) (hs : Fields) → NearlyClearFields fs → ReadAs fs es hs → fields_by_name fs (read_field fs) (entries_of (members_of (collect es))) ≡ value hs
+named_read fs es hs n h =
+    let k = each_read fs es hs n h in
+    let ms : Members = members_of (collect es) in
+    let r = entries_read (read_field fs) ms (collected (Readable (read_field fs)) es (readable (read_field fs) es hs k)) in
+    rw r.1 (fields_read (read_field fs) fs es hs [] ms r.0 h k (found fs es n (has_names fs es hs h)) n (unseen_none fs) r.2)
+
+pub FieldsBack : FieldShapes → Fields → Type 0
+FieldsBack fs gs = (es : List (Text × Av)) × (hs : Fields) × (written_fields gs ≡ Ok es) × ReadAs fs es hs × SameFields (kept_fields gs) hs
+
+pub no_fields_back : FieldsBack no_field_shapes no_fields
+unfolding FieldsBack
+no_fields_back = ([], no_fields, refl, tt, refl)
+
+pub field_back : (name : Text) (s : Shape) (fs : FieldShapes) (e : Datum) (gs : Fields) → ReadsBack s e → FieldsBack fs gs → FieldsBack (field_shape name s fs) (field name e gs)
+unfolding FieldsBack
+field_back name s fs e gs h t = ((name, h.0) ∷ t.0, field name h.1 t.1, rw (h.2, t.2) refl, (refl, refl, h.3, t.3), (h.1, t.1, refl, h.4, t.4))
+
+pub all_named : (fs : FieldShapes) (gs : Fields) → NearlyClearFields fs → FieldsBack fs gs → (es : List (Text × Av)) × (hs : Fields) × (written_fields gs ≡ Ok es) × (fields_by_name fs (read_field fs) (entries_of (members_of (collect es))) ≡ value hs) × SameFields (kept_fields gs) hs
+unfolding FieldsBack
+all_named fs gs n t = (t.0, t.1, t.2, named_read fs t.0 t.1 n t.3, t.4)

@@ -1,0 +1,12 @@
+-- When two values are the same by value: part by part.
+use Rattle.std.specs.Prelude.{List, [], ◌∷◌, Option, Some, None, ⊤}
+
+abbrev pub SameEach : {A : Type 0} → (A → A → Type 0) → List A → List A → Type 0
+SameEach same [] [] = ⊤
+SameEach same (x ∷ xs) (y ∷ ys) = same x y × SameEach same xs ys
+SameEach same _ _ = ⊥
+
+abbrev pub SameOption : {A : Type 0} → (A → A → Type 0) → Option A → Option A → Type 0
+SameOption same None None = ⊤
+SameOption same (Some x) (Some y) = same x y
+SameOption same _ _ = ⊥

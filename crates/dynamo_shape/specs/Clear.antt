@@ -1,0 +1,119 @@
+-- Clear shapes: those at which whatever is written reads back as it was. At every depth
+--   no option stands over what may be written as null itself,
+--   the names of fields are distinct, and so are those of variants,
+--   map keys are booleans, integers, characters, texts, enums of unit variants, or newtypes over these,
+--   the elements of a set are such as the set holds, none of them under a newtype or an option,
+--   and no newtype has the name that asks for a set.
+-- Without the first condition a shape is nearly clear: then some of null reads back as none.
+use Rattle.std.specs.Prelude.{◌≡◌, Bool, false, None, ◌||◌, bytes_eq, ⊤}
+use Rattle.dynamo_ser.specs.Symbols.{SetKind}
+use Rattle.dynamo_write.specs.Set.{set_kind}
+use Rattle.dynamo_de.specs.Source.{Text}
+use Rattle.dynamo_shape.specs.Shape as shape
+use Rattle.dynamo_shape.specs.Shape.{Shape, Shapes, FieldShapes, Content, Variants}
+
+-- written as null, or perhaps so
+abbrev pub Nullable : Shape → Type 0
+Nullable shape.unit = ⊤
+Nullable (shape.unit_struct name) = ⊤
+Nullable (shape.option s) = ⊤
+Nullable (shape.newtype name s) = Nullable s
+Nullable _ = ⊥
+
+abbrev pub is_variant : Variants → Text → Bool
+is_variant shape.no_variants t = false
+is_variant (shape.variant v c vs) t = bytes_eq v t || is_variant vs t
+
+abbrev pub is_field : FieldShapes → Text → Bool
+is_field shape.no_field_shapes t = false
+is_field (shape.field_shape name s fs) t = bytes_eq t name || is_field fs t
+
+-- unit variants of distinct names
+abbrev pub AreUnits : Variants → Type 0
+AreUnits shape.no_variants = ⊤
+AreUnits (shape.variant v shape.nothing vs) = (is_variant vs v ≡ false) × AreUnits vs
+AreUnits (shape.variant v c vs) = ⊥
+
+abbrev pub IsKey : Shape → Type 0
+IsKey shape.boolean = ⊤
+IsKey shape.char = ⊤
+IsKey shape.string = ⊤
+IsKey (shape.integer k) = ⊤
+IsKey (shape.newtype name s) = (set_kind name ≡ None) × IsKey s
+IsKey (shape.enum name vs) = AreUnits vs
+IsKey _ = ⊥
+
+abbrev pub IsElement : SetKind → Shape → Type 0
+IsElement SetKind.strings shape.string = ⊤
+IsElement SetKind.strings shape.char = ⊤
+IsElement SetKind.strings (shape.enum name vs) = AreUnits vs
+IsElement SetKind.numbers (shape.integer k) = ⊤
+IsElement SetKind.blobs shape.bytes = ⊤
+IsElement _ _ = ⊥
+
+abbrev mutual
+  pub NearlyClear : Shape → Type 0
+  NearlyClear (shape.option s) = NearlyClear s
+  NearlyClear (shape.newtype name s) = (set_kind name ≡ None) × NearlyClear s
+  NearlyClear (shape.list s) = NearlyClear s
+  NearlyClear (shape.set k s) = IsElement k s
+  NearlyClear (shape.tuple ss) = NearlyClearAll ss
+  NearlyClear (shape.tuple_struct name ss) = NearlyClearAll ss
+  NearlyClear (shape.map k s) = IsKey k × NearlyClear s
+  NearlyClear (shape.struct name fs) = NearlyClearFields fs
+  NearlyClear (shape.enum name vs) = NearlyClearVariants vs
+  NearlyClear _ = ⊤
+
+  pub NearlyClearAll : Shapes → Type 0
+  NearlyClearAll shape.no_shapes = ⊤
+  NearlyClearAll (shape.shape s ss) = NearlyClear s × NearlyClearAll ss
+
+  pub NearlyClearFields : FieldShapes → Type 0
+  NearlyClearFields shape.no_field_shapes = ⊤
+  NearlyClearFields (shape.field_shape name s fs) = (is_field fs name ≡ false) × NearlyClear s × NearlyClearFields fs
+
+  pub NearlyClearContent : Content → Type 0
+  NearlyClearContent shape.nothing = ⊤
+  NearlyClearContent (shape.one s) = NearlyClear s
+  NearlyClearContent (shape.several ss) = NearlyClearAll ss
+  NearlyClearContent (shape.named fs) = NearlyClearFields fs
+
+  pub NearlyClearVariants : Variants → Type 0
+  NearlyClearVariants shape.no_variants = ⊤
+  NearlyClearVariants (shape.variant v c vs) = (is_variant vs v ≡ false) × NearlyClearContent c × NearlyClearVariants vs
+
+-- no option over what may be null
+abbrev mutual
+  pub NoneNested : Shape → Type 0
+  NoneNested (shape.option s) = ¬ (Nullable s) × NoneNested s
+  NoneNested (shape.newtype name s) = NoneNested s
+  NoneNested (shape.list s) = NoneNested s
+  NoneNested (shape.set k s) = NoneNested s
+  NoneNested (shape.tuple ss) = NoneNestedAll ss
+  NoneNested (shape.tuple_struct name ss) = NoneNestedAll ss
+  NoneNested (shape.map k s) = NoneNested k × NoneNested s
+  NoneNested (shape.struct name fs) = NoneNestedFields fs
+  NoneNested (shape.enum name vs) = NoneNestedVariants vs
+  NoneNested _ = ⊤
+
+  pub NoneNestedAll : Shapes → Type 0
+  NoneNestedAll shape.no_shapes = ⊤
+  NoneNestedAll (shape.shape s ss) = NoneNested s × NoneNestedAll ss
+
+  pub NoneNestedFields : FieldShapes → Type 0
+  NoneNestedFields shape.no_field_shapes = ⊤
+  NoneNestedFields (shape.field_shape name s fs) = NoneNested s × NoneNestedFields fs
+
+  pub NoneNestedContent : Content → Type 0
+  NoneNestedContent shape.nothing = ⊤
+  NoneNestedContent (shape.one s) = NoneNested s
+  NoneNestedContent (shape.several ss) = NoneNestedAll ss
+  NoneNestedContent (shape.named fs) = NoneNestedFields fs
+
+  pub NoneNestedVariants : Variants → Type 0
+  NoneNestedVariants shape.no_variants = ⊤
+  NoneNestedVariants (shape.variant v c vs) = NoneNestedContent c × NoneNestedVariants vs
+
+pub record Clear (s : Shape) : Type 0 where
+  pub nearly : NearlyClear s
+  pub none_nested : NoneNested s

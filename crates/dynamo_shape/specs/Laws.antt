@@ -1,0 +1,24 @@
+-- What a type with a shape promises.
+use Rattle.std.specs.Prelude.{◌≡◌, Result, Ok, Err}
+use Rattle.dynamo_value.specs.Fault.{Fault}
+use Rattle.dynamo_ser.specs.Datum.{Datum}
+use Rattle.dynamo_de.specs.Answer.{Answer, value}
+use Rattle.dynamo_de.specs.Source.{Source}
+use Rattle.dynamo_shape.specs.Conforms.{conforms}
+use Rattle.dynamo_shape.specs.Permits.{Permits}
+use Rattle.dynamo_shape.specs.Read.{read}
+use Rattle.dynamo_shape.specs.Same.{Same}
+use Rattle.dynamo_shape.specs.Shape.{Shape}
+
+-- An answer that reading gives: the value, so far as it tells what conforms; the fault; a message where reading refuses.
+abbrev pub Answers : {D V : Type 0} → (D → Type 0) → (D → D → Type 0) → (V → D) → Answer D → Result V Fault → Type 0
+Answers {D} Conforms Alike tells answer (Ok v) = (d : D) × (answer ≡ value d) × (Conforms (tells v) → Alike d (tells v))
+Answers Conforms Alike tells answer (Err f) = Permits Alike answer (Err f)
+
+-- what is read from a source is what reading at the shape gives
+abbrev pub ReadsByShape : {T : Type 0} → Shape → (T → Datum) → (Source → Result T Fault → Type 0) → Type 0
+ReadsByShape {T} s tells reads = (source : Source) (r : Result T Fault) → reads source r → Answers (conforms s) Same tells (read s source) r
+
+-- two values that tell the same data are the same by value
+abbrev pub IsToldByValue : {T : Type 0} → (T → Datum) → (T → T → Type 0) → Type 0
+IsToldByValue {T} tells same = (v w : T) → Same (tells v) (tells w) → same v w
