@@ -7,6 +7,7 @@ pub use Rattle.dynamo_value.specs.Kind
 pub use Rattle.dynamo_value.specs.Text
 pub use Rattle.dynamo_value.specs.View
 pub use Rattle.dynamo_ser.specs.Datum
+pub use Rattle.dynamo_ser.specs.JsonValue
 pub use Rattle.dynamo_ser.specs.Key
 pub use Rattle.dynamo_ser.specs.Options
 pub use Rattle.dynamo_ser.specs.Pieces
@@ -20,6 +21,7 @@ pub use Rattle.dynamo_de.specs.Fields
 pub use Rattle.dynamo_de.specs.Ignored
 pub use Rattle.dynamo_de.specs.Meets
 pub use Rattle.dynamo_de.specs.Number
+pub use Rattle.dynamo_de.specs.ReadJson
 pub use Rattle.dynamo_de.specs.Reads
 pub use Rattle.dynamo_de.specs.Scalars
 pub use Rattle.dynamo_de.specs.Shown
@@ -34,5 +36,11 @@ pub use Rattle.dynamo_write.specs.Held
 pub use Rattle.dynamo_write.specs.Memory
 pub use Rattle.dynamo_write.specs.Set
 pub use Rattle.dynamo_write.specs.Written
+pub use Rattle.dynamo_json.specs.JsonBack
+pub use Rattle.dynamo_json.specs.Plain
+pub use Rattle.dynamo_json.specs.PlainAnswers
+pub use Rattle.dynamo_json.specs.PlainMemory
+pub use Rattle.dynamo_json.specs.Square
+pub use Rattle.dynamo_json.specs.ViaJson
 pub mod Samples
 pub mod SamplesRead

@@ -4,11 +4,14 @@
 
 pub mod binary_set;
 pub mod de;
+pub mod laws;
 pub mod number_set;
 pub mod samples;
 pub mod ser;
+mod shaped;
 pub mod string_set;
 
+pub use dynamo_json::{DynamoJson, to_attribute_value_via_json, to_json_value};
 pub use dynamo_leaf::{
     DeserializerBytes, DeserializerMapKey, DeserializerNumber, DeserializerSeqBytes,
     DeserializerSeqNumbers, DeserializerSeqStrings, StringDeserializer, is_float_text,
@@ -25,3 +28,4 @@ pub use dynamo_write::{
     Serializer, SerializerMap, SerializerSeq, SerializerStruct, SerializerStructVariant,
     SerializerTupleVariant, to_attribute_value, to_item,
 };
+pub use shaped::Shaped;

@@ -1,0 +1,33 @@
+ghost use Rattle.dynamo_shape.specs.Conforms as shapes;
+ghost use Rattle.dynamo_shape.specs.Laws.{ReadsByShape, IsToldByValue};
+ghost use Rattle.dynamo_shape.specs.Shape.{Shape};
+
+mod numbers;
+mod options;
+mod sequences;
+mod texts;
+
+use dynamo_de::Deserialize;
+use dynamo_ser::Serialize;
+
+/// A type that states its shape: what the data look like that its values tell, and by which it reads.
+///
+/// What is written of its values reads back, where the shape is clear.
+pub trait Shaped: Serialize + Deserialize {
+    // The shape.
+    ghost shape: { Shape };
+
+    // When two values are the same by value: hashed maps as finite maps, all else part by part.
+    ghost same: { Self → Self → Type 0 };
+
+    /// The promise that what the value tells conforms to the shape. It has no other effect: an implementation makes this
+    /// call on each part of the value.
+    fn conforms(&self)
+        ensures { shapes.conforms shape (Self.Serialize.tells self.now) };
+
+    // What is read is permitted by reading at the shape.
+    ghost reads_by_shape: { ReadsByShape shape Self.Serialize.tells Self.Deserialize.reads };
+
+    // Two values that tell the same data, up to the order of map entries, are the same by value.
+    ghost told_by_value: { IsToldByValue Self.Serialize.tells same };
+}

@@ -1,0 +1,158 @@
+ghost use Rattle.std.specs.Prelude.{◌≡◌};
+ghost use Rattle.dynamo_shape.specs.Shape as shape;
+ghost use Rattle.dynamo_value.specs.Integer as integers;
+ghost use Rattle.dynamo_shape.proofs.Scalars.{bool_permitted, bool_told, signed_permitted, signed_told, unsigned_permitted, unsigned_told};
+
+use crate::Shaped;
+
+impl Shaped for bool {
+    ghost shape = { shape.boolean };
+
+    ghost same = { λ a b. a ≡ b };
+
+    ghost reads_by_shape = { bool_permitted };
+
+    ghost told_by_value = { bool_told };
+
+    fn conforms(&self) {}
+}
+
+impl Shaped for i8 {
+    ghost shape = { shape.integer integers.i8 };
+
+    ghost same = { λ a b. a ≡ b };
+
+    ghost reads_by_shape = { signed_permitted integers.i8 };
+
+    ghost told_by_value = { signed_told integers.i8 };
+
+    fn conforms(&self) {
+        let _number = *self;
+    }
+}
+
+impl Shaped for i16 {
+    ghost shape = { shape.integer integers.i16 };
+
+    ghost same = { λ a b. a ≡ b };
+
+    ghost reads_by_shape = { signed_permitted integers.i16 };
+
+    ghost told_by_value = { signed_told integers.i16 };
+
+    fn conforms(&self) {
+        let _number = *self;
+    }
+}
+
+impl Shaped for i32 {
+    ghost shape = { shape.integer integers.i32 };
+
+    ghost same = { λ a b. a ≡ b };
+
+    ghost reads_by_shape = { signed_permitted integers.i32 };
+
+    ghost told_by_value = { signed_told integers.i32 };
+
+    fn conforms(&self) {
+        let _number = *self;
+    }
+}
+
+impl Shaped for i64 {
+    ghost shape = { shape.integer integers.i64 };
+
+    ghost same = { λ a b. a ≡ b };
+
+    ghost reads_by_shape = { signed_permitted integers.i64 };
+
+    ghost told_by_value = { signed_told integers.i64 };
+
+    fn conforms(&self) {
+        let _number = *self;
+    }
+}
+
+impl Shaped for i128 {
+    ghost shape = { shape.integer integers.i128 };
+
+    ghost same = { λ a b. a ≡ b };
+
+    ghost reads_by_shape = { signed_permitted integers.i128 };
+
+    ghost told_by_value = { signed_told integers.i128 };
+
+    fn conforms(&self) {
+        let _number = *self;
+    }
+}
+
+impl Shaped for u8 {
+    ghost shape = { shape.integer integers.u8 };
+
+    ghost same = { λ a b. a ≡ b };
+
+    ghost reads_by_shape = { unsigned_permitted integers.u8 };
+
+    ghost told_by_value = { unsigned_told integers.u8 };
+
+    fn conforms(&self) {
+        let _number = *self;
+    }
+}
+
+impl Shaped for u16 {
+    ghost shape = { shape.integer integers.u16 };
+
+    ghost same = { λ a b. a ≡ b };
+
+    ghost reads_by_shape = { unsigned_permitted integers.u16 };
+
+    ghost told_by_value = { unsigned_told integers.u16 };
+
+    fn conforms(&self) {
+        let _number = *self;
+    }
+}
+
+impl Shaped for u32 {
+    ghost shape = { shape.integer integers.u32 };
+
+    ghost same = { λ a b. a ≡ b };
+
+    ghost reads_by_shape = { unsigned_permitted integers.u32 };
+
+    ghost told_by_value = { unsigned_told integers.u32 };
+
+    fn conforms(&self) {
+        let _number = *self;
+    }
+}
+
+impl Shaped for u64 {
+    ghost shape = { shape.integer integers.u64 };
+
+    ghost same = { λ a b. a ≡ b };
+
+    ghost reads_by_shape = { unsigned_permitted integers.u64 };
+
+    ghost told_by_value = { unsigned_told integers.u64 };
+
+    fn conforms(&self) {
+        let _number = *self;
+    }
+}
+
+impl Shaped for u128 {
+    ghost shape = { shape.integer integers.u128 };
+
+    ghost same = { λ a b. a ≡ b };
+
+    ghost reads_by_shape = { unsigned_permitted integers.u128 };
+
+    ghost told_by_value = { unsigned_told integers.u128 };
+
+    fn conforms(&self) {
+        let _number = *self;
+    }
+}
