@@ -1,3 +1,6 @@
 mod Ages
+mod Exact
+mod Known
+mod Leads
+mod Rows
 mod UserItem
-mod FourWords

@@ -1,4 +1,10 @@
 pub mod Age
+pub mod Checked
+pub mod Failed
+pub mod JsonText
+pub mod Known
 pub mod Lines
 pub mod Printed
+pub mod Reading
+pub mod Runs
 pub mod Words

@@ -24,5 +24,9 @@ user_lines id name age = field_line (codes "age") (codes "N") (decimal age) ++ (
 abbrev pub usage_line : List ℕ
 usage_line = codes "usage: dynamo_tool user ID NAME AGE | check | dynamo | plain" ++ 10 ∷ []
 
+-- the line of a failure, by the text that tells its reason
+abbrev pub error_line : List ℕ → List ℕ
+error_line text = codes "error: " ++ (text ++ 10 ∷ [])
+
 abbrev pub no_memory_line : List ℕ
-no_memory_line = codes "error: out of memory" ++ 10 ∷ []
+no_memory_line = error_line (codes "out of memory")

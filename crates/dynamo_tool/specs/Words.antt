@@ -1,8 +1,19 @@
 -- What the words after the program's name ask for.
-use Rattle.std.specs.Prelude.{ℕ, List, [], ◌∷◌, Option, None, option_map, codes, bytes_eq, if◌then◌else◌}
+use Rattle.std.specs.Prelude.{ℕ, List, [], ◌∷◌, Option, Some, None, option_map, codes, bytes_eq, if◌then◌else◌}
 use Rattle.dynamo_tool.specs.Age.{age_of}
+use Rattle.dynamo_tool.specs.declared.commands.Command as declared
 
--- `user ID NAME AGE`, where AGE is an age: the id, the name and the age
-abbrev pub user_of : List (List ℕ) → Option (List ℕ × List ℕ × ℕ)
-user_of (command ∷ id ∷ name ∷ age ∷ []) = if bytes_eq command (codes "user") then option_map (λ n. (id, name, n)) (age_of age) else None
-user_of _ = None
+pub data Command : Type 0 where
+  user : List ℕ → List ℕ → ℕ → Command
+  check : Command
+
+-- `user ID NAME AGE`, where AGE is an age, with the id, the name and the age; or `check`
+abbrev pub command_of : List (List ℕ) → Option Command
+command_of (word ∷ []) = if bytes_eq word (codes "check") then Some check else None
+command_of (word ∷ id ∷ name ∷ age ∷ []) = if bytes_eq word (codes "user") then option_map (user id name) (age_of age) else None
+command_of _ = None
+
+-- as contracts see the program's own type
+abbrev pub asked : declared.Command → Command
+asked (declared.Command.User id name age) = user id.now name.now age
+asked declared.Command.Check = check

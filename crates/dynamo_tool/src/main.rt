@@ -1,8 +1,15 @@
 //! Writes and reads DynamoDB values from the command line.
 #![tactic(auto)]
 
+mod check;
+mod commands;
+mod failure;
+mod input;
+mod json;
 mod output;
+mod read_to_end;
 mod run;
+mod user;
 
 use std::alloc::AllocError;
 use std::process::ExitCode;

@@ -1,0 +1,43 @@
+ghost use Rattle.std.specs.Prelude.{◌≡◌, ℕ, List, Result, IfOk, false, string_bytes};
+ghost use Rattle.std.specs.Result.{result_map_both};
+ghost use Rattle.serde_json.specs.View.{view};
+ghost use Rattle.serde_json.specs.Written.{has_float};
+ghost use Rattle.dynamo_tool.specs.Failed.{Failed, reason};
+ghost use Rattle.dynamo_tool.specs.JsonText as text;
+ghost use Rattle.dynamo_tool.specs.JsonText.{ReadsJson};
+ghost use Rattle.dynamo_tool.specs.Reading.{Reads, calls};
+
+use crate::failure::Failure;
+use crate::input::Input;
+use crate::read_to_end::read_to_end;
+use serde_json::Value;
+use std::alloc::{AllocError, Global};
+
+/// Reads the input to its end, as one JSON text.
+pub fn read_json<R: Input>(alloc: Global, reader: &mut R) -> Result<Value, Failure>
+    ensures { (input : Result (List ℕ) Failed) × Reads R.read_gives calls reader.old input reader.new
+        × ReadsJson input (result_map_both view reason result) }
+{
+    let bytes = read_to_end(alloc, reader)?;
+    parse(alloc, bytes.as_slice())
+}
+
+fn parse(alloc: Global, bytes: &[u8]) -> Result<Value, Failure>
+    ensures { ReadsJson (Ok bytes.now) (result_map_both view reason result) }
+{
+    match Value::from_slice(alloc, bytes) {
+        Ok(json) => Ok(json),
+        Err(error) if error.is_memory() => Err(Failure::from(AllocError)),
+        Err(_) => Err(Failure::NotJson),
+    }
+}
+
+/// The line that a JSON value without floats is printed as: its compact text.
+pub fn json_line(alloc: Global, json: &Value) -> Result<String, AllocError>
+    ensures { IfOk result (λ line. has_float (view json.now) ≡ false
+        → string_bytes line ≡ text.json_line (view json.now)) }
+{
+    let mut line = json.to_string(alloc)?;
+    line.push('\n')?;
+    Ok(line)
+}
