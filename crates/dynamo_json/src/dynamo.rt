@@ -15,7 +15,14 @@ use dynamo_value::{AttributeValue, Item, Result, refusal};
 use serde_json::Value;
 use std::alloc::Global;
 
-/// What has a form in DynamoDB JSON, the JSON of DynamoDB's low-level interface: attribute values and items.
+/// What has a form in DynamoDB JSON, the JSON of DynamoDB's low-level API: attribute values and items.
+///
+/// An attribute value is an object of one member, whose key is a data type descriptor: `{"S": "Hello"}`, `{"N": "123.45"}`,
+/// `{"BOOL": true}`, `{"NULL": true}`, `{"M": {"Name": {"S": "Joe"}}}`, `{"L": [{"S": "Cookies"}]}`,
+/// `{"SS": ["Giraffe", "Hippo"]}`, `{"NS": ["42.2", "-19"]}`. A number is its text, which is not looked at. Byte strings are the
+/// base64 texts of RFC 4648, section 4, padding included: `{"B": "AQI="}`, `{"BS": ["U3Vubnk=", "UmFpbnk="]}`.
+///
+/// An item is the object of its attributes: `{"Id": {"N": "103"}, "InPublication": {"BOOL": false}}`.
 pub trait DynamoJson: Sized + Drop {
     /// The JSON value that stands for a value.
     ghost json_value: { Self → Data };
@@ -23,7 +30,7 @@ pub trait DynamoJson: Sized + Drop {
     /// What is promised of the fault by which a JSON value is refused; none where it stands for a value.
     ghost refusal: { Data → Option Refusal };
 
-    /// The JSON value that stands for this value.
+    /// The JSON value that stands for this value. The members of a map come in the order of the bytes of their keys.
     ///
     /// # Errors
     ///
@@ -32,11 +39,25 @@ pub trait DynamoJson: Sized + Drop {
         ensures { MatchResult result (λ json. sj.view json ≡ json_value self.now) (λ e. fault_of e ≡ out_of_memory) };
 
     /// The value that a JSON value stands for.
+    ///
+    /// # Errors
+    ///
+    /// A `Message`, of the first fault in the order of arrays and of the bytes of the keys of objects:
+    ///
+    /// - what should be an attribute value is no object: `invalid type: expected an object with a single key ..`;
+    /// - it has no key: `Expected exactly one key in the object, found none`;
+    /// - it has several: `Expected exactly one key in the object, found multiple keys`;
+    /// - its key is no data type descriptor: `The key 'X' is not a known DynamoDB prefix`;
+    /// - its content is of another JSON kind than the key asks for, or an item is no object;
+    /// - a text is the base64 text of no bytes, or spells it otherwise: `Failed to decode base64: ..`.
+    ///
+    /// `OutOfMemory`, where memory is refused.
     fn from_json(alloc: Global, json: &Value) -> Result<Self>
         ensures ok { IfOk result (λ value. sj.view json.now ≡ json_value value) }
         ensures err { IfErr result (λ e. Refused (refusal (sj.view json.now)) (fault_of e)) };
 }
 
+/// A JSON value stands for at most one attribute value, and is read as it.
 impl DynamoJson for AttributeValue {
     ghost json_value = { λ a. json_of (av.view a) };
 
@@ -60,6 +81,7 @@ impl DynamoJson for AttributeValue {
     }
 }
 
+/// A JSON value stands for at most one item, and is read as it.
 impl DynamoJson for Item {
     ghost json_value = { λ item. item_json (item_view item) };
 
