@@ -1,12 +1,15 @@
 -- A run over a reader and a writer that tell their bytes and never fail.
-use Rattle.std.proofs.Common.{◌≡◌, ℕ, zero, suc, ◌+◌, ◌<◌, ◌⊎◌, List, [], ◌∷◌, ◌++◌, length, Option, Some, None, Result, Ok, Err, refl, ap, inl, inr, arith, length-append, sym, ◌∙◌}
+use Rattle.std.proofs.Common.{◌≡◌, ℕ, zero, suc, ◌+◌, ◌<◌, ◌⊎◌, List, [], ◌∷◌, ◌++◌, length, Option, Some, None, Result, Ok, Err, refl, ap, inl, inr, arith, length-append, sym, ◌∙◌, take, drop, take-append-drop}
 use Rattle.std.specs.declared.io.Error.{Error}
-use Rattle.dynamo_tool.specs.Checked.{Checks}
+use Rattle.serde_json.specs.Data.{Data}
+use Rattle.dynamo_tool.specs.Checked.{ChecksJson}
+use Rattle.dynamo_tool.specs.Converted.{ToDynamo, ToPlain}
 use Rattle.dynamo_tool.specs.Failed.{Failed, no_memory}
-use Rattle.dynamo_tool.specs.Known.{TellsBytes, RunsOnKnown}
+use Rattle.dynamo_tool.specs.JsonText.{OfJson}
+use Rattle.dynamo_tool.specs.Known.{TellsBytes, KeepsBytes, RunsOnKnown}
 use Rattle.dynamo_tool.specs.Reading.{Reads, Follows, before, calls}
 use Rattle.dynamo_tool.specs.Runs.{Answers, ReadsFor, Runs}
-use Rattle.dynamo_tool.specs.Words.{Command, user, check}
+use Rattle.dynamo_tool.specs.Words.{Command, user, check, dynamo, plain}
 
 -- all bytes, or want of memory
 abbrev AllOr : List ℕ → Result (List ℕ) Failed → Type 0
@@ -40,18 +43,22 @@ reads_all gives left tells (suc n) reader input end (room, answer, next, enough,
     let (bytes, is, split, none) = tells reader room answer next gave (omega arith) in
     past left (Reads gives n) n (reads_all gives left tells n) bytes reader next input end split none less (rw is at follows)
 
-checks_all : (bytes : List ℕ) (input answer : Result (List ℕ) Failed) → AllOr bytes input → Checks input answer → Checks (Ok bytes) answer
-checks_all bytes input answer (inl all) checks = rw all at checks
-checks_all bytes input answer (inr lacking) (json, reads, checks) =
+of_all : (Step : Result Data Failed → Result (List ℕ) Failed → Type 0) → (bytes : List ℕ) (input answer : Result (List ℕ) Failed) → AllOr bytes input → OfJson Step input answer → OfJson Step (Ok bytes) answer
+of_all Step bytes input answer (inl all) made = rw all at made
+of_all Step bytes input answer (inr lacking) (json, reads, step) =
     let same : json ≡ Err no_memory = rw lacking at reads in
-    (json, rw same refl, checks)
+    (json, rw same refl, step)
 
 answers_all : {R : Type 0} (reads : R → ℕ → Result (List ℕ) Error → R → Type 0) (left : R → List ℕ) → TellsBytes reads left → (command : Option Command) (reader end : R) (input : Result (List ℕ) Failed)
     → ReadsFor command reads reader input end → length (left reader) < calls → (text : List ℕ) (status : ℕ) → Answers command input text status → Answers command (Ok (left reader)) text status
 answers_all reads left tells None reader end input stays less text status answers = answers
 answers_all reads left tells (Some (user id name age)) reader end input stays less text status answers = answers
 answers_all reads left tells (Some check) reader end input made less text status (answer, checks, shows) =
-    (answer, checks_all (left reader) input answer (reads_all reads left tells calls reader input end made less) checks, shows)
+    (answer, of_all ChecksJson (left reader) input answer (reads_all reads left tells calls reader input end made less) checks, shows)
+answers_all reads left tells (Some dynamo) reader end input made less text status (answer, writes, shows) =
+    (answer, of_all ToDynamo (left reader) input answer (reads_all reads left tells calls reader input end made less) writes, shows)
+answers_all reads left tells (Some plain) reader end input made less text status (answer, writes, shows) =
+    (answer, of_all ToPlain (left reader) input answer (reads_all reads left tells calls reader input end made less) writes, shows)
 
 pub runs_on_known : {R W : Type 0} (reads : R → ℕ → Result (List ℕ) Error → R → Type 0) (writes : W → List ℕ → Result (Unit {0}) Error → W → Type 0) (command : Option Command) (reader end : R) (old new : W) (result : ℕ)
     → Runs reads writes command reader end old new result → RunsOnKnown reads writes command reader old new result
@@ -59,3 +66,16 @@ runs_on_known reads writes command reader end old new result (input, made, text,
     let (ok, kept) = keeps old text answer new wrote in
     let same : result ≡ status = is ∙ rw ok refl in
     (text, kept, rw same (answers_all reads left tells command reader end input made less text status answers))
+
+-- ---- there are such readers and writers: lists of bytes
+
+none_at_end : (reader : List ℕ) (room : ℕ) → 0 < room → take room reader ≡ [] → reader ≡ []
+none_at_end [] room some none = refl
+none_at_end (b ∷ bs) zero some none = absurd (omega arith)
+none_at_end (b ∷ bs) (suc room) some none = cc
+
+reader_of_a_list : TellsBytes (λ reader room answer next. (answer ≡ Ok (take room reader)) × (next ≡ drop room reader)) (λ reader. reader)
+reader_of_a_list reader room answer next (is, left) some = (take room reader, is, rw left (sym (take-append-drop room reader)), none_at_end reader room some)
+
+writer_of_a_list : KeepsBytes (λ old bytes answer new. (answer ≡ Ok tt) × (new ≡ old ++ bytes)) (λ writer. writer)
+writer_of_a_list old bytes answer new gave = gave

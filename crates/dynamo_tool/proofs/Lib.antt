@@ -1,5 +1,6 @@
 mod Ages
 mod Exact
+mod Floats
 mod Known
 mod Leads
 mod Rows

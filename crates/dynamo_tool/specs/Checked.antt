@@ -4,7 +4,7 @@ use Rattle.serde_json.specs.Data.{Data}
 use Rattle.dynamo_value.specs.Refusal.{Refused, refusal_in}
 use Rattle.dynamo_json.specs.Parsed.{parsed}
 use Rattle.dynamo_tool.specs.Failed.{Failed, not_json, faulty, read_failed}
-use Rattle.dynamo_tool.specs.JsonText.{ReadsJson, json_line}
+use Rattle.dynamo_tool.specs.JsonText.{json_line}
 
 -- What is answered to a JSON value: its own line, where reading it as an attribute value refuses nothing; else a fault that the
 -- refusal names. Where there is no JSON value, the reason is handed on.
@@ -14,7 +14,3 @@ ChecksJson (Ok json) (Ok text) = (refusal_in (parsed json) ≡ None) × (text �
 ChecksJson (Ok json) (Err (faulty fault)) = Refused (refusal_in (parsed json)) fault
 ChecksJson (Ok json) (Err not_json) = ⊥
 ChecksJson (Ok json) (Err read_failed) = ⊥
-
--- what is answered to what was read
-abbrev pub Checks : Result (List ℕ) Failed → Result (List ℕ) Failed → Type 0
-Checks input answer = (json : Result Data Failed) × ReadsJson input json × ChecksJson json answer

@@ -1,5 +1,6 @@
 pub mod Age
 pub mod Checked
+pub mod Converted
 pub mod Failed
 pub mod JsonText
 pub mod Known

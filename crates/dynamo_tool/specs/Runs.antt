@@ -1,12 +1,14 @@
 -- What the program does.
 use Rattle.std.specs.Prelude.{◌≡◌, ℕ, List, Option, Some, None, Result, MatchResult}
 use Rattle.std.specs.declared.io.Error.{Error}
-use Rattle.dynamo_tool.specs.Checked.{Checks}
+use Rattle.dynamo_tool.specs.Checked.{ChecksJson}
+use Rattle.dynamo_tool.specs.Converted.{ToDynamo, ToPlain}
 use Rattle.dynamo_tool.specs.Failed.{Failed, no_memory}
+use Rattle.dynamo_tool.specs.JsonText.{OfJson}
 use Rattle.dynamo_tool.specs.Lines.{usage_line, user_lines}
 use Rattle.dynamo_tool.specs.Printed.{Prints, Shows}
 use Rattle.dynamo_tool.specs.Reading.{Reads, calls}
-use Rattle.dynamo_tool.specs.Words.{Command, user, check}
+use Rattle.dynamo_tool.specs.Words.{Command, user, check, dynamo, plain}
 
 -- what `user` answers: the lines of the user's item, or want of memory
 abbrev pub AnswersUser : List ℕ → List ℕ → ℕ → Result (List ℕ) Failed → Type 0
@@ -17,13 +19,17 @@ AnswersUser id name age answer = MatchResult answer (λ text. text ≡ user_line
 abbrev pub Answers : Option Command → Result (List ℕ) Failed → List ℕ → ℕ → Type 0
 Answers None input text status = (text ≡ usage_line) × (status ≡ 2)
 Answers (Some (user id name age)) input text status = (answer : Result (List ℕ) Failed) × AnswersUser id name age answer × Shows answer text status
-Answers (Some check) input text status = (answer : Result (List ℕ) Failed) × Checks input answer × Shows answer text status
+Answers (Some check) input text status = (answer : Result (List ℕ) Failed) × OfJson ChecksJson input answer × Shows answer text status
+Answers (Some dynamo) input text status = (answer : Result (List ℕ) Failed) × OfJson ToDynamo input answer × Shows answer text status
+Answers (Some plain) input text status = (answer : Result (List ℕ) Failed) × OfJson ToPlain input answer × Shows answer text status
 
 -- The commands that have an input read it to its end; else the reader is as before.
 abbrev pub ReadsFor : {R : Type 0} → Option Command → (R → ℕ → Result (List ℕ) Error → R → Type 0) → R → Result (List ℕ) Failed → R → Type 0
 ReadsFor None gives reader input end = end ≡ reader
 ReadsFor (Some (user id name age)) gives reader input end = end ≡ reader
 ReadsFor (Some check) gives reader input end = Reads gives calls reader input end
+ReadsFor (Some dynamo) gives reader input end = Reads gives calls reader input end
+ReadsFor (Some plain) gives reader input end = Reads gives calls reader input end
 
 -- The whole run: what is read, what belongs to it, and one write of exactly that.
 abbrev pub Runs : {R W : Type 0} → (R → ℕ → Result (List ℕ) Error → R → Type 0) → (W → List ℕ → Result (Unit {0}) Error → W → Type 0) → Option Command → R → R → W → W → ℕ → Type 0

@@ -1,8 +1,9 @@
 ghost use Rattle.std.specs.Prelude.{◌≡◌, ℕ, List, Result, string_bytes};
 ghost use Rattle.std.specs.Result.{result_map_both};
 ghost use Rattle.serde_json.specs.View.{view};
-ghost use Rattle.dynamo_tool.specs.Checked.{Checks, ChecksJson};
+ghost use Rattle.dynamo_tool.specs.Checked.{ChecksJson};
 ghost use Rattle.dynamo_tool.specs.Failed.{Failed, reason};
+ghost use Rattle.dynamo_tool.specs.JsonText.{OfJson};
 ghost use Rattle.dynamo_tool.specs.Reading.{Reads, calls};
 
 use crate::failure::Failure;
@@ -13,9 +14,13 @@ use serde_json::Value;
 use std::alloc::Global;
 
 /// Reads DynamoDB JSON of one attribute value to the end of the input, and answers the line of its compact form.
+///
+/// # Errors
+///
+/// Those of reading JSON, and the fault of a JSON value that stands for no attribute value.
 pub fn check<R: Input>(alloc: Global, reader: &mut R) -> Result<String, Failure>
     ensures { (input : Result (List ℕ) Failed) × Reads R.read_gives calls reader.old input reader.new
-        × Checks input (result_map_both string_bytes reason result) }
+        × OfJson ChecksJson input (result_map_both string_bytes reason result) }
 {
     let json = read_json(alloc, reader)?;
     check_json(alloc, json)

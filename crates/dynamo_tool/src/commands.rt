@@ -10,6 +10,12 @@ pub enum Command<'a> {
 
     /// `check`: the compact form of DynamoDB JSON.
     Check,
+
+    /// `dynamo`: the DynamoDB JSON of plain JSON.
+    Dynamo,
+
+    /// `plain`: the plain JSON of DynamoDB JSON.
+    Plain,
 }
 
 /// The command of these words; none where they are no command, or the age is no age.
@@ -18,6 +24,8 @@ pub fn command_of(words: &[String]) -> Option<Command<'_>>
 {
     match words {
         [word] if word.as_str() == "check" => Some(Command::Check),
+        [word] if word.as_str() == "dynamo" => Some(Command::Dynamo),
+        [word] if word.as_str() == "plain" => Some(Command::Plain),
         [word, id, name, age] if word.as_str() == "user" => {
             Some(Command::User(id.as_str(), name.as_str(), parse_age(age)?))
         }

@@ -14,6 +14,10 @@ use serde_json::Value;
 use std::alloc::{AllocError, Global};
 
 /// Reads the input to its end, as one JSON text.
+///
+/// # Errors
+///
+/// Those of reading; `NotJson` where the bytes are no text by UTF-8, or no JSON; want of memory for the value.
 pub fn read_json<R: Input>(alloc: Global, reader: &mut R) -> Result<Value, Failure>
     ensures { (input : Result (List ℕ) Failed) × Reads R.read_gives calls reader.old input reader.new
         × ReadsJson input (result_map_both view reason result) }

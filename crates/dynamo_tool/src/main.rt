@@ -3,6 +3,7 @@
 
 mod check;
 mod commands;
+mod convert;
 mod failure;
 mod input;
 mod json;

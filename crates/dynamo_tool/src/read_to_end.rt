@@ -9,11 +9,16 @@ use crate::input::Input;
 use std::alloc::Global;
 use std::io::{self, ErrorKind};
 
+// Nothing says that an input ends.
 const CALLS: u32 = 1_048_576;
 
 const ROOM: usize = 65_536;
 
-/// Reads the input to its end.
+/// Reads the input to its end, by at most 1,048,576 calls. A call that was interrupted is made again, and counts.
+///
+/// # Errors
+///
+/// `Read` where a call fails or the calls are used up, and want of memory for the bytes.
 pub fn read_to_end<R: Input>(alloc: Global, reader: &mut R) -> Result<Vec<u8>, Failure>
     ensures { Reads R.read_gives calls reader.old (result_map_both (λ v. v.items) reason result) reader.new }
 {

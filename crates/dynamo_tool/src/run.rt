@@ -9,6 +9,7 @@ ghost use Rattle.dynamo_tool.specs.Words.{command_of};
 
 use crate::check::check;
 use crate::commands::{Command, command_of};
+use crate::convert::{to_dynamo, to_plain};
 use crate::failure::Failure;
 use crate::input::Input;
 use crate::output::Output;
@@ -18,7 +19,9 @@ use std::fmt::Write;
 
 const USAGE: &str = "usage: dynamo_tool user ID NAME AGE | check | dynamo | plain\n";
 
-/// Runs the program on the words after its name, and answers the status that it ends with.
+/// Runs the program on the words after its name, and answers the status that it ends with: 0 where it did what they ask for,
+/// 1 where that failed, which it prints too, or where the writer fails, and 2 where they are no command. What it prints is
+/// whole before it is written.
 pub fn run<R: Input, W: Output>(
     alloc: Global,
     words: &[String],
@@ -33,6 +36,8 @@ pub fn run<R: Input, W: Output>(
             print_answer(alloc, writer, user_lines(alloc, id, name, age))
         }
         Some(Command::Check) => print_answer(alloc, writer, check(alloc, reader)),
+        Some(Command::Dynamo) => print_answer(alloc, writer, to_dynamo(alloc, reader)),
+        Some(Command::Plain) => print_answer(alloc, writer, to_plain(alloc, reader)),
         None => print(writer, USAGE, 2),
     }
 }

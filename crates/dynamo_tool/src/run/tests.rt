@@ -1,4 +1,5 @@
 mod checks;
+mod conversions;
 mod failing;
 mod streams;
 
@@ -50,8 +51,8 @@ fn other_words_print_the_usage(rt: HostRuntime) -> Result<(), Fail> {
         "|check|",
         "|check|check",
         "|Check",
-        "|dynamo",
-        "|plain",
+        "|dynamo|x",
+        "|plain|",
         "",
     ] {
         prints(&rt, alloc, line, USAGE, 2)?;

@@ -1,7 +1,7 @@
 use Rattle.std.proofs.Common.{◌≡◌, map, string_bytes, Some, None, Err, refl, rules}
 use Rattle.dynamo_tool.specs.Failed.{no_memory}
 use Rattle.dynamo_tool.specs.Runs.{Runs}
-use Rattle.dynamo_tool.specs.Words.{user, check, command_of}
+use Rattle.dynamo_tool.specs.Words.{user, check, dynamo, plain, command_of}
 use Rattle.dynamo_tool.proofs.Known.{runs_on_known}
 use Rattle.dynamo_tool.proofs.run.run.Goals as goal
 
@@ -18,6 +18,18 @@ returns-in-Some-Check g c =
     let asks : command_of (map string_bytes c.args.words.now) ≡ Some check = search rules in
     let runs : Runs g.R.Input.read_gives g.W.Output.write_gives (command_of (map string_bytes c.args.words.now)) c.args.reader.now c.check.new.reader c.args.writer.now c.print_answer-in-Some-Check.new.writer c.print_answer-in-Some-Check.result = search rules in
     record { runs = runs; on_known = runs_on_known g.R.Input.read_gives g.W.Output.write_gives _ c.args.reader.now c.check.new.reader c.args.writer.now c.print_answer-in-Some-Check.new.writer c.print_answer-in-Some-Check.result runs }
+
+pub returns-in-Some-Dynamo : goal.returns-in-Some-Dynamo
+returns-in-Some-Dynamo g c =
+    let asks : command_of (map string_bytes c.args.words.now) ≡ Some dynamo = search rules in
+    let runs : Runs g.R.Input.read_gives g.W.Output.write_gives (command_of (map string_bytes c.args.words.now)) c.args.reader.now c.to_dynamo.new.reader c.args.writer.now c.print_answer-in-Some-Dynamo.new.writer c.print_answer-in-Some-Dynamo.result = search rules in
+    record { runs = runs; on_known = runs_on_known g.R.Input.read_gives g.W.Output.write_gives _ c.args.reader.now c.to_dynamo.new.reader c.args.writer.now c.print_answer-in-Some-Dynamo.new.writer c.print_answer-in-Some-Dynamo.result runs }
+
+pub returns-in-Some-Plain : goal.returns-in-Some-Plain
+returns-in-Some-Plain g c =
+    let asks : command_of (map string_bytes c.args.words.now) ≡ Some plain = search rules in
+    let runs : Runs g.R.Input.read_gives g.W.Output.write_gives (command_of (map string_bytes c.args.words.now)) c.args.reader.now c.to_plain.new.reader c.args.writer.now c.print_answer-in-Some-Plain.new.writer c.print_answer-in-Some-Plain.result = search rules in
+    record { runs = runs; on_known = runs_on_known g.R.Input.read_gives g.W.Output.write_gives _ c.args.reader.now c.to_plain.new.reader c.args.writer.now c.print_answer-in-Some-Plain.new.writer c.print_answer-in-Some-Plain.result runs }
 
 pub returns-in-None : goal.returns-in-None
 returns-in-None g c =

@@ -3,30 +3,37 @@ use super::streams::{Endless, Sink, Source, status};
 use std::io::ErrorKind;
 use std::test::Fail;
 
-const INPUT: &str = "{\"BOOL\": true}";
-
-const LINE: &str = "{\"BOOL\":true}\n";
+// The words that have an input, each with one and with the line that it prints.
+const RUNS: [(&str, &str, &str); 3] = [
+    ("|check", "{\"BOOL\": true}", "{\"BOOL\":true}\n"),
+    ("|dynamo", "[true]", "{\"L\":[{\"BOOL\":true}]}\n"),
+    ("|plain", "{\"BOOL\": true}", "true\n"),
+];
 
 // One call for each byte, and one that finds the end.
-const READS: u32 = 15;
+fn reads(input: &str) -> u32 {
+    (input.len() as u32).saturating_add(1)
+}
 
 #[test]
 fn a_reader_that_fails_is_told(rt: HostRuntime) -> Result<(), Fail> {
     let alloc = rt.alloc();
-    for call in 1..=READS {
-        let mut input = Source::troubled(INPUT.as_bytes(), call, ErrorKind::BrokenPipe);
-        let mut output = Sink::new(alloc);
-        assert_eq!(rt;
-            status(alloc, "|check", &mut input, &mut output)?,
-            1,
-            "{call}"
-        );
-        assert_eq!(rt;
-            output.written.as_slice(),
-            b"error: read failed\n".as_slice(),
-            "{call}"
-        );
-        assert_eq!(rt; input.calls, call);
+    for (word, text, line) in RUNS {
+        for call in 1..=reads(text) {
+            let mut input = Source::troubled(text.as_bytes(), call, ErrorKind::BrokenPipe);
+            let mut output = Sink::new(alloc);
+            assert_eq!(rt;
+                status(alloc, word, &mut input, &mut output)?,
+                1,
+                "{word} {call}"
+            );
+            assert_eq!(rt;
+                output.written.as_slice(),
+                b"error: read failed\n".as_slice(),
+                "{word} {call}"
+            );
+            assert_eq!(rt; input.calls, call);
+        }
     }
     Ok(())
 }
@@ -35,17 +42,19 @@ fn a_reader_that_fails_is_told(rt: HostRuntime) -> Result<(), Fail> {
 #[test]
 fn an_interrupted_call_is_made_again(rt: HostRuntime) -> Result<(), Fail> {
     let alloc = rt.alloc();
-    for call in 1..=READS + 1 {
-        let mut input = Source::troubled(INPUT.as_bytes(), call, ErrorKind::Interrupted);
-        let mut output = Sink::new(alloc);
-        assert_eq!(rt;
-            status(alloc, "|check", &mut input, &mut output)?,
-            0,
-            "{call}"
-        );
-        assert_eq!(rt; output.written.as_slice(), LINE.as_bytes(), "{call}");
-        let again = if call > READS { 0 } else { 1 };
-        assert_eq!(rt; input.calls, READS + again, "{call}");
+    for (word, text, line) in RUNS {
+        for call in 1..=reads(text) + 1 {
+            let mut input = Source::troubled(text.as_bytes(), call, ErrorKind::Interrupted);
+            let mut output = Sink::new(alloc);
+            assert_eq!(rt;
+                status(alloc, word, &mut input, &mut output)?,
+                0,
+                "{word} {call}"
+            );
+            assert_eq!(rt; output.written.as_slice(), line.as_bytes(), "{word} {call}");
+            let again = if call > reads(text) { 0 } else { 1 };
+            assert_eq!(rt; input.calls, reads(text) + again, "{word} {call}");
+        }
     }
     Ok(())
 }
@@ -67,19 +76,21 @@ fn a_reader_that_never_ends_is_left(rt: HostRuntime) -> Result<(), Fail> {
 #[test]
 fn a_writer_that_fails_has_a_beginning(rt: HostRuntime) -> Result<(), Fail> {
     let alloc = rt.alloc();
-    for call in 1..=LINE.len() {
-        let mut input = Source::new(INPUT.as_bytes());
-        let mut output = Sink::troubled(alloc, call as u32, ErrorKind::BrokenPipe);
-        assert_eq!(rt;
-            status(alloc, "|check", &mut input, &mut output)?,
-            1,
-            "{call}"
-        );
-        assert_eq!(rt;
-            output.written.as_slice(),
-            &LINE.as_bytes()[..call - 1],
-            "{call}"
-        );
+    for (word, text, line) in RUNS {
+        for call in 1..=line.len() {
+            let mut input = Source::new(text.as_bytes());
+            let mut output = Sink::troubled(alloc, call as u32, ErrorKind::BrokenPipe);
+            assert_eq!(rt;
+                status(alloc, word, &mut input, &mut output)?,
+                1,
+                "{word} {call}"
+            );
+            assert_eq!(rt;
+                output.written.as_slice(),
+                &line.as_bytes()[..call - 1],
+                "{word} {call}"
+            );
+        }
     }
     Ok(())
 }
@@ -87,15 +98,17 @@ fn a_writer_that_fails_has_a_beginning(rt: HostRuntime) -> Result<(), Fail> {
 #[test]
 fn an_interrupted_write_is_made_again(rt: HostRuntime) -> Result<(), Fail> {
     let alloc = rt.alloc();
-    for call in 1..=LINE.len() {
-        let mut input = Source::new(INPUT.as_bytes());
-        let mut output = Sink::troubled(alloc, call as u32, ErrorKind::Interrupted);
-        assert_eq!(rt;
-            status(alloc, "|check", &mut input, &mut output)?,
-            0,
-            "{call}"
-        );
-        assert_eq!(rt; output.written.as_slice(), LINE.as_bytes(), "{call}");
+    for (word, text, line) in RUNS {
+        for call in 1..=line.len() {
+            let mut input = Source::new(text.as_bytes());
+            let mut output = Sink::troubled(alloc, call as u32, ErrorKind::Interrupted);
+            assert_eq!(rt;
+                status(alloc, word, &mut input, &mut output)?,
+                0,
+                "{word} {call}"
+            );
+            assert_eq!(rt; output.written.as_slice(), line.as_bytes(), "{word} {call}");
+        }
     }
     Ok(())
 }

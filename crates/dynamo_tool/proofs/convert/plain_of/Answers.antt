@@ -1,0 +1,17 @@
+use Rattle.std.proofs.Common.{◌≡◌, false, string_bytes, refl}
+use Rattle.serde_json.specs.Written.{has_float}
+use Rattle.serde_json.specs.View.{view}
+use Rattle.dynamo_value.specs.View as av
+use Rattle.dynamo_de.specs.Answer.{value}
+use Rattle.dynamo_de.specs.ReadJson.{read_value}
+use Rattle.dynamo_tool.specs.JsonText.{json_line}
+use Rattle.dynamo_tool.proofs.Floats.{reads_no_float, given}
+use Rattle.dynamo_tool.proofs.convert.plain_of.Goals as goal
+
+pub returns : goal.returns
+returns c =
+    let a = av.view c.in_ok-value.value in
+    let plain = view c.in_ok-plain.plain in
+    let read : read_value a ≡ value plain = given (read_value a) c.in_ok-plain.plain c.in_ok-plain.ensures in
+    let printed : string_bytes c.in_ok-json_line.field-0 ≡ json_line plain = c.in_ok-json_line.ensures (reads_no_float a plain read) in
+    (a, plain, c.in_ok-value.ensures.read, read, printed)
