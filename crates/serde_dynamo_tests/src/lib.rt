@@ -21,6 +21,8 @@ mod floats;
 mod idle;
 #[cfg(test)]
 mod items;
+#[cfg(test)]
+mod json_values;
 pub mod kinds;
 #[cfg(test)]
 mod maps;
