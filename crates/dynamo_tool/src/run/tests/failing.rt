@@ -3,23 +3,19 @@ use super::streams::{Endless, Sink, Source, status};
 use std::io::ErrorKind;
 use std::test::Fail;
 
-// The words that have an input, each with one and with the line that it prints.
-const RUNS: [(&str, &str, &str); 3] = [
-    ("|check", "{\"BOOL\": true}", "{\"BOOL\":true}\n"),
-    ("|dynamo", "[true]", "{\"L\":[{\"BOOL\":true}]}\n"),
-    ("|plain", "{\"BOOL\": true}", "true\n"),
+// The words that have an input, each with one, the line that it prints, and the calls of `read` that it takes: one for each
+// byte, and one that finds the end.
+const RUNS: [(&str, &str, &str, u32); 3] = [
+    ("|check", "{\"BOOL\": true}", "{\"BOOL\":true}\n", 15),
+    ("|dynamo", "[true]", "{\"L\":[{\"BOOL\":true}]}\n", 7),
+    ("|plain", "{\"BOOL\": true}", "true\n", 15),
 ];
-
-// One call for each byte, and one that finds the end.
-fn reads(input: &str) -> u32 {
-    (input.len() as u32).saturating_add(1)
-}
 
 #[test]
 fn a_reader_that_fails_is_told(rt: HostRuntime) -> Result<(), Fail> {
     let alloc = rt.alloc();
-    for (word, text, line) in RUNS {
-        for call in 1..=reads(text) {
+    for (word, text, _, reads) in RUNS {
+        for call in 1..=reads {
             let mut input = Source::troubled(text.as_bytes(), call, ErrorKind::BrokenPipe);
             let mut output = Sink::new(alloc);
             assert_eq!(rt;
@@ -42,8 +38,8 @@ fn a_reader_that_fails_is_told(rt: HostRuntime) -> Result<(), Fail> {
 #[test]
 fn an_interrupted_call_is_made_again(rt: HostRuntime) -> Result<(), Fail> {
     let alloc = rt.alloc();
-    for (word, text, line) in RUNS {
-        for call in 1..=reads(text) + 1 {
+    for (word, text, line, reads) in RUNS {
+        for call in 1..=reads.saturating_add(1) {
             let mut input = Source::troubled(text.as_bytes(), call, ErrorKind::Interrupted);
             let mut output = Sink::new(alloc);
             assert_eq!(rt;
@@ -52,8 +48,8 @@ fn an_interrupted_call_is_made_again(rt: HostRuntime) -> Result<(), Fail> {
                 "{word} {call}"
             );
             assert_eq!(rt; output.written.as_slice(), line.as_bytes(), "{word} {call}");
-            let again = if call > reads(text) { 0 } else { 1 };
-            assert_eq!(rt; input.calls, reads(text) + again, "{word} {call}");
+            let again = if call > reads { 0 } else { 1 };
+            assert_eq!(rt; input.calls, reads.saturating_add(again), "{word} {call}");
         }
     }
     Ok(())
@@ -76,7 +72,7 @@ fn a_reader_that_never_ends_is_left(rt: HostRuntime) -> Result<(), Fail> {
 #[test]
 fn a_writer_that_fails_has_a_beginning(rt: HostRuntime) -> Result<(), Fail> {
     let alloc = rt.alloc();
-    for (word, text, line) in RUNS {
+    for (word, text, line, _) in RUNS {
         for call in 1..=line.len() {
             let mut input = Source::new(text.as_bytes());
             let mut output = Sink::troubled(alloc, call as u32, ErrorKind::BrokenPipe);
@@ -98,7 +94,7 @@ fn a_writer_that_fails_has_a_beginning(rt: HostRuntime) -> Result<(), Fail> {
 #[test]
 fn an_interrupted_write_is_made_again(rt: HostRuntime) -> Result<(), Fail> {
     let alloc = rt.alloc();
-    for (word, text, line) in RUNS {
+    for (word, text, line, _) in RUNS {
         for call in 1..=line.len() {
             let mut input = Source::new(text.as_bytes());
             let mut output = Sink::troubled(alloc, call as u32, ErrorKind::Interrupted);
