@@ -2,7 +2,7 @@
 use Rattle.std.proofs.Common.{◌≡◌, ◌⊎◌, ℕ, suc, true, false, cond, List, Ok, Some, None, refl, sym, subst, inl, inr}
 use Rattle.std.specs.Prelude.{bytes_eq, encode_utf8}
 use Rattle.std.specs.Fmt.{signed_decimal}
-use Rattle.dynamo_shape.proofs.Numbers.{parse_back}
+use Rattle.dynamo_de.proofs.Decimals.{parse_back}
 use Rattle.dynamo_shape.proofs.Keys.{key_back}
 use Rattle.dynamo_shape.proofs.Sets.{set_back}
 use Rattle.dynamo_shape.proofs.Maps.{map_back, pairs_back, pairs_weaker}

@@ -2,7 +2,7 @@
 use Rattle.std.proofs.Common.{◌≡◌, ℕ, suc, Bool, true, false, Ok, None, refl, sym, ap, subst, ◌∙◌, inl, inr}
 use Rattle.std.specs.Prelude.{encode_utf8, bytes_eq}
 use Rattle.std.specs.Fmt.{signed_decimal}
-use Rattle.dynamo_shape.proofs.Numbers.{parse_back}
+use Rattle.dynamo_de.proofs.Decimals.{parse_back}
 use Rattle.dynamo_shape.proofs.Found.{or_false, same_bytes}
 use Rattle.dynamo_shape.proofs.Results.{ok_same, value_same, one_char-encode}
 use Rattle.dynamo_ser.specs.Datum as datum

@@ -11,7 +11,6 @@ pub mod Keys
 pub mod Lists
 pub mod Maps
 pub mod Members
-pub mod Numbers
 pub mod OneAnswer
 pub mod Orders
 pub mod Pairs

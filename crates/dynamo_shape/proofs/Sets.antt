@@ -2,7 +2,7 @@
 use Rattle.std.proofs.Common.{◌≡◌, List, [], ◌∷◌, Ok, Some, refl, sym, subst}
 use Rattle.std.specs.Prelude.{encode_utf8}
 use Rattle.std.specs.Fmt.{signed_decimal}
-use Rattle.dynamo_shape.proofs.Numbers.{parse_back}
+use Rattle.dynamo_de.proofs.Decimals.{parse_back}
 use Rattle.dynamo_shape.proofs.Alike.{data_refl}
 use Rattle.dynamo_shape.proofs.Keys.{units_back}
 use Rattle.dynamo_shape.proofs.Results.{one_char-encode}
