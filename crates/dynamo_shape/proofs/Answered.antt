@@ -1,5 +1,5 @@
 -- Answers of one step after another.
-use Rattle.std.proofs.Common.{◌≡◌, Result, Ok, Err, refl, ap, subst}
+use Rattle.std.proofs.Common.{Result, Ok, Err, refl}
 use Rattle.dynamo_value.specs.Fault.{Fault}
 use Rattle.dynamo_de.specs.Answer as answer
 use Rattle.dynamo_de.specs.Answer.{Answer, After, ◌>>=◌}

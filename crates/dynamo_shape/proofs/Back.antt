@@ -22,8 +22,6 @@ use Rattle.dynamo_shape.specs.ReadsBack.{ReadsBack}
 use Rattle.dynamo_shape.specs.Same.{Same, SameElements}
 use Rattle.dynamo_shape.specs.Shape.{Shape, boolean, char, string, bytes, unit, integer, unit_struct, option, newtype, list, set, tuple, tuple_struct, map, struct, enum, Shapes, no_shapes, shape, FieldShapes, no_field_shapes, field_shape, Content, nothing, one, several, named, Variants, no_variants, variant}
 use Rattle.dynamo_value.specs.Av.{Av, N, S, B, Boolean, Null, L, M, members_of}
-use Rattle.dynamo_value.specs.Fault.{Fault}
-use Rattle.dynamo_value.specs.Integer.{IntegerKind}
 use Rattle.dynamo_write.specs.Collect.{collect}
 use Rattle.dynamo_write.specs.Set.{set_kind}
 use Rattle.dynamo_write.specs.Written.{single, written, written_elements}

@@ -17,8 +17,6 @@ use Rattle.dynamo_shape.specs.Kept.{kept}
 use Rattle.dynamo_shape.specs.Read.{read, read_one_of}
 use Rattle.dynamo_shape.specs.Shape.{Shape, boolean, char, string, integer, newtype, enum, nothing, Variants, no_variants, variant}
 use Rattle.dynamo_value.specs.Av.{S}
-use Rattle.dynamo_value.specs.Fault.{Fault, message, expected_num, ◌>>=◌}
-use Rattle.dynamo_value.specs.Integer.{IntegerKind}
 use Rattle.dynamo_write.specs.Written.{written}
 
 abbrev pub KeyBack : Shape → Datum → Type 0

@@ -1,6 +1,6 @@
 -- What lists, options, boxes and tuples read, by what is inside of them.
 use Rattle.std.proofs.lemmas.List.{take_more, take_all}
-use Rattle.std.proofs.Common.{◌≡◌, ◌⊎◌, ◌∙◌, ℕ, ◌+◌, ◌<◌, ◌≤◌, List, [], ◌∷◌, ◌++◌, length, take, get_or, map, Option, Some, None, Result, Ok, Err, refl, sym, ap, subst, inl, inr}
+use Rattle.std.proofs.Common.{◌≡◌, ◌∙◌, ℕ, ◌+◌, ◌<◌, ◌≤◌, List, [], ◌∷◌, ◌++◌, length, take, get_or, map, Option, Some, None, Result, Ok, Err, refl, sym, ap, subst, inl, inr}
 use Rattle.std.specs.Prelude.{⊤}
 use Rattle.std.specs.declared.alloc.Global.{Global}
 use Rattle.std.specs.declared.vec.Vec.{Vec}
@@ -11,12 +11,11 @@ use Rattle.dynamo_ser.specs.Options.{option_tells}
 use Rattle.dynamo_de.specs.Answer as answer
 use Rattle.dynamo_de.specs.Answer.{After, ◌>>=◌}
 use Rattle.dynamo_de.specs.Contents.{read_content, read_elements}
-use Rattle.dynamo_de.specs.Reads.{Through, ReadsOption, ReadsEach, ReadsList, ReadsFirst, ReadsTwo, ReadsThree, ReadsFour}
+use Rattle.dynamo_de.specs.Reads.{Through, ReadsOption, ReadsEach, ReadsList}
 use Rattle.dynamo_de.specs.Source.{Source}
-use Rattle.dynamo_shape.specs.Conforms.{conforms, conform_each, AllElements}
-use Rattle.dynamo_shape.specs.Laws.{Answers, ReadsByShape, IsToldByValue}
-use Rattle.dynamo_shape.specs.Permits.{Permits}
-use Rattle.dynamo_shape.specs.Read.{read, read_each, read_list, read_some}
+use Rattle.dynamo_shape.specs.Conforms.{conforms, AllElements}
+use Rattle.dynamo_shape.specs.Laws.{Answers, ReadsByShape}
+use Rattle.dynamo_shape.specs.Read.{read, read_list, read_some}
 use Rattle.dynamo_shape.specs.Same.{Same, SameElements}
 use Rattle.dynamo_shape.specs.Shape as shape
 use Rattle.dynamo_shape.specs.Shape.{Shape, Shapes}
@@ -92,7 +91,7 @@ abbrev value_or : {A : Type 0} → Result A Fault → A → A
 value_or (Ok x) y = x
 value_or (Err f) y = y
 
-some_conforms : (s : Shape) (d : Datum) → conforms (shape.option s) (datum.some d) → conforms s d
+pub some_conforms : (s : Shape) (d : Datum) → conforms (shape.option s) (datum.some d) → conforms s d
 some_conforms s d (inl n) = absurd (subst IsSome n tt)
 some_conforms s d (inr (e, same, c)) = subst (conforms s) (sym (ap content_in same)) c
 

@@ -25,7 +25,6 @@ use Rattle.dynamo_shape.specs.Same.{Same, SamePairs}
 use Rattle.dynamo_shape.specs.SameKey.{put_pair}
 use Rattle.dynamo_shape.specs.Shape.{Shape, map}
 use Rattle.dynamo_value.specs.Av.{Av, M, Members, no_members, member, members_of}
-use Rattle.dynamo_value.specs.Fault.{Fault, ◌>>=◌}
 use Rattle.dynamo_value.specs.View.{text_cmp}
 use Rattle.dynamo_write.specs.Collect.{collect, collect_onto}
 use Rattle.dynamo_write.specs.Written.{written_pairs}

@@ -10,8 +10,8 @@ use Rattle.dynamo_ser.specs.Datum.{Variant, Datum, Pairs, no_pairs, pair, Fields
 use Rattle.dynamo_shape.specs.Read.{read}
 use Rattle.dynamo_shape.specs.Shape.{Shape, boolean, char, string, unit, integer, option, newtype, list, tuple, map, struct, enum, no_shapes, shape, no_field_shapes, field_shape, nothing, one, several, named, no_variants, variant}
 use Rattle.dynamo_value.specs.Av.{Av, N, S, B, Boolean, Null, Ss, Ns, Bs, L, M, Members, no_members, member}
-use Rattle.dynamo_value.specs.Fault.{Fault, message, failed_to_parse_int, failed_to_parse_float, expected_num, expected_map, expected_string, expected_unit, expected_enum, expected_char, expected_seq, expected_single_key}
-use Rattle.dynamo_value.specs.Integer.{IntegerKind, i64, i128, u8, u64, u128}
+use Rattle.dynamo_value.specs.Fault.{failed_to_parse_int, failed_to_parse_float, expected_num, expected_map, expected_string, expected_unit, expected_enum, expected_char, expected_seq, expected_single_key}
+use Rattle.dynamo_value.specs.Integer.{i64, i128, u8, u64, u128}
 
 abbrev byte : ℕ → Datum
 byte n = datum.integer u8 (pos n)

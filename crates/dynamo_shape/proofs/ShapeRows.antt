@@ -1,15 +1,15 @@
 -- Worked rows of what conforms, what is kept, and which shapes are clear, by computation.
-use Rattle.std.proofs.Common.{◌≡◌, pos, ◌-◌, ◌^◌, true, false, refl, inl, inr}
-use Rattle.std.specs.Prelude.{codes, ⊤}
+use Rattle.std.proofs.Common.{◌≡◌, pos, refl, inl, inr}
+use Rattle.std.specs.Prelude.{codes}
 use Rattle.dynamo_ser.specs.Datum as datum
 use Rattle.dynamo_ser.specs.Datum.{Datum}
 use Rattle.dynamo_ser.specs.Symbols.{strings, numbers, symbol}
-use Rattle.dynamo_shape.specs.Clear.{Nullable, IsKey, IsElement, NearlyClear, NoneNested}
+use Rattle.dynamo_shape.specs.Clear.{IsKey, IsElement, NearlyClear, NoneNested}
 use Rattle.dynamo_shape.specs.Conforms.{conforms}
 use Rattle.dynamo_shape.specs.Kept.{kept}
 use Rattle.dynamo_shape.specs.Same.{Same}
-use Rattle.dynamo_shape.specs.SameKey.{same_key, put_pair}
-use Rattle.dynamo_shape.specs.Shape.{Shape, boolean, char, string, unit, integer, option, newtype, list, set, map, enum, nothing, one, no_variants, variant}
+use Rattle.dynamo_shape.specs.SameKey.{put_pair}
+use Rattle.dynamo_shape.specs.Shape.{boolean, char, string, unit, integer, option, newtype, list, set, enum, nothing, one, no_variants, variant}
 use Rattle.dynamo_value.specs.Integer.{u8, u64}
 
 abbrev seven : Datum

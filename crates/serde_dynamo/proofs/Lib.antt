@@ -1,5 +1,6 @@
 pub mod EventContent
 pub mod InOrder
+pub mod ReadBack
 pub mod Rows
 pub mod SetsFields
 pub mod StructyFields

@@ -42,5 +42,6 @@ pub use Rattle.dynamo_json.specs.PlainAnswers
 pub use Rattle.dynamo_json.specs.PlainMemory
 pub use Rattle.dynamo_json.specs.Square
 pub use Rattle.dynamo_json.specs.ViaJson
+pub mod Reread
 pub mod Samples
 pub mod SamplesRead

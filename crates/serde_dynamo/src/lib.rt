@@ -6,6 +6,7 @@ pub mod binary_set;
 pub mod de;
 pub mod laws;
 pub mod number_set;
+mod rereading;
 pub mod samples;
 pub mod ser;
 mod shaped;
@@ -28,4 +29,5 @@ pub use dynamo_write::{
     Serializer, SerializerMap, SerializerSeq, SerializerStruct, SerializerStructVariant,
     SerializerTupleVariant, to_attribute_value, to_item,
 };
-pub use shaped::Shaped;
+pub use rereading::reread;
+pub use shaped::{Shaped, ShapedKey};

@@ -1,4 +1,4 @@
-use Rattle.std.proofs.Common.{string_bytes, refl, sym, subst, ◌∙◌}
+use Rattle.std.proofs.Common.{string_bytes, refl, subst}
 use Rattle.std.specs.Prelude.{◌≡◌, true}
 use Rattle.std.specs.Str.{is_utf8}
 use Rattle.std.proofs.lemmas.Str.{is_utf8-from_IsUtf8}
