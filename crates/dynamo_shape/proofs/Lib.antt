@@ -8,8 +8,11 @@ pub mod Exactly
 pub mod Flat
 pub mod Found
 pub mod Keys
+pub mod KeysTold
 pub mod Lists
 pub mod Maps
+pub mod MapsRead
+pub mod MapsTold
 pub mod Members
 pub mod OneAnswer
 pub mod Orders

@@ -92,7 +92,7 @@ abbrev value_or : {A : Type 0} → Result A Fault → A → A
 value_or (Ok x) y = x
 value_or (Err f) y = y
 
-some_conforms : (s : Shape) (d : Datum) → conforms (shape.option s) (datum.some d) → conforms s d
+pub some_conforms : (s : Shape) (d : Datum) → conforms (shape.option s) (datum.some d) → conforms s d
 some_conforms s d (inl n) = absurd (subst IsSome n tt)
 some_conforms s d (inr (e, same, c)) = subst (conforms s) (sym (ap content_in same)) c
 

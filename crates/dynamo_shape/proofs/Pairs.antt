@@ -76,6 +76,17 @@ equal_keys _ _ h = absurd (true≢false (sym h))
 abbrev pub IsKeyDatum : Datum → Type 0
 IsKeyDatum l = same_key l l ≡ true
 
+-- such a datum is the same as itself alone
+pub same_is : (l e : Datum) → IsKeyDatum l → Same l e → l ≡ e
+same_is (datum.boolean b) e s h = h
+same_is (datum.integer k z) e s h = h
+same_is (datum.char c) e s h = h
+same_is (datum.string t) e s h = h
+same_is (datum.bytes t) e s h = h
+same_is (datum.unit_variant v) e s h = h
+same_is (datum.newtype_struct name l) e s h = let (a, b) = and_parts (bytes_eq name name) (same_key l l) s in ap (datum.newtype_struct name) (same_is l h.0 b h.2) ∙ sym h.1
+same_is _ e s h = absurd (true≢false (sym s))
+
 self_bool : (b : Bool) → same_bool b b ≡ true
 self_bool true = refl
 self_bool false = refl
@@ -212,7 +223,7 @@ pub taken_in : (qs : Pairs) (l y : Datum) (rest : Pairs) → Without qs l y rest
 taken_in no_pairs l y rest w = w
 taken_in (pair k d qs) l y rest w = elim w [ inl x ↦ inl (sym x.0, sym x.1) | inr z ↦ inr (taken_in qs l y z.0 z.2) ]
 
-rest_in : (qs : Pairs) (l y : Datum) (rest : Pairs) → Without qs l y rest → (x z : Datum) → Has x z rest → Has x z qs
+pub rest_in : (qs : Pairs) (l y : Datum) (rest : Pairs) → Without qs l y rest → (x z : Datum) → Has x z rest → Has x z qs
 rest_in no_pairs l y rest w x z h = w
 rest_in (pair k d qs) l y rest w x z h = elim w [
   | inl a ↦ inr (subst (Has x z) a.2 h)

@@ -63,41 +63,41 @@ bytes_in _ = []
 pub bool_permitted : ReadsByShape shape.boolean datum.boolean (λ s. Gives (λ b. b) (read_bool s))
 bool_permitted s r h = given (conforms shape.boolean) (λ b. b) datum.boolean (read_bool s) r h
 
-pub bool_told : IsToldByValue datum.boolean (λ a b. a ≡ b)
-bool_told a b h = ap bool_in h
+pub bool_told : IsToldByValue shape.boolean datum.boolean (λ a b. a ≡ b)
+bool_told a b _ _ h = ap bool_in h
 
 pub signed_permitted : (k : IntegerKind) → ReadsByShape (shape.integer k) (datum.integer k) (λ s. Gives (λ z. z) (read_integer k s))
 signed_permitted k s r h = given (conforms (shape.integer k)) (λ z. z) (datum.integer k) (read_integer k s) r h
 
-pub signed_told : (k : IntegerKind) → IsToldByValue (datum.integer k) (λ a b. a ≡ b)
-signed_told k a b h = ap integer_in h
+pub signed_told : (k : IntegerKind) → IsToldByValue (shape.integer k) (datum.integer k) (λ a b. a ≡ b)
+signed_told k a b _ _ h = ap integer_in h
 
 pub unsigned_permitted : (k : IntegerKind) → ReadsByShape (shape.integer k) (λ n. datum.integer k (pos n)) (λ s. Gives pos (read_integer k s))
 unsigned_permitted k s r h = given (conforms (shape.integer k)) pos (datum.integer k) (read_integer k s) r h
 
-pub unsigned_told : (k : IntegerKind) → IsToldByValue (λ n. datum.integer k (pos n)) (λ a b. a ≡ b)
-unsigned_told k a b h = ap (λ d. number_in (integer_in d)) h
+pub unsigned_told : (k : IntegerKind) → IsToldByValue (shape.integer k) (λ n. datum.integer k (pos n)) (λ a b. a ≡ b)
+unsigned_told k a b _ _ h = ap (λ d. number_in (integer_in d)) h
 
 pub char_permitted : ReadsByShape shape.char datum.char (λ s. Gives (λ c. c) (read_char s))
 char_permitted s r h = given (conforms shape.char) (λ c. c) datum.char (read_char s) r h
 
-pub char_told : IsToldByValue datum.char (λ a b. a ≡ b)
-char_told a b h = ap char_in h
+pub char_told : IsToldByValue shape.char datum.char (λ a b. a ≡ b)
+char_told a b _ _ h = ap char_in h
 
 pub text_permitted : {T : Type 0} (seen : T → List ℕ) → ReadsByShape shape.string (λ t. datum.string (seen t)) (λ s. Gives seen (read_string s))
 text_permitted seen s r h = given (conforms shape.string) seen datum.string (read_string s) r h
 
-pub text_told : {T : Type 0} (seen : T → List ℕ) → IsToldByValue (λ t. datum.string (seen t)) (λ a b. seen a ≡ seen b)
-text_told seen a b h = ap bytes_in h
+pub text_told : {T : Type 0} (seen : T → List ℕ) → IsToldByValue shape.string (λ t. datum.string (seen t)) (λ a b. seen a ≡ seen b)
+text_told seen a b _ _ h = ap bytes_in h
 
 pub bytes_permitted : {T : Type 0} (seen : T → List ℕ) → ReadsByShape shape.bytes (λ t. datum.bytes (seen t)) (λ s. Gives seen (read_bytes s))
 bytes_permitted seen s r h = given (conforms shape.bytes) seen datum.bytes (read_bytes s) r h
 
-pub bytes_told : {T : Type 0} (seen : T → List ℕ) → IsToldByValue (λ t. datum.bytes (seen t)) (λ a b. seen a ≡ seen b)
-bytes_told seen a b h = ap bytes_in h
+pub bytes_told : {T : Type 0} (seen : T → List ℕ) → IsToldByValue shape.bytes (λ t. datum.bytes (seen t)) (λ a b. seen a ≡ seen b)
+bytes_told seen a b _ _ h = ap bytes_in h
 
 pub unit_permitted : ReadsByShape {T = ⊤} shape.unit (λ _. datum.unit) (λ s. Gives (λ u. u) (read_unit s))
 unit_permitted s r h = given (conforms shape.unit) (λ u. u) (λ _. datum.unit) (read_unit s) r h
 
-pub unit_told : IsToldByValue {T = ⊤} (λ _. datum.unit) (λ a b. a ≡ b)
-unit_told a b h = refl
+pub unit_told : IsToldByValue {T = ⊤} shape.unit (λ _. datum.unit) (λ a b. a ≡ b)
+unit_told a b _ _ h = refl

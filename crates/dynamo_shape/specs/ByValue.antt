@@ -1,4 +1,4 @@
--- When two values are the same by value: part by part.
+-- When two values are the same by value: part by part, and maps at each key.
 use Rattle.std.specs.Prelude.{List, [], ◌∷◌, Option, Some, None, ⊤}
 
 abbrev pub SameEach : {A : Type 0} → (A → A → Type 0) → List A → List A → Type 0
@@ -10,3 +10,7 @@ abbrev pub SameOption : {A : Type 0} → (A → A → Type 0) → Option A → O
 SameOption same None None = ⊤
 SameOption same (Some x) (Some y) = same x y
 SameOption same _ _ = ⊥
+
+-- the same at each key
+abbrev pub SameMap : {K V M : Type 0} → (M → K → Option V) → (V → V → Type 0) → M → M → Type 0
+SameMap {K} get same m n = (k : K) → SameOption same (get m k) (get n k)

@@ -1,5 +1,5 @@
 -- What a type with a shape promises.
-use Rattle.std.specs.Prelude.{◌≡◌, Result, Ok, Err}
+use Rattle.std.specs.Prelude.{◌≡◌, ◌↔◌, Bool, true, Result, Ok, Err}
 use Rattle.dynamo_value.specs.Fault.{Fault}
 use Rattle.dynamo_ser.specs.Datum.{Datum}
 use Rattle.dynamo_de.specs.Answer.{Answer, value}
@@ -19,6 +19,14 @@ Answers Conforms Alike tells answer (Err f) = Permits Alike answer (Err f)
 abbrev pub ReadsByShape : {T : Type 0} → Shape → (T → Datum) → (Source → Result T Fault → Type 0) → Type 0
 ReadsByShape {T} s tells reads = (source : Source) (r : Result T Fault) → reads source r → Answers (conforms s) Same tells (read s source) r
 
--- two values that tell the same data are the same by value
-abbrev pub IsToldByValue : {T : Type 0} → (T → Datum) → (T → T → Type 0) → Type 0
-IsToldByValue {T} tells same = (v w : T) → Same (tells v) (tells w) → same v w
+-- two values that tell the same data, which conform to the shape, are the same by value
+abbrev pub IsToldByValue : {T : Type 0} → Shape → (T → Datum) → (T → T → Type 0) → Type 0
+IsToldByValue {T} s tells same = (v w : T) → conforms s (tells v) → conforms s (tells w) → Same (tells v) (tells w) → same v w
+
+-- two keys are equal exactly where they tell the same datum
+abbrev pub EqualAsTold : {K : Type 0} → (K → Datum) → (K → K → Bool) → Type 0
+EqualAsTold {K} tells eq = (k l : K) → ((eq k l ≡ true) ↔ (tells k ≡ tells l))
+
+-- what a key tells holds no map, whose order could differ
+abbrev pub ToldApart : {K : Type 0} → (K → Datum) → Type 0
+ToldApart {K} tells = (k l : K) → Same (tells k) (tells l) → tells k ≡ tells l

@@ -28,4 +28,4 @@ pub use dynamo_write::{
     Serializer, SerializerMap, SerializerSeq, SerializerStruct, SerializerStructVariant,
     SerializerTupleVariant, to_attribute_value, to_item,
 };
-pub use shaped::Shaped;
+pub use shaped::{Shaped, ShapedKey};

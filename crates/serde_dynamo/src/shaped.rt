@@ -1,7 +1,8 @@
 ghost use Rattle.dynamo_shape.specs.Conforms as shapes;
-ghost use Rattle.dynamo_shape.specs.Laws.{ReadsByShape, IsToldByValue};
+ghost use Rattle.dynamo_shape.specs.Laws.{ReadsByShape, IsToldByValue, EqualAsTold, ToldApart};
 ghost use Rattle.dynamo_shape.specs.Shape.{Shape};
 
+mod maps;
 mod numbers;
 mod options;
 mod sequences;
@@ -9,6 +10,7 @@ mod texts;
 
 use dynamo_de::Deserialize;
 use dynamo_ser::Serialize;
+use std::hash::Hash;
 
 /// A type that states its shape: what the data look like that its values tell, and by which it reads.
 ///
@@ -29,5 +31,15 @@ pub trait Shaped: Serialize + Deserialize {
     ghost reads_by_shape: { ReadsByShape shape Self.Serialize.tells Self.Deserialize.reads };
 
     // Two values that tell the same data, up to the order of map entries, are the same by value.
-    ghost told_by_value: { IsToldByValue Self.Serialize.tells same };
+    ghost told_by_value: { IsToldByValue shape Self.Serialize.tells same };
+}
+
+/// A shaped type whose values can be the keys of maps.
+pub trait ShapedKey: Shaped + Eq + Hash + Ord {
+    // Two keys are equal exactly where they tell the same datum; then, and only then, are they equal in the type's order, as
+    // `Ord` promises.
+    ghost equal_as_told: { EqualAsTold Self.Serialize.tells Self.PartialEq.eq };
+
+    // What a key tells holds no map, whose order could differ.
+    ghost told_apart: { ToldApart Self.Serialize.tells };
 }

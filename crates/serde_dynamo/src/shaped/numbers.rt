@@ -2,8 +2,9 @@ ghost use Rattle.std.specs.Prelude.{◌≡◌};
 ghost use Rattle.dynamo_shape.specs.Shape as shape;
 ghost use Rattle.dynamo_value.specs.Integer as integers;
 ghost use Rattle.dynamo_shape.proofs.Scalars.{bool_permitted, bool_told, signed_permitted, signed_told, unsigned_permitted, unsigned_told};
+ghost use Rattle.dynamo_shape.proofs.KeysTold.{bool_equal, signed_equal, unsigned_equal};
 
-use crate::Shaped;
+use crate::{Shaped, ShapedKey};
 
 impl Shaped for bool {
     ghost shape = { shape.boolean };
@@ -15,6 +16,12 @@ impl Shaped for bool {
     ghost told_by_value = { bool_told };
 
     fn conforms(&self) {}
+}
+
+impl ShapedKey for bool {
+    ghost equal_as_told = { bool_equal };
+
+    ghost told_apart = { λ _ _ h. h };
 }
 
 impl Shaped for i8 {
@@ -31,6 +38,12 @@ impl Shaped for i8 {
     }
 }
 
+impl ShapedKey for i8 {
+    ghost equal_as_told = { signed_equal integers.i8 };
+
+    ghost told_apart = { λ _ _ h. h };
+}
+
 impl Shaped for i16 {
     ghost shape = { shape.integer integers.i16 };
 
@@ -43,6 +56,12 @@ impl Shaped for i16 {
     fn conforms(&self) {
         let _number = *self;
     }
+}
+
+impl ShapedKey for i16 {
+    ghost equal_as_told = { signed_equal integers.i16 };
+
+    ghost told_apart = { λ _ _ h. h };
 }
 
 impl Shaped for i32 {
@@ -59,6 +78,12 @@ impl Shaped for i32 {
     }
 }
 
+impl ShapedKey for i32 {
+    ghost equal_as_told = { signed_equal integers.i32 };
+
+    ghost told_apart = { λ _ _ h. h };
+}
+
 impl Shaped for i64 {
     ghost shape = { shape.integer integers.i64 };
 
@@ -71,6 +96,12 @@ impl Shaped for i64 {
     fn conforms(&self) {
         let _number = *self;
     }
+}
+
+impl ShapedKey for i64 {
+    ghost equal_as_told = { signed_equal integers.i64 };
+
+    ghost told_apart = { λ _ _ h. h };
 }
 
 impl Shaped for i128 {
@@ -87,6 +118,12 @@ impl Shaped for i128 {
     }
 }
 
+impl ShapedKey for i128 {
+    ghost equal_as_told = { signed_equal integers.i128 };
+
+    ghost told_apart = { λ _ _ h. h };
+}
+
 impl Shaped for u8 {
     ghost shape = { shape.integer integers.u8 };
 
@@ -99,6 +136,12 @@ impl Shaped for u8 {
     fn conforms(&self) {
         let _number = *self;
     }
+}
+
+impl ShapedKey for u8 {
+    ghost equal_as_told = { unsigned_equal integers.u8 };
+
+    ghost told_apart = { λ _ _ h. h };
 }
 
 impl Shaped for u16 {
@@ -115,6 +158,12 @@ impl Shaped for u16 {
     }
 }
 
+impl ShapedKey for u16 {
+    ghost equal_as_told = { unsigned_equal integers.u16 };
+
+    ghost told_apart = { λ _ _ h. h };
+}
+
 impl Shaped for u32 {
     ghost shape = { shape.integer integers.u32 };
 
@@ -127,6 +176,12 @@ impl Shaped for u32 {
     fn conforms(&self) {
         let _number = *self;
     }
+}
+
+impl ShapedKey for u32 {
+    ghost equal_as_told = { unsigned_equal integers.u32 };
+
+    ghost told_apart = { λ _ _ h. h };
 }
 
 impl Shaped for u64 {
@@ -143,6 +198,12 @@ impl Shaped for u64 {
     }
 }
 
+impl ShapedKey for u64 {
+    ghost equal_as_told = { unsigned_equal integers.u64 };
+
+    ghost told_apart = { λ _ _ h. h };
+}
+
 impl Shaped for u128 {
     ghost shape = { shape.integer integers.u128 };
 
@@ -155,4 +216,10 @@ impl Shaped for u128 {
     fn conforms(&self) {
         let _number = *self;
     }
+}
+
+impl ShapedKey for u128 {
+    ghost equal_as_told = { unsigned_equal integers.u128 };
+
+    ghost told_apart = { λ _ _ h. h };
 }

@@ -12,7 +12,7 @@ impl<T: Shaped> Shaped for Option<T> {
 
     ghost reads_by_shape = { option_permitted T.shape T.tells T.reads T.reads_by_shape };
 
-    ghost told_by_value = { option_told T.tells T.same T.told_by_value };
+    ghost told_by_value = { option_told T.shape T.tells T.same T.told_by_value };
 
     fn conforms(&self) {
         if let Some(content) = self {

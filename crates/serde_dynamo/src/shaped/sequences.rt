@@ -14,7 +14,7 @@ impl<T: Shaped> Shaped for Vec<T> {
 
     ghost reads_by_shape = { list_permitted T.shape T.tells T.reads T.reads_by_shape };
 
-    ghost told_by_value = { list_told T.tells T.same T.told_by_value };
+    ghost told_by_value = { list_told T.shape T.tells T.same T.told_by_value };
 
     fn conforms(&self) {
         for value in self {
@@ -30,7 +30,7 @@ impl<A: Shaped, B: Shaped> Shaped for (A, B) {
 
     ghost reads_by_shape = { two_permitted A.shape B.shape A.tells B.tells A.reads B.reads A.reads_by_shape B.reads_by_shape };
 
-    ghost told_by_value = { two_told A.tells B.tells A.same B.same A.told_by_value B.told_by_value };
+    ghost told_by_value = { two_told A.shape B.shape A.tells B.tells A.same B.same A.told_by_value B.told_by_value };
 
     fn conforms(&self) {
         self.0.conforms();
@@ -45,7 +45,7 @@ impl<A: Shaped, B: Shaped, C: Shaped> Shaped for (A, B, C) {
 
     ghost reads_by_shape = { three_permitted A.shape B.shape C.shape A.tells B.tells C.tells A.reads B.reads C.reads A.reads_by_shape B.reads_by_shape C.reads_by_shape };
 
-    ghost told_by_value = { three_told A.tells B.tells C.tells A.same B.same C.same A.told_by_value B.told_by_value C.told_by_value };
+    ghost told_by_value = { three_told A.shape B.shape C.shape A.tells B.tells C.tells A.same B.same C.same A.told_by_value B.told_by_value C.told_by_value };
 
     fn conforms(&self) {
         self.0.conforms();
@@ -61,7 +61,7 @@ impl<A: Shaped, B: Shaped, C: Shaped, D: Shaped> Shaped for (A, B, C, D) {
 
     ghost reads_by_shape = { four_permitted A.shape B.shape C.shape D.shape A.tells B.tells C.tells D.tells A.reads B.reads C.reads D.reads A.reads_by_shape B.reads_by_shape C.reads_by_shape D.reads_by_shape };
 
-    ghost told_by_value = { four_told A.tells B.tells C.tells D.tells A.same B.same C.same D.same A.told_by_value B.told_by_value C.told_by_value D.told_by_value };
+    ghost told_by_value = { four_told A.shape B.shape C.shape D.shape A.tells B.tells C.tells D.tells A.same B.same C.same D.same A.told_by_value B.told_by_value C.told_by_value D.told_by_value };
 
     fn conforms(&self) {
         self.0.conforms();

@@ -2,8 +2,9 @@ ghost use Rattle.std.specs.Prelude.{◌≡◌, string_bytes};
 ghost use Rattle.dynamo_shape.specs.Shape as shape;
 ghost use Rattle.dynamo_value.specs.Bytes.{octets_of};
 ghost use Rattle.dynamo_shape.proofs.Scalars.{char_permitted, char_told, text_permitted, text_told, bytes_permitted, bytes_told, unit_permitted, unit_told};
+ghost use Rattle.dynamo_shape.proofs.KeysTold.{char_equal, text_equal};
 
-use crate::Shaped;
+use crate::{Shaped, ShapedKey};
 use dynamo_value::ByteBuf;
 
 impl Shaped for char {
@@ -20,6 +21,12 @@ impl Shaped for char {
     }
 }
 
+impl ShapedKey for char {
+    ghost equal_as_told = { char_equal };
+
+    ghost told_apart = { λ _ _ h. h };
+}
+
 impl Shaped for String {
     ghost shape = { shape.string };
 
@@ -32,6 +39,12 @@ impl Shaped for String {
     fn conforms(&self) {
         let _text = self.as_str();
     }
+}
+
+impl ShapedKey for String {
+    ghost equal_as_told = { text_equal };
+
+    ghost told_apart = { λ _ _ h. h };
 }
 
 impl Shaped for ByteBuf {

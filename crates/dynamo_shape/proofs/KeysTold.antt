@@ -1,0 +1,50 @@
+-- Keys are equal exactly where they tell the same datum.
+use Rattle.std.proofs.Common.{◌≡◌, ℕ, ℤ, pos, Bool, true, List, [], String, Global, string_bytes, sym, ap, ◌∙◌}
+use Rattle.std.proofs.lemmas.Bool.Decides.{Decides-eqb, Decides-int_eq}
+use Rattle.std.specs.Cmp.{booleans_Decides}
+use Rattle.std.specs.Cmp.Lexicographic.{bytes_decides}
+use Rattle.std.specs.Ordering.{eq_by_cmp, int_eq, is_eq}
+use Rattle.std.specs.Bool.{beq}
+use Rattle.std.specs.Prelude.{nat_eq}
+use Rattle.std.specs.String.{string_eq}
+use Rattle.std.specs.declared.cmp.Ordering.{Ordering}
+use Rattle.dynamo_value.specs.Integer.{IntegerKind}
+use Rattle.dynamo_ser.specs.Datum as datum
+use Rattle.dynamo_ser.specs.Datum.{Datum}
+use Rattle.dynamo_shape.specs.Laws.{EqualAsTold}
+
+abbrev bool_in : Datum → Bool
+bool_in (datum.boolean b) = b
+bool_in _ = true
+
+abbrev number_in : Datum → ℕ
+number_in (datum.integer k (pos n)) = n
+number_in (datum.char c) = c
+number_in _ = 0
+
+abbrev integer_in : Datum → ℤ
+integer_in (datum.integer k z) = z
+integer_in _ = pos 0
+
+abbrev text_in : Datum → List ℕ
+text_in (datum.string t) = t
+text_in _ = []
+
+pub bool_equal : EqualAsTold datum.boolean beq
+bool_equal a b = let d = booleans_Decides a b in (λ t. ap datum.boolean (d.0 t), λ e. d.1 (ap bool_in e))
+
+pub unsigned_equal : (k : IntegerKind) → EqualAsTold (λ n. datum.integer k (pos n)) nat_eq
+unsigned_equal k a b = let d = Decides-eqb a b in (λ t. ap (λ n. datum.integer k (pos n)) (d.0 t), λ e. d.1 (ap number_in e))
+
+pub signed_equal : (k : IntegerKind) → EqualAsTold (datum.integer k) int_eq
+signed_equal k a b = let d = Decides-int_eq a b in (λ t. ap (datum.integer k) (d.0 t), λ e. d.1 (ap integer_in e))
+
+pub char_equal : EqualAsTold datum.char nat_eq
+char_equal a b = let d = Decides-eqb a b in (λ t. ap datum.char (d.0 t), λ e. d.1 (ap number_in e))
+
+pub text_equal : EqualAsTold {K = String Global} (λ t. datum.string (string_bytes t)) string_eq
+text_equal a b = let d = bytes_decides (string_bytes a) (string_bytes b) in (λ t. ap datum.string (d.0 t), λ e. d.1 (ap text_in e))
+
+-- they are equal in the order exactly there, too
+pub in_order : {K : Type 0} (tells : K → Datum) (eq : K → K → Bool) (cmp : K → K → Ordering) → EqualAsTold tells eq → ((x y : K) → eq x y ≡ is_eq (cmp x y)) → EqualAsTold tells (eq_by_cmp cmp)
+in_order tells eq cmp equal matches x y = (λ t. (equal x y).0 (matches x y ∙ t), λ e. sym (matches x y) ∙ (equal x y).1 e)
