@@ -70,11 +70,12 @@ behind_behind (suc i) f os = ap (λ more. first_slot os ∷ more) (behind_behind
 
 module _ {F S : Type 0} (entry : F → S → Av → Answer S) (slots : S → Slots) where
   -- an entry is read as by its field's shape, and fills the field's slot; so far as these fields go, the first of which has slot i
-  abbrev pub Reads : ℕ → FieldShapes → (Text → F) → Type 0
+  pub Reads : ℕ → FieldShapes → (Text → F) → Type 0
   Reads i fs named = (t : Text) (u : S) (a : Av) → Both (λ new d. slots new ≡ behind i (fill_named fs t d) (slots u)) (entry (named t) u a) (read_field fs t a)
 
   -- a field: what is read of it is kept in its slot
   pub known : {A : Type 0} (i : ℕ) (own : Text) (s : Shape) (fs : FieldShapes) (f : F) (others : Text → F) (reads : Source → Answer A) (make : A → Datum) (keep : A → S → S) → IsReadAs s reads make → ((u : S) (a : Av) → entry f u a ≡ into (λ x. keep x u) (reads (attribute a))) → ((x : A) (u : S) → slots (keep x u) ≡ fill_slot i (make x) (slots u)) → Reads (suc i) fs others → Reads i (field_shape own s fs) (λ t. if bytes_eq t own then f else others t)
+  unfolding Reads
   known i own s fs f others reads make keep same takes fills more t u a =
       elim (bytes_eq t own) as (λ b. Both (λ new d. slots new ≡ behind i (λ os. if b then fill d os else behind 1 (fill_named fs t d) os) (slots u)) (entry (if b then f else others t) u a) (if b then read s (attribute a) else read_field fs t a)) [
         | true ↦ rw (takes u a, same (attribute a)) (both_made (λ new d. slots new ≡ fill_slot i d (slots u)) (λ x. keep x u) make (reads (attribute a)) (λ x. fills x u))
@@ -86,6 +87,7 @@ module _ {F S : Type 0} (entry : F → S → Av → Answer S) (slots : S → Slo
 
   -- any other entry is ignored
   pub unknown : (i : ℕ) (f : F) → ((u : S) (a : Av) → entry f u a ≡ into (λ _. u) (ignore a)) → ((u : S) → slots u ≡ behind i (λ os. os) (slots u)) → Reads i no_field_shapes (λ _. f)
+  unfolding Reads
   unknown i f takes stays t u a = rw (takes u a) (both_made (λ new d. slots new ≡ behind i (λ os. os) (slots u)) (λ _. u) (λ _. datum.unit) (ignore a) (λ _. stays u))
 
 -- ---- what all entries do
@@ -150,7 +152,7 @@ module _ {F S B : Type 0} (entry : F → S → Av → Answer S) (slots : S → S
   regrouped answer.refused f g = refl
 
   from_here : (es : List Entry) (u : S) → read_fields named entry finish u es ≡ (read_each_entry (read_field fs) es >>= λ l. closed l (slots u))
-  unfolding read_fields
+  unfolding read_fields Reads
   from_here [] u = finishes u ∙ ap (into make) (sym (close_none fs (slots u)))
   from_here (e ∷ es) u =
       both_next (λ new d. slots new ≡ fill_named fs e.0 d (slots u)) (λ new. read_fields named entry finish new es) (λ d. (read_each_entry (read_field fs) es >>= λ l. answer.value ((e.0, d) ∷ l)) >>= λ l. closed l (slots u))

@@ -29,7 +29,7 @@ others_in (datum.field name d fs) = fs
 others_in datum.no_fields = datum.no_fields
 
 -- values whose fields tell the same data are the same
-abbrev pub AreTold : {V : Type 0} → FieldShapes → (V → Fields) → (V → V → Type 0) → Type 0
+pub AreTold : {V : Type 0} → FieldShapes → (V → Fields) → (V → V → Type 0) → Type 0
 AreTold {V} fs tells same = (v w : V) → conform_fields fs (tells v) → conform_fields fs (tells w) → SameFields (tells v) (tells w) → same v w
 
 first_same : (name : Text) (d e : Datum) (fs gs : Fields) → SameFields (datum.field name d fs) (datum.field name e gs) → Same d e × SameFields fs gs
@@ -40,6 +40,7 @@ first_conforms name s fs d gs c = (subst (conforms s) (sym (ap first_in c.2)) c.
 
 -- the first field, and then the others
 pub first_told : {V A : Type 0} (name : Text) (s : Shape) (fs : FieldShapes) (part : V → A) (tells : A → Datum) (same : A → A → Type 0) (others : V → Fields) (same_others : V → V → Type 0) → IsToldByValue s tells same → AreTold fs others same_others → AreTold (field_shape name s fs) (λ v. datum.field name (tells (part v)) (others v)) (λ v w. same (part v) (part w) × same_others v w)
+unfolding AreTold
 first_told name s fs part tells same others same_others here more v w c d h =
     let p = first_conforms name s fs (tells (part v)) (others v) c in
     let q = first_conforms name s fs (tells (part w)) (others w) d in
@@ -48,12 +49,14 @@ first_told name s fs part tells same others same_others here more v w c d h =
 
 -- the last field
 pub last_told : {V A : Type 0} (name : Text) (s : Shape) (part : V → A) (tells : A → Datum) (same : A → A → Type 0) → IsToldByValue s tells same → AreTold (field_shape name s no_field_shapes) (λ v. datum.field name (tells (part v)) datum.no_fields) (λ v w. same (part v) (part w))
+unfolding AreTold
 last_told name s part tells same here v w c d h =
     let p = first_conforms name s no_field_shapes (tells (part v)) datum.no_fields c in
     let q = first_conforms name s no_field_shapes (tells (part w)) datum.no_fields d in
     here (part v) (part w) p.0 q.0 (first_same name (tells (part v)) (tells (part w)) datum.no_fields datum.no_fields h).0
 
 pub struct_told : {V : Type 0} (name : Text) (fs : FieldShapes) (fields : V → Fields) (same : V → V → Type 0) → AreTold fs fields same → IsToldByValue (shape.struct name fs) (λ v. datum.struct name (fields v)) same
+unfolding AreTold
 struct_told name fs fields same h v w c d e =
     h v w (subst (conform_fields fs) (sym (ap fields_in c.1)) c.2) (subst (conform_fields fs) (sym (ap fields_in d.1)) d.2) (subst (SameFields (fields v)) (sym (ap fields_in e.1)) e.2)
 

@@ -1,5 +1,6 @@
 pub mod Alike
 pub mod Answered
+pub mod Apart
 pub mod Back
 pub mod ByHand
 pub mod ByValue

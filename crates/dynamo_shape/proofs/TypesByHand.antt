@@ -13,10 +13,12 @@ use Rattle.dynamo_shape.specs.Read.{into, read_each, read_field, fields_by_name,
 use Rattle.dynamo_shape.specs.Shape as shape
 use Rattle.dynamo_shape.specs.Shape.{Shape, Shapes, FieldShapes, Content, Variants, struct, enum, no_variants, variant}
 use Rattle.dynamo_shape.proofs.ByHand.{IsReadAs, into_into, same_next, by_steps}
+use Rattle.dynamo_shape.proofs.InOrder.{ListsFields, ListsElements}
 
 -- ---- a struct, which is read by the names of its fields or in their order
 
-pub struct_permitted : {V : Type 0} (name : Text) (fs : FieldShapes) (tells : V → Datum) (parts : Parts → Answer Datum) → ((es : List Entry) → parts (by_name es) ≡ into (datum.struct name) (fields_by_name fs (read_field fs) es)) → ((ss : List Source) → parts (in_order ss) ≡ into (datum.struct name) (fields_in_order fs ss)) → ReadsByShape (struct name fs) tells (λ source. After (read_parts source) (λ p. Gives tells (parts p)))
+pub struct_permitted : {V : Type 0} (name : Text) (fs : FieldShapes) (tells : V → Datum) (parts : Parts → Answer Datum) → ((es : List Entry) → parts (by_name es) ≡ into (datum.struct name) (fields_by_name fs (read_field fs) es)) → ListsFields fs (λ ss. parts (in_order ss)) (datum.struct name) → ReadsByShape (struct name fs) tells (λ source. After (read_parts source) (λ p. Gives tells (parts p)))
+unfolding ListsFields
 struct_permitted name fs tells parts named listed source r a =
     by_steps (struct name fs) (conforms (struct name fs)) tells source (read_parts source) parts (same_next (datum.struct name) (read_parts source) parts (fields_of fs (fields_in_order fs) (read_field fs)) either) r a
   where
@@ -28,10 +30,11 @@ struct_permitted name fs tells parts named listed source r a =
 
 module _ {F : Type 0} (name : Text) (content : F → Option Source → Answer Datum) where
   -- so far as these variants go, the first of which has place i
-  abbrev pub Chooses : ℕ → Variants → (Text → F) → Type 0
+  pub Chooses : ℕ → Variants → (Text → F) → Type 0
   Chooses i vs named = (t : Text) (s : Option Source) → content (named t) s ≡ read_one_of vs name i t s
 
   pub known : (i : ℕ) (own : Text) (c : Content) (vs : Variants) (f : F) (others : Text → F) → ((s : Option Source) → content f s ≡ read_inside c (datum.variant name i own) s) → Chooses (suc i) vs others → Chooses i (variant own c vs) (λ t. if bytes_eq t own then f else others t)
+  unfolding Chooses
   known i own c vs f others here more t s =
       elim (bytes_eq t own) as (λ b. content (if b then f else others t) s ≡ (if b then read_inside c (datum.variant name i own) s else read_one_of vs name (suc i) t s)) [
         | true ↦ here s
@@ -39,9 +42,11 @@ module _ {F : Type 0} (name : Text) (content : F → Option Source → Answer Da
       ]
 
   pub unknown : (i : ℕ) (f : F) → ((s : Option Source) → content f s ≡ answer.refused) → Chooses i no_variants (λ _. f)
+  unfolding Chooses
   unknown i f h t s = h s
 
   pub enum_permitted : {V : Type 0} (vs : Variants) (tells : V → Datum) (named : Text → F) → Chooses 0 vs named → ReadsByShape (enum name vs) tells (λ source. After (read_variant source) (λ v. Gives tells (content (named v.0) v.1)))
+  unfolding Chooses
   enum_permitted vs tells named h source r a =
       by_steps (enum name vs) (conforms (enum name vs)) tells source (read_variant source) (λ v. content (named v.0) v.1) (both (read_variant source)) r a
     where
@@ -58,7 +63,8 @@ one_inside t v reads make same content none h None = none
 one_inside t v reads make same content none h (Some s) = h s ∙ sym (into_into make (datum.newtype_variant v) (reads s)) ∙ ap (into (datum.newtype_variant v)) (sym (same s))
 
 -- several, in order
-pub several_inside : (ts : Shapes) (v : Variant) (elements : List Source → Answer Datum) → ((ss : List Source) → elements ss ≡ into (datum.tuple_variant v) (read_each ts ss)) → (content : Option Source → Answer Datum) → content None ≡ answer.refused → ((s : Source) → content (Some s) ≡ (read_elements s >>= elements)) → (s : Option Source) → content s ≡ read_inside (shape.several ts) v s
+pub several_inside : (ts : Shapes) (v : Variant) (elements : List Source → Answer Datum) → ListsElements ts elements (datum.tuple_variant v) → (content : Option Source → Answer Datum) → content None ≡ answer.refused → ((s : Source) → content (Some s) ≡ (read_elements s >>= elements)) → (s : Option Source) → content s ≡ read_inside (shape.several ts) v s
+unfolding ListsElements
 several_inside ts v elements same content none h None = none
 several_inside ts v elements same content none h (Some s) = h s ∙ same_next (datum.tuple_variant v) (read_elements s) elements (read_each ts) same
 

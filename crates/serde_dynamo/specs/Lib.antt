@@ -42,5 +42,7 @@ pub use Rattle.dynamo_json.specs.PlainAnswers
 pub use Rattle.dynamo_json.specs.PlainMemory
 pub use Rattle.dynamo_json.specs.Square
 pub use Rattle.dynamo_json.specs.ViaJson
+pub mod SampleShapes
 pub mod Samples
+pub mod SamplesByShape
 pub mod SamplesRead
