@@ -1,29 +1,36 @@
 -- What the samples read, told as data, is reading at their shapes: what is said once more of each field and each variant is how
 -- it is read and where it is kept, and all else is by computation.
-use Rattle.std.specs.Prelude.{◌≡◌, refl, ℕ, ℤ, pos, Bool, true, List, [], ◌∷◌, Option, Some, None, option_map, codes}
+use Rattle.std.specs.Prelude.{◌≡◌, refl, ℕ, ℤ, pos, Bool, true, List, [], ◌∷◌, Option, Some, None, option_map, codes, string_bytes}
 use Rattle.dynamo_value.specs.Integer.{u8, u64}
+use Rattle.dynamo_value.specs.Bytes.{octets_of}
 use Rattle.dynamo_ser.specs.Datum as datum
 use Rattle.dynamo_ser.specs.Datum.{Datum, elements_of}
 use Rattle.dynamo_ser.specs.Symbols.{strings, numbers, blobs}
 use Rattle.dynamo_de.specs.Scalars.{read_string, read_integer}
 use Rattle.dynamo_de.specs.Source.{Entry}
+use Rattle.dynamo_shape.specs.Laws.{IsToldByValue}
 use Rattle.dynamo_shape.specs.Read.{into, read_field, fields_by_name}
 use Rattle.dynamo_shape.specs.Shape as shape
-use Rattle.dynamo_shape.proofs.Apart.{holds_no_map}
+use Rattle.dynamo_shape.proofs.Apart.{holds_no_map, told_again}
 use Rattle.dynamo_shape.proofs.FieldsByName as fields
 use Rattle.dynamo_shape.proofs.FieldsByName.{Slots, close}
+use Rattle.dynamo_shape.proofs.FieldsTold as told
+use Rattle.dynamo_shape.proofs.FieldsTold.{first_told, last_told, struct_told}
+use Rattle.dynamo_shape.proofs.Scalars.{text_told, unsigned_told, bytes_told}
 use Rattle.dynamo_shape.proofs.InOrder.{ListsFields, first_field, no_more_fields, ListsElements, first_element, no_more_elements, set_read}
 use Rattle.dynamo_shape.proofs.TypesByHand as variants
 use Rattle.dynamo_shape.proofs.TypesByHand.{one_inside, several_inside, named_inside}
-use Rattle.serde_dynamo.specs.SampleShapes.{byte_shape, user_fields, two_bytes, structy_fields, event_variants, sets_fields}
-use Rattle.serde_dynamo.specs.Samples.{event_variant, event_told, set_told}
+use Rattle.serde_dynamo.specs.SampleShapes.{byte_shape, user_fields, user_shape, same_user, two_bytes, structy_fields, event_variants, event_shape, sets_fields, sets_shape, same_sets}
+use Rattle.serde_dynamo.specs.Samples.{user_told, event_variant, event_told, set_told, sets_told}
 use Rattle.serde_dynamo.specs.SamplesRead as samples
 use Rattle.serde_dynamo.specs.SamplesRead.{UserFields, StructyFields, SetsFields}
 use Rattle.serde_dynamo.specs.declared.samples.event.Event.{Event}
 use Rattle.serde_dynamo.specs.declared.samples.event.Field as structy
 use Rattle.serde_dynamo.specs.declared.samples.event.Tag as event
 use Rattle.serde_dynamo.specs.declared.samples.sets.Field as sets
+use Rattle.serde_dynamo.specs.declared.samples.sets.Sets.{Sets}
 use Rattle.serde_dynamo.specs.declared.samples.user.Field as user
+use Rattle.serde_dynamo.specs.declared.samples.user.User.{User}
 
 -- ---- a user
 
@@ -58,6 +65,13 @@ user_listed =
     first_field (codes "name") shape.string _ read_string datum.string _ _ (λ s. refl) (λ name.
     first_field (codes "age") byte_shape _ (read_integer u8) (datum.integer u8) _ _ (λ s. refl) (λ age.
     no_more_fields _)))
+
+pub user_by_value : IsToldByValue user_shape user_told same_user
+user_by_value =
+    struct_told (codes "User") user_fields _ same_user
+    (first_told (codes "id") _ _ (λ (u : User). u.id) _ _ _ _ (text_told string_bytes)
+    (first_told (codes "name") _ _ (λ (u : User). u.name) _ _ _ _ (text_told string_bytes)
+    (last_told (codes "age") _ (λ (u : User). u.age) _ _ (unsigned_told u8))))
 
 -- ---- an event
 
@@ -109,23 +123,26 @@ abbrev number_in : Datum → ℕ
 number_in (datum.integer k (pos n)) = n
 number_in _ = 0
 
-abbrev pub event_again : Datum → Event
+abbrev event_again : Datum → Event
 event_again (datum.newtype_variant v d) = Event.Newtype (number_in d)
 event_again (datum.tuple_variant v (datum.element a (datum.element b ds))) = Event.Tuple (number_in a) (number_in b)
 event_again (datum.struct_variant v (datum.field one a (datum.field two b fs))) = Event.Structy (number_in a) (number_in b)
 event_again _ = Event.Unit
 
-pub event_back : (e : Event) → event_again (event_told e) ≡ e
+event_back : (e : Event) → event_again (event_told e) ≡ e
 event_back Event.Unit = refl
 event_back (Event.Newtype n) = refl
 event_back (Event.Tuple a b) = refl
 event_back (Event.Structy one two) = refl
 
-pub event_without_map : (e : Event) → holds_no_map (event_told e) ≡ true
+event_without_map : (e : Event) → holds_no_map (event_told e) ≡ true
 event_without_map Event.Unit = refl
 event_without_map (Event.Newtype n) = refl
 event_without_map (Event.Tuple a b) = refl
 event_without_map (Event.Structy one two) = refl
+
+pub event_by_value : IsToldByValue event_shape event_told (λ e f. e ≡ f)
+event_by_value = told_again event_shape event_told event_again event_without_map event_back
 
 -- ---- three sets
 
@@ -160,3 +177,10 @@ sets_listed =
     first_field (codes "numbers") (shape.set numbers (shape.integer u64)) _ samples.read_numbers (set_told numbers) _ _ (set_read numbers (shape.integer u64)) (λ the_numbers.
     first_field (codes "blobs") (shape.set blobs shape.bytes) _ samples.read_blobs (set_told blobs) _ _ (set_read blobs shape.bytes) (λ the_blobs.
     no_more_fields _)))
+
+pub sets_by_value : IsToldByValue sets_shape sets_told same_sets
+sets_by_value =
+    struct_told (codes "Sets") sets_fields _ same_sets
+    (first_told (codes "names") _ _ (λ (s : Sets). s.names) _ _ _ _ (told.set_told strings shape.string _ _ (text_told string_bytes))
+    (first_told (codes "numbers") _ _ (λ (s : Sets). s.numbers) _ _ _ _ (told.set_told numbers (shape.integer u64) _ _ (unsigned_told u64))
+    (last_told (codes "blobs") _ (λ (s : Sets). s.blobs) _ _ (told.set_told blobs shape.bytes _ _ (bytes_told octets_of)))))

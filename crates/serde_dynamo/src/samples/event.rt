@@ -3,11 +3,10 @@ ghost use Rattle.dynamo_de.specs.Answer.{After, Gives};
 ghost use Rattle.dynamo_de.specs.Contents.{read_variant};
 ghost use Rattle.dynamo_de.specs.Fields.{NamesOne};
 ghost use Rattle.dynamo_de.specs.Visitors.{claims_str, take_identifier, claims_seq, take_elements, claims_map, take_entries, claims_enum, take_variant};
-ghost use Rattle.dynamo_shape.proofs.Apart.{told_again};
 ghost use Rattle.dynamo_shape.proofs.TypesByHand.{enum_permitted};
 ghost use Rattle.serde_dynamo.specs.SampleShapes.{event_shape, event_variants};
 ghost use Rattle.serde_dynamo.specs.Samples.{event_told};
-ghost use Rattle.serde_dynamo.specs.SamplesByShape.{event_chosen, event_again, event_without_map, event_back};
+ghost use Rattle.serde_dynamo.specs.SamplesByShape.{event_chosen, event_by_value};
 ghost use Rattle.serde_dynamo.specs.SamplesRead.{event_tag, event_content, structy_field, tuple_in_order, structy_by_name, event_from_variant};
 
 use crate::Shaped;
@@ -297,7 +296,7 @@ impl Shaped for Event {
 
     ghost reads_by_shape = { enum_permitted (codes "Event") event_content event_variants event_told event_tag event_chosen };
 
-    ghost told_by_value = { told_again event_shape event_told event_again event_without_map event_back };
+    ghost told_by_value = { event_by_value };
 
     fn conforms(&self) {
         match self {

@@ -1,18 +1,12 @@
-ghost use Rattle.std.specs.Prelude.{◌≡◌, Ok, codes, string_bytes};
+ghost use Rattle.std.specs.Prelude.{◌≡◌, Ok, codes};
 ghost use Rattle.dynamo_de.specs.Answer.{After};
 ghost use Rattle.dynamo_de.specs.Contents.{read_parts};
 ghost use Rattle.dynamo_de.specs.Fields.{NamesOne};
 ghost use Rattle.dynamo_de.specs.Visitors.{claims_str, take_identifier, claims_struct, take_parts};
-ghost use Rattle.dynamo_shape.proofs.FieldsTold.{first_told, last_told, set_told, struct_told};
-ghost use Rattle.dynamo_shape.proofs.Scalars.{text_told, unsigned_told, bytes_told};
 ghost use Rattle.dynamo_shape.proofs.TypesByHand.{struct_permitted};
-ghost use Rattle.dynamo_shape.specs.ByValue.{SameEach};
-ghost use Rattle.dynamo_value.specs.Bytes.{octets_of};
-ghost use Rattle.dynamo_value.specs.Integer as integers;
-ghost use Rattle.dynamo_ser.specs.Symbols as kinds;
-ghost use Rattle.serde_dynamo.specs.SampleShapes.{sets_shape, sets_fields};
+ghost use Rattle.serde_dynamo.specs.SampleShapes.{sets_shape, sets_fields, same_sets};
 ghost use Rattle.serde_dynamo.specs.Samples.{sets_told};
-ghost use Rattle.serde_dynamo.specs.SamplesByShape.{sets_named, sets_listed};
+ghost use Rattle.serde_dynamo.specs.SamplesByShape.{sets_named, sets_listed, sets_by_value};
 ghost use Rattle.serde_dynamo.specs.SamplesRead.{sets_field, sets_parts, sets_from_parts};
 
 use crate::Shaped;
@@ -185,11 +179,11 @@ impl Deserialize for Sets {
 impl Shaped for Sets {
     ghost shape = { sets_shape };
 
-    ghost same = { λ s t. SameEach (λ a b. string_bytes a ≡ string_bytes b) s.names.items t.names.items × SameEach (λ a b. a ≡ b) s.numbers.items t.numbers.items × SameEach (λ a b. octets_of a ≡ octets_of b) s.blobs.items t.blobs.items };
+    ghost same = { same_sets };
 
     ghost reads_by_shape = { struct_permitted (codes "Sets") sets_fields sets_told sets_parts sets_named sets_listed };
 
-    ghost told_by_value = { struct_told _ _ _ _ (first_told _ _ _ (λ s. s.names) _ _ _ _ (set_told kinds.strings _ _ _ (text_told string_bytes)) (first_told _ _ _ (λ s. s.numbers) _ _ _ _ (set_told kinds.numbers _ _ _ (unsigned_told integers.u64)) (last_told _ _ (λ s. s.blobs) _ _ (set_told kinds.blobs _ _ _ (bytes_told octets_of))))) };
+    ghost told_by_value = { sets_by_value };
 
     #[tactic(auto, using(dynamo_shape::proofs::FieldsTold::set_conforms))]
     fn conforms(&self) {

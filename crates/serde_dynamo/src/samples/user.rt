@@ -1,15 +1,12 @@
-ghost use Rattle.std.specs.Prelude.{◌≡◌, Ok, codes, string_bytes};
+ghost use Rattle.std.specs.Prelude.{◌≡◌, Ok, codes};
 ghost use Rattle.dynamo_de.specs.Answer.{After};
 ghost use Rattle.dynamo_de.specs.Contents.{read_parts};
 ghost use Rattle.dynamo_de.specs.Fields.{NamesOne};
 ghost use Rattle.dynamo_de.specs.Visitors.{claims_str, take_identifier, claims_struct, take_parts};
-ghost use Rattle.dynamo_shape.proofs.FieldsTold.{first_told, last_told, struct_told};
-ghost use Rattle.dynamo_shape.proofs.Scalars.{text_told, unsigned_told};
 ghost use Rattle.dynamo_shape.proofs.TypesByHand.{struct_permitted};
-ghost use Rattle.dynamo_value.specs.Integer as integers;
-ghost use Rattle.serde_dynamo.specs.SampleShapes.{user_shape, user_fields};
+ghost use Rattle.serde_dynamo.specs.SampleShapes.{user_shape, user_fields, same_user};
 ghost use Rattle.serde_dynamo.specs.Samples.{user_told};
-ghost use Rattle.serde_dynamo.specs.SamplesByShape.{user_named, user_listed};
+ghost use Rattle.serde_dynamo.specs.SamplesByShape.{user_named, user_listed, user_by_value};
 ghost use Rattle.serde_dynamo.specs.SamplesRead.{user_field, user_parts, user_from_parts};
 
 use crate::Shaped;
@@ -169,11 +166,11 @@ impl Deserialize for User {
 impl Shaped for User {
     ghost shape = { user_shape };
 
-    ghost same = { λ u v. (string_bytes u.id ≡ string_bytes v.id) × (string_bytes u.name ≡ string_bytes v.name) × (u.age ≡ v.age) };
+    ghost same = { same_user };
 
     ghost reads_by_shape = { struct_permitted (codes "User") user_fields user_told user_parts user_named user_listed };
 
-    ghost told_by_value = { struct_told _ _ _ _ (first_told _ _ _ (λ u. u.id) _ _ _ _ (text_told string_bytes) (first_told _ _ _ (λ u. u.name) _ _ _ _ (text_told string_bytes) (last_told _ _ (λ u. u.age) _ _ (unsigned_told integers.u8)))) };
+    ghost told_by_value = { user_by_value };
 
     fn conforms(&self) {
         self.id.conforms();
