@@ -1,12 +1,17 @@
 pub mod Alike
 pub mod Answered
+pub mod Apart
 pub mod Back
+pub mod ByHand
 pub mod ByValue
 pub mod Counts
 pub mod Equivalence
 pub mod Exactly
+pub mod FieldsByName
+pub mod FieldsTold
 pub mod Flat
 pub mod Found
+pub mod InOrder
 pub mod Keys
 pub mod KeysTold
 pub mod Lists
@@ -23,6 +28,7 @@ pub mod Same
 pub mod Sets
 pub mod Structs
 pub mod Tuples
+pub mod TypesByHand
 pub mod WellKeyed
 pub mod Scalars
 mod ReadRows

@@ -49,13 +49,14 @@ read_each_entry reads (e ∷ es) = do
   rest ← read_each_entry reads es
   value ((e.0, d) ∷ rest)
 
-abbrev pub lookup : {A : Type 0} → Text → List (Text × A) → Option A
-lookup t [] = None
-lookup t (e ∷ es) = if bytes_eq t e.0 then Some e.1 else lookup t es
+-- the last entry of this name, else what was there before
+abbrev pub last_of : {A : Type 0} → Text → List (Text × A) → Option A → Option A
+last_of t [] before = before
+last_of t (e ∷ es) before = last_of t es (if bytes_eq t e.0 then Some e.1 else before)
 
--- an entry of this name, unless a field before has taken it
+-- the entry of this name, unless a field before has taken it
 abbrev pub entry_for : {A : Type 0} → List Text → Text → List (Text × A) → Option A
-entry_for taken t es = if list_any (λ u. bytes_eq u t) taken then None else lookup t es
+entry_for taken t es = if list_any (λ u. bytes_eq u t) taken then None else last_of t es None
 
 -- where no entry is left for a field, an option is none, and any other field is missed by a message
 abbrev pub missing : Shape → Answer Datum

@@ -1,7 +1,9 @@
 pub mod EventContent
 pub mod InOrder
+pub mod MapsOfItems
 pub mod ReadBack
 pub mod Rows
 pub mod SetsFields
+pub mod ShapeRows
 pub mod StructyFields
 pub mod UserFields

@@ -2,6 +2,7 @@
 //! worked by hand. Each public call is made here once with ample memory, since a proof lets any call answer want of it.
 #![tactic(auto)]
 
+pub mod at_shapes;
 #[cfg(test)]
 mod builders;
 pub mod by_hand;
@@ -48,6 +49,10 @@ mod refuses;
 mod request_rows;
 #[cfg(test)]
 mod requests;
+#[cfg(test)]
+mod rereading;
+#[cfg(test)]
+mod rereading_samples;
 #[cfg(test)]
 mod samples;
 #[cfg(test)]

@@ -1,11 +1,15 @@
-ghost use Rattle.std.specs.Prelude.{◌≡◌, Ok};
+ghost use Rattle.std.specs.Prelude.{◌≡◌, Ok, codes};
 ghost use Rattle.dynamo_de.specs.Answer.{After, Gives};
 ghost use Rattle.dynamo_de.specs.Contents.{read_variant};
 ghost use Rattle.dynamo_de.specs.Fields.{NamesOne};
 ghost use Rattle.dynamo_de.specs.Visitors.{claims_str, take_identifier, claims_seq, take_elements, claims_map, take_entries, claims_enum, take_variant};
+ghost use Rattle.dynamo_shape.proofs.TypesByHand.{enum_permitted};
+ghost use Rattle.serde_dynamo.specs.SampleShapes.{event_shape, event_variants};
 ghost use Rattle.serde_dynamo.specs.Samples.{event_told};
-ghost use Rattle.serde_dynamo.specs.SamplesRead.{event_tag, structy_field, tuple_in_order, structy_by_name, event_from_variant};
+ghost use Rattle.serde_dynamo.specs.SamplesByShape.{event_chosen, event_by_value};
+ghost use Rattle.serde_dynamo.specs.SamplesRead.{event_tag, event_content, structy_field, tuple_in_order, structy_by_name, event_from_variant};
 
+use crate::Shaped;
 use dynamo_de::{
     Deserialize, Deserializer, EnumAccess, Error, IgnoredAny, Kind, MapAccess, SeqAccess,
     VariantAccess, Visitor,
@@ -282,5 +286,30 @@ impl Deserialize for Event {
             &["Unit", "Newtype", "Tuple", "Structy"],
             EventVisitor { alloc },
         )
+    }
+}
+
+impl Shaped for Event {
+    ghost shape = { event_shape };
+
+    ghost same = { λ e f. e ≡ f };
+
+    ghost reads_by_shape = { enum_permitted (codes "Event") event_content event_variants event_told event_tag event_chosen };
+
+    ghost told_by_value = { event_by_value };
+
+    fn conforms(&self) {
+        match self {
+            Event::Unit => {}
+            Event::Newtype(n) => n.conforms(),
+            Event::Tuple(a, b) => {
+                a.conforms();
+                b.conforms();
+            }
+            Event::Structy { one, two } => {
+                one.conforms();
+                two.conforms();
+            }
+        }
     }
 }

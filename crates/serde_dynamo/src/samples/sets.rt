@@ -1,11 +1,15 @@
-ghost use Rattle.std.specs.Prelude.{◌≡◌, Ok};
+ghost use Rattle.std.specs.Prelude.{◌≡◌, Ok, codes};
 ghost use Rattle.dynamo_de.specs.Answer.{After};
 ghost use Rattle.dynamo_de.specs.Contents.{read_parts};
 ghost use Rattle.dynamo_de.specs.Fields.{NamesOne};
 ghost use Rattle.dynamo_de.specs.Visitors.{claims_str, take_identifier, claims_struct, take_parts};
+ghost use Rattle.dynamo_shape.proofs.TypesByHand.{struct_permitted};
+ghost use Rattle.serde_dynamo.specs.SampleShapes.{sets_shape, sets_fields, same_sets};
 ghost use Rattle.serde_dynamo.specs.Samples.{sets_told};
-ghost use Rattle.serde_dynamo.specs.SamplesRead.{sets_field, sets_from_parts};
+ghost use Rattle.serde_dynamo.specs.SamplesByShape.{sets_named, sets_listed, sets_by_value};
+ghost use Rattle.serde_dynamo.specs.SamplesRead.{sets_field, sets_parts, sets_from_parts};
 
+use crate::Shaped;
 use dynamo_de::{
     Deserialize, Deserializer, Error, IgnoredAny, Kind, MapAccess, SeqAccess, Visitor,
 };
@@ -169,5 +173,22 @@ impl Deserialize for Sets {
             &["names", "numbers", "blobs"],
             SetsVisitor { alloc },
         )
+    }
+}
+
+impl Shaped for Sets {
+    ghost shape = { sets_shape };
+
+    ghost same = { same_sets };
+
+    ghost reads_by_shape = { struct_permitted (codes "Sets") sets_fields sets_told sets_parts sets_named sets_listed };
+
+    ghost told_by_value = { sets_by_value };
+
+    #[tactic(auto, using(dynamo_shape::proofs::FieldsTold::set_conforms))]
+    fn conforms(&self) {
+        self.names.conforms();
+        self.numbers.conforms();
+        self.blobs.conforms();
     }
 }

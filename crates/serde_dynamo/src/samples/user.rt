@@ -1,11 +1,15 @@
-ghost use Rattle.std.specs.Prelude.{◌≡◌, Ok};
+ghost use Rattle.std.specs.Prelude.{◌≡◌, Ok, codes};
 ghost use Rattle.dynamo_de.specs.Answer.{After};
 ghost use Rattle.dynamo_de.specs.Contents.{read_parts};
 ghost use Rattle.dynamo_de.specs.Fields.{NamesOne};
 ghost use Rattle.dynamo_de.specs.Visitors.{claims_str, take_identifier, claims_struct, take_parts};
+ghost use Rattle.dynamo_shape.proofs.TypesByHand.{struct_permitted};
+ghost use Rattle.serde_dynamo.specs.SampleShapes.{user_shape, user_fields, same_user};
 ghost use Rattle.serde_dynamo.specs.Samples.{user_told};
-ghost use Rattle.serde_dynamo.specs.SamplesRead.{user_field, user_from_parts};
+ghost use Rattle.serde_dynamo.specs.SamplesByShape.{user_named, user_listed, user_by_value};
+ghost use Rattle.serde_dynamo.specs.SamplesRead.{user_field, user_parts, user_from_parts};
 
+use crate::Shaped;
 use dynamo_de::{
     Deserialize, Deserializer, Error, IgnoredAny, Kind, MapAccess, SeqAccess, Visitor,
 };
@@ -13,7 +17,7 @@ use dynamo_ser::{Serialize, SerializeStruct, Serializer};
 use std::alloc::Global;
 
 /// A user of some service.
-#[derive(Debug, Drop)]
+#[derive(Debug, Drop, PartialEq, Eq)]
 pub struct User {
     pub id: String,
     pub name: String,
@@ -156,5 +160,21 @@ impl Deserialize for User {
 
     fn deserialize<D: Deserializer>(alloc: Global, deserializer: D) -> Result<User, D::Error> {
         deserializer.deserialize_struct("User", &["id", "name", "age"], UserVisitor { alloc })
+    }
+}
+
+impl Shaped for User {
+    ghost shape = { user_shape };
+
+    ghost same = { same_user };
+
+    ghost reads_by_shape = { struct_permitted (codes "User") user_fields user_told user_parts user_named user_listed };
+
+    ghost told_by_value = { user_by_value };
+
+    fn conforms(&self) {
+        self.id.conforms();
+        self.name.conforms();
+        self.age.conforms();
     }
 }

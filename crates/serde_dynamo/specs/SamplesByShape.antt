@@ -1,0 +1,186 @@
+-- What the samples read, told as data, is reading at their shapes: what is said once more of each field and each variant is how
+-- it is read and where it is kept, and all else is by computation.
+use Rattle.std.specs.Prelude.{◌≡◌, refl, ℕ, ℤ, pos, true, List, [], ◌∷◌, Option, Some, None, option_map, codes, string_bytes}
+use Rattle.dynamo_value.specs.Integer.{u8, u64}
+use Rattle.dynamo_value.specs.Bytes.{octets_of}
+use Rattle.dynamo_ser.specs.Datum as datum
+use Rattle.dynamo_ser.specs.Datum.{Datum, elements_of}
+use Rattle.dynamo_ser.specs.Symbols.{strings, numbers, blobs}
+use Rattle.dynamo_de.specs.Scalars.{read_string, read_integer}
+use Rattle.dynamo_de.specs.Source.{Entry}
+use Rattle.dynamo_shape.specs.Laws.{IsToldByValue}
+use Rattle.dynamo_shape.specs.Read.{into, read_field, fields_by_name}
+use Rattle.dynamo_shape.specs.Shape as shape
+use Rattle.dynamo_shape.proofs.Apart.{holds_no_map, told_again}
+use Rattle.dynamo_shape.proofs.FieldsByName as fields
+use Rattle.dynamo_shape.proofs.FieldsByName.{Slots, close}
+use Rattle.dynamo_shape.proofs.FieldsTold as told
+use Rattle.dynamo_shape.proofs.FieldsTold.{first_told, last_told, struct_told}
+use Rattle.dynamo_shape.proofs.Scalars.{text_told, unsigned_told, bytes_told}
+use Rattle.dynamo_shape.proofs.InOrder.{ListsFields, first_field, no_more_fields, ListsElements, first_element, no_more_elements, set_read}
+use Rattle.dynamo_shape.proofs.TypesByHand as variants
+use Rattle.dynamo_shape.proofs.TypesByHand.{one_inside, several_inside, named_inside}
+use Rattle.serde_dynamo.specs.SampleShapes.{byte_shape, user_fields, user_shape, same_user, two_bytes, structy_fields, event_variants, event_shape, sets_fields, sets_shape, same_sets}
+use Rattle.serde_dynamo.specs.Samples.{user_told, event_variant, event_told, set_told, sets_told}
+use Rattle.serde_dynamo.specs.SamplesRead as samples
+use Rattle.serde_dynamo.specs.SamplesRead.{UserFields, StructyFields, SetsFields}
+use Rattle.serde_dynamo.specs.declared.samples.event.Event.{Event}
+use Rattle.serde_dynamo.specs.declared.samples.event.Field as structy
+use Rattle.serde_dynamo.specs.declared.samples.event.Tag as event
+use Rattle.serde_dynamo.specs.declared.samples.sets.Field as sets
+use Rattle.serde_dynamo.specs.declared.samples.sets.Sets.{Sets}
+use Rattle.serde_dynamo.specs.declared.samples.user.Field as user
+use Rattle.serde_dynamo.specs.declared.samples.user.User.{User}
+
+-- ---- a user
+
+abbrev user_slots : UserFields → Slots
+user_slots u = option_map datum.string u.id ∷ option_map datum.string u.name ∷ option_map (datum.integer u8) u.age ∷ []
+
+user_whole : (u : UserFields) → samples.finish_user u ≡ into (datum.struct (codes "User")) (close user_fields (user_slots u))
+user_whole u = whole u.id u.name u.age
+  where
+    whole : (id name : Option (List ℕ)) (age : Option ℤ) → samples.whole_user id name age ≡ into (datum.struct (codes "User")) (close user_fields (option_map datum.string id ∷ option_map datum.string name ∷ option_map (datum.integer u8) age ∷ []))
+    whole (Some id) (Some name) (Some age) = refl
+    whole (Some id) (Some name) None = refl
+    whole (Some id) None age = refl
+    whole None name age = refl
+
+user_reads : fields.Reads samples.user_entry user_slots 0 user_fields samples.user_field
+user_reads =
+    fields.known samples.user_entry user_slots 0 (codes "id") shape.string _ user.Field.Id _ read_string datum.string
+    (λ t u. record { id = Some t; name = u.name; age = u.age }) (λ s. refl) (λ u a. refl) (λ x u. refl)
+    (fields.known samples.user_entry user_slots 1 (codes "name") shape.string _ user.Field.Name _ read_string datum.string
+    (λ t u. record { id = u.id; name = Some t; age = u.age }) (λ s. refl) (λ u a. refl) (λ x u. refl)
+    (fields.known samples.user_entry user_slots 2 (codes "age") byte_shape _ user.Field.Age _ (read_integer u8) (datum.integer u8)
+    (λ n u. record { id = u.id; name = u.name; age = Some n }) (λ s. refl) (λ u a. refl) (λ x u. refl)
+    (fields.unknown samples.user_entry user_slots 3 user.Field.Other (λ u a. refl) (λ u. refl))))
+
+pub user_named : (es : List Entry) → samples.user_by_name es ≡ into (datum.struct (codes "User")) (fields_by_name user_fields (read_field user_fields) es)
+user_named = fields.all_named samples.user_entry user_slots samples.user_field user_fields samples.finish_user (datum.struct (codes "User")) (refl, (refl, (refl, tt))) user_reads user_whole samples.no_user refl
+
+pub user_listed : ListsFields user_fields samples.user_in_order (datum.struct (codes "User"))
+user_listed =
+    first_field (codes "id") shape.string _ read_string datum.string _ (datum.struct (codes "User")) (λ s. refl) (λ id.
+    first_field (codes "name") shape.string _ read_string datum.string _ _ (λ s. refl) (λ name.
+    first_field (codes "age") byte_shape _ (read_integer u8) (datum.integer u8) _ _ (λ s. refl) (λ age.
+    no_more_fields _)))
+
+pub user_by_value : IsToldByValue user_shape user_told same_user
+user_by_value =
+    struct_told (codes "User") user_fields _ same_user
+    (first_told (codes "id") _ _ (λ (u : User). u.id) _ _ _ _ (text_told string_bytes)
+    (first_told (codes "name") _ _ (λ (u : User). u.name) _ _ _ _ (text_told string_bytes)
+    (last_told (codes "age") _ (λ (u : User). u.age) _ _ (unsigned_told u8))))
+
+-- ---- an event
+
+abbrev structy_slots : StructyFields → Slots
+structy_slots u = option_map (datum.integer u8) u.one ∷ option_map (datum.integer u8) u.two ∷ []
+
+abbrev structy_variant : datum.Variant
+structy_variant = event_variant 3 (codes "Structy")
+
+structy_whole : (u : StructyFields) → samples.finish_structy u ≡ into (datum.struct_variant structy_variant) (close structy_fields (structy_slots u))
+structy_whole u = whole u.one u.two
+  where
+    whole : (one two : Option ℤ) → samples.whole_structy one two ≡ into (datum.struct_variant structy_variant) (close structy_fields (option_map (datum.integer u8) one ∷ option_map (datum.integer u8) two ∷ []))
+    whole (Some one) (Some two) = refl
+    whole (Some one) None = refl
+    whole None two = refl
+
+structy_reads : fields.Reads samples.structy_entry structy_slots 0 structy_fields samples.structy_field
+structy_reads =
+    fields.known samples.structy_entry structy_slots 0 (codes "one") byte_shape _ structy.Field.One _ (read_integer u8) (datum.integer u8)
+    (λ n u. record { one = Some n; two = u.two }) (λ s. refl) (λ u a. refl) (λ x u. refl)
+    (fields.known samples.structy_entry structy_slots 1 (codes "two") byte_shape _ structy.Field.Two _ (read_integer u8) (datum.integer u8)
+    (λ n u. record { one = u.one; two = Some n }) (λ s. refl) (λ u a. refl) (λ x u. refl)
+    (fields.unknown samples.structy_entry structy_slots 2 structy.Field.Other (λ u a. refl) (λ u. refl)))
+
+structy_named : (es : List Entry) → samples.structy_by_name es ≡ into (datum.struct_variant structy_variant) (fields_by_name structy_fields (read_field structy_fields) es)
+structy_named = fields.all_named samples.structy_entry structy_slots samples.structy_field structy_fields samples.finish_structy (datum.struct_variant structy_variant) (refl, (refl, tt)) structy_reads structy_whole samples.no_structy refl
+
+tuple_listed : ListsElements two_bytes samples.tuple_in_order (datum.tuple_variant (event_variant 2 (codes "Tuple")))
+tuple_listed =
+    first_element byte_shape _ (read_integer u8) (datum.integer u8) _ (datum.tuple_variant (event_variant 2 (codes "Tuple"))) (λ s. refl) (λ a.
+    first_element byte_shape _ (read_integer u8) (datum.integer u8) _ _ (λ s. refl) (λ b.
+    no_more_elements _))
+
+pub event_chosen : variants.Chooses (codes "Event") samples.event_content 0 event_variants samples.event_tag
+event_chosen =
+    variants.known (codes "Event") samples.event_content 0 (codes "Unit") shape.nothing _ event.Tag.Unit _
+    (λ s. refl)
+    (variants.known (codes "Event") samples.event_content 1 (codes "Newtype") (shape.one byte_shape) _ event.Tag.Newtype _
+    (one_inside byte_shape _ (read_integer u8) (datum.integer u8) (λ s. refl) _ refl (λ s. refl))
+    (variants.known (codes "Event") samples.event_content 2 (codes "Tuple") (shape.several two_bytes) _ event.Tag.Tuple _
+    (several_inside two_bytes _ samples.tuple_in_order tuple_listed _ refl (λ s. refl))
+    (variants.known (codes "Event") samples.event_content 3 (codes "Structy") (shape.named structy_fields) _ event.Tag.Structy _
+    (named_inside structy_fields _ samples.structy_by_name structy_named _ refl (λ s. refl))
+    (variants.unknown (codes "Event") samples.event_content 4 event.Tag.Other (λ s. refl)))))
+
+-- the event that tells these data
+abbrev number_in : Datum → ℕ
+number_in (datum.integer k (pos n)) = n
+number_in _ = 0
+
+abbrev event_again : Datum → Event
+event_again (datum.newtype_variant v d) = Event.Newtype (number_in d)
+event_again (datum.tuple_variant v (datum.element a (datum.element b ds))) = Event.Tuple (number_in a) (number_in b)
+event_again (datum.struct_variant v (datum.field one a (datum.field two b fs))) = Event.Structy (number_in a) (number_in b)
+event_again _ = Event.Unit
+
+event_back : (e : Event) → event_again (event_told e) ≡ e
+event_back Event.Unit = refl
+event_back (Event.Newtype n) = refl
+event_back (Event.Tuple a b) = refl
+event_back (Event.Structy one two) = refl
+
+event_without_map : (e : Event) → holds_no_map (event_told e) ≡ true
+event_without_map Event.Unit = refl
+event_without_map (Event.Newtype n) = refl
+event_without_map (Event.Tuple a b) = refl
+event_without_map (Event.Structy one two) = refl
+
+pub event_by_value : IsToldByValue event_shape event_told (λ e f. e ≡ f)
+event_by_value = told_again event_shape event_told event_again event_without_map event_back
+
+-- ---- three sets
+
+abbrev sets_slots : SetsFields → Slots
+sets_slots u = option_map (set_told strings) u.names ∷ option_map (set_told numbers) u.numbers ∷ option_map (set_told blobs) u.blobs ∷ []
+
+sets_whole : (u : SetsFields) → samples.finish_sets u ≡ into (datum.struct (codes "Sets")) (close sets_fields (sets_slots u))
+sets_whole u = whole u.names u.numbers u.blobs
+  where
+    whole : (names the_numbers the_blobs : Option (List Datum)) → samples.whole_sets names the_numbers the_blobs ≡ into (datum.struct (codes "Sets")) (close sets_fields (option_map (set_told strings) names ∷ option_map (set_told numbers) the_numbers ∷ option_map (set_told blobs) the_blobs ∷ []))
+    whole (Some names) (Some the_numbers) (Some the_blobs) = refl
+    whole (Some names) (Some the_numbers) None = refl
+    whole (Some names) None the_blobs = refl
+    whole None the_numbers the_blobs = refl
+
+sets_reads : fields.Reads samples.sets_entry sets_slots 0 sets_fields samples.sets_field
+sets_reads =
+    fields.known samples.sets_entry sets_slots 0 (codes "names") (shape.set strings shape.string) _ sets.Field.Names _ samples.read_names (set_told strings)
+    (λ ds u. record { names = Some ds; numbers = u.numbers; blobs = u.blobs }) (set_read strings shape.string) (λ u a. refl) (λ x u. refl)
+    (fields.known samples.sets_entry sets_slots 1 (codes "numbers") (shape.set numbers (shape.integer u64)) _ sets.Field.Numbers _ samples.read_numbers (set_told numbers)
+    (λ ds u. record { names = u.names; numbers = Some ds; blobs = u.blobs }) (set_read numbers (shape.integer u64)) (λ u a. refl) (λ x u. refl)
+    (fields.known samples.sets_entry sets_slots 2 (codes "blobs") (shape.set blobs shape.bytes) _ sets.Field.Blobs _ samples.read_blobs (set_told blobs)
+    (λ ds u. record { names = u.names; numbers = u.numbers; blobs = Some ds }) (set_read blobs shape.bytes) (λ u a. refl) (λ x u. refl)
+    (fields.unknown samples.sets_entry sets_slots 3 sets.Field.Other (λ u a. refl) (λ u. refl))))
+
+pub sets_named : (es : List Entry) → samples.sets_by_name es ≡ into (datum.struct (codes "Sets")) (fields_by_name sets_fields (read_field sets_fields) es)
+sets_named = fields.all_named samples.sets_entry sets_slots samples.sets_field sets_fields samples.finish_sets (datum.struct (codes "Sets")) (refl, (refl, (refl, tt))) sets_reads sets_whole samples.no_sets refl
+
+pub sets_listed : ListsFields sets_fields samples.sets_in_order (datum.struct (codes "Sets"))
+sets_listed =
+    first_field (codes "names") (shape.set strings shape.string) _ samples.read_names (set_told strings) _ (datum.struct (codes "Sets")) (set_read strings shape.string) (λ names.
+    first_field (codes "numbers") (shape.set numbers (shape.integer u64)) _ samples.read_numbers (set_told numbers) _ _ (set_read numbers (shape.integer u64)) (λ the_numbers.
+    first_field (codes "blobs") (shape.set blobs shape.bytes) _ samples.read_blobs (set_told blobs) _ _ (set_read blobs shape.bytes) (λ the_blobs.
+    no_more_fields _)))
+
+pub sets_by_value : IsToldByValue sets_shape sets_told same_sets
+sets_by_value =
+    struct_told (codes "Sets") sets_fields _ same_sets
+    (first_told (codes "names") _ _ (λ (s : Sets). s.names) _ _ _ _ (told.set_told strings shape.string _ _ (text_told string_bytes))
+    (first_told (codes "numbers") _ _ (λ (s : Sets). s.numbers) _ _ _ _ (told.set_told numbers (shape.integer u64) _ _ (unsigned_told u64))
+    (last_told (codes "blobs") _ (λ (s : Sets). s.blobs) _ _ (told.set_told blobs shape.bytes _ _ (bytes_told octets_of)))))

@@ -1,0 +1,47 @@
+//! What the three calls that read promise at a type that states its shape: reading by the shape permits the answer, want of
+//! memory aside.
+ghost use Rattle.std.specs.Prelude.{◌≡◌, ◌⊎◌, Ok, Err, IfOk, IfErr, map};
+ghost use Rattle.serde_dynamo.specs.Av as av;
+ghost use Rattle.serde_dynamo.specs.Datum as datum;
+ghost use Rattle.serde_dynamo.specs.Fault.{out_of_memory};
+ghost use Rattle.serde_dynamo.specs.Item.{item_view, items_view};
+ghost use Rattle.serde_dynamo.specs.Kind.{fault_of};
+ghost use Rattle.serde_dynamo.specs.ReadsBack.{Permitted};
+ghost use Rattle.serde_dynamo.specs.Shape as shape;
+ghost use Rattle.serde_dynamo.specs.Source.{attribute};
+ghost use Rattle.serde_dynamo.specs.View.{view};
+
+use serde_dynamo::{
+    AttributeValue, Item, Items, Result, Shaped, from_attribute_value, from_item, from_items,
+};
+use std::alloc::Global;
+
+/// What [`from_attribute_value`] reads at a type with a shape.
+pub fn value_at_shape<T: Shaped>(alloc: Global, value: AttributeValue) -> Result<T>
+    ensures ok { IfOk result (λ v. Permitted T.shape (attribute (view value)) (Ok (T.tells v))) }
+    ensures err { IfErr result (λ e. (fault_of e ≡ out_of_memory) ⊎ Permitted T.shape (attribute (view value)) (Err (fault_of e))) }
+{
+    let read = from_attribute_value::<T>(alloc, value)?;
+    read.conforms();
+    Ok(read)
+}
+
+/// What [`from_item`] reads at a type with a shape.
+pub fn item_at_shape<T: Shaped>(alloc: Global, item: Item) -> Result<T>
+    ensures ok { IfOk result (λ v. Permitted T.shape (attribute (av.M (item_view item))) (Ok (T.tells v))) }
+    ensures err { IfErr result (λ e. (fault_of e ≡ out_of_memory) ⊎ Permitted T.shape (attribute (av.M (item_view item))) (Err (fault_of e))) }
+{
+    let read = from_item::<T>(alloc, item)?;
+    read.conforms();
+    Ok(read)
+}
+
+/// What [`from_items`] reads at a type with a shape: a list of it.
+pub fn items_at_shape<T: Shaped>(alloc: Global, items: Items) -> Result<Vec<T>>
+    ensures ok { IfOk result (λ vs. Permitted (shape.list T.shape) (attribute (av.L (av.elements_of (map av.M (items_view items))))) (Ok (datum.seq (datum.elements_of (map T.tells vs.items))))) }
+    ensures err { IfErr result (λ e. (fault_of e ≡ out_of_memory) ⊎ Permitted (shape.list T.shape) (attribute (av.L (av.elements_of (map av.M (items_view items))))) (Err (fault_of e))) }
+{
+    let read = from_items::<T>(alloc, items)?;
+    read.conforms();
+    Ok(read)
+}
