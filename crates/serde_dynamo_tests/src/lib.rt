@@ -40,6 +40,8 @@ mod order;
 #[cfg(test)]
 mod pairs;
 #[cfg(test)]
+mod plain_json;
+#[cfg(test)]
 mod reading;
 #[cfg(test)]
 mod refusals;

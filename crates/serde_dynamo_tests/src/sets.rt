@@ -1,7 +1,7 @@
 use crate::kinds::Name;
 use crate::reading::{agrees, answer};
 use crate::refuses::Refuses;
-use crate::writing::writes;
+use crate::writing::writes_directly;
 use crate::{notation, show};
 use serde_dynamo::{
     BinarySet, ByteBuf, Deserializer, NumberSet, Serializer, StringSet, binary_set, number_set,
@@ -15,21 +15,21 @@ fn lists_write_as_sets(rt: HostRuntime) -> Result<(), Fail> {
     let alloc = rt.alloc();
     let a = || String::from_str(alloc, "a");
     let nothing: Vec<String> = Vec::new(alloc);
-    writes(
+    writes_directly(
         &rt,
         alloc,
         StringSet(vec![in alloc; a()?, a()?]?),
         r#"Ss ["a", "a"]"#,
     )?;
-    writes(&rt, alloc, StringSet(nothing), "Ss []")?;
-    writes(
+    writes_directly(&rt, alloc, StringSet(nothing), "Ss []")?;
+    writes_directly(
         &rt,
         alloc,
         NumberSet(vec![in alloc; 85_u8, 99]?),
         r#"Ns ["85", "99"]"#,
     )?;
     let wide = vec![in alloc; 18446744073709551616_u128]?;
-    writes(
+    writes_directly(
         &rt,
         alloc,
         NumberSet(wide),
@@ -37,7 +37,7 @@ fn lists_write_as_sets(rt: HostRuntime) -> Result<(), Fail> {
     )?;
     let test = ByteBuf::from(b"test".to_vec(alloc)?);
     let test2 = ByteBuf::from(b"test2".to_vec(alloc)?);
-    writes(
+    writes_directly(
         &rt,
         alloc,
         BinarySet(vec![in alloc; test, test2]?),
@@ -49,16 +49,16 @@ fn lists_write_as_sets(rt: HostRuntime) -> Result<(), Fail> {
 fn what_is_no_list_is_no_set(rt: HostRuntime) -> Result<(), Fail> {
     let alloc = rt.alloc();
     let nothing: Vec<String> = Vec::new(alloc);
-    writes(&rt, alloc, StringSet(5_u8), "Not a set-like sequence")?;
-    writes(&rt, alloc, NumberSet(5_u8), "Not a set-like sequence")?;
-    writes(&rt, alloc, BinarySet(5_u8), "Not a set-like sequence")?;
-    writes(
+    writes_directly(&rt, alloc, StringSet(5_u8), "Not a set-like sequence")?;
+    writes_directly(&rt, alloc, NumberSet(5_u8), "Not a set-like sequence")?;
+    writes_directly(&rt, alloc, BinarySet(5_u8), "Not a set-like sequence")?;
+    writes_directly(
         &rt,
         alloc,
         StringSet(StringSet(nothing)),
         "Not a set-like sequence",
     )?;
-    writes(&rt, alloc, StringSet(Refuses), "no")
+    writes_directly(&rt, alloc, StringSet(Refuses), "no")
 }
 
 #[test]
@@ -68,12 +68,12 @@ fn elements_of_another_kind_are_refused(rt: HostRuntime) -> Result<(), Fail> {
     let strings = "String set element does not serialize to string";
     let numbers = "Number set element does not serialize to number";
     let blobs = "Binary set element does not serialize to binary";
-    writes(&rt, alloc, StringSet(vec![in alloc; 1_u8]?), strings)?;
-    writes(&rt, alloc, StringSet((x()?, 1_u8)), strings)?;
-    writes(&rt, alloc, NumberSet(vec![in alloc; x()?]?), numbers)?;
-    writes(&rt, alloc, NumberSet((1_u8, true)), numbers)?;
-    writes(&rt, alloc, BinarySet(vec![in alloc; x()?]?), blobs)?;
-    writes(
+    writes_directly(&rt, alloc, StringSet(vec![in alloc; 1_u8]?), strings)?;
+    writes_directly(&rt, alloc, StringSet((x()?, 1_u8)), strings)?;
+    writes_directly(&rt, alloc, NumberSet(vec![in alloc; x()?]?), numbers)?;
+    writes_directly(&rt, alloc, NumberSet((1_u8, true)), numbers)?;
+    writes_directly(&rt, alloc, BinarySet(vec![in alloc; x()?]?), blobs)?;
+    writes_directly(
         &rt,
         alloc,
         BinarySet(vec![in alloc; vec![in alloc; 1_u8]?]?),

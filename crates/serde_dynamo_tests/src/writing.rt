@@ -3,13 +3,28 @@ use crate::refuses::Refuses;
 use crate::show;
 use serde_dynamo::samples::{Event, Sets, User};
 use serde_dynamo::ser::Serialize;
-use serde_dynamo::{ByteBuf, Bytes, Text, to_attribute_value, to_item};
+use serde_dynamo::{
+    ByteBuf, Bytes, Text, to_attribute_value, to_attribute_value_via_json, to_item,
+};
 use std::alloc::Global;
 use std::process::Abort;
 use std::test::Fail;
 
-/// Writing the value answers this.
+/// Writing the value answers this, directly and by way of plain JSON.
 pub(crate) fn writes<T: Serialize + Drop>(
+    rt: &impl Abort,
+    alloc: Global,
+    value: T,
+    expected: &str,
+) -> Result<(), Fail> {
+    let by_json = show::answer(alloc, &to_attribute_value_via_json(alloc, &value))?;
+    assert_eq!(rt; by_json.as_str(), expected);
+    writes_directly(rt, alloc, value, expected)
+}
+
+/// Writing the value answers this, so long as it is written directly: plain JSON has no byte strings, no sets and no integers
+/// that no 64 bits hold.
+pub(crate) fn writes_directly<T: Serialize + Drop>(
     rt: &impl Abort,
     alloc: Global,
     value: T,
@@ -27,7 +42,7 @@ fn integers_write_as_their_decimal_texts(rt: HostRuntime) -> Result<(), Fail> {
     writes(&rt, alloc, i16::MIN, r#"N "-32768""#)?;
     writes(&rt, alloc, i32::MIN, r#"N "-2147483648""#)?;
     writes(&rt, alloc, i64::MIN, r#"N "-9223372036854775808""#)?;
-    writes(
+    writes_directly(
         &rt,
         alloc,
         i128::MIN,
@@ -38,7 +53,7 @@ fn integers_write_as_their_decimal_texts(rt: HostRuntime) -> Result<(), Fail> {
     writes(&rt, alloc, u16::MAX, r#"N "65535""#)?;
     writes(&rt, alloc, u32::MAX, r#"N "4294967295""#)?;
     writes(&rt, alloc, u64::MAX, r#"N "18446744073709551615""#)?;
-    writes(
+    writes_directly(
         &rt,
         alloc,
         u128::MAX,
@@ -62,9 +77,9 @@ fn scalars_write_as_themselves(rt: HostRuntime) -> Result<(), Fail> {
     )?;
     writes(&rt, alloc, Text::new("Arthur Dent"), r#"S "Arthur Dent""#)?;
     writes(&rt, alloc, Text::new(""), r#"S """#)?;
-    writes(&rt, alloc, Bytes::new(&[1, 2]), "B [1, 2]")?;
+    writes_directly(&rt, alloc, Bytes::new(&[1, 2]), "B [1, 2]")?;
     let bytes = vec![in alloc; 116, 101, 115, 116, 0, 0, 0, 0]?;
-    writes(
+    writes_directly(
         &rt,
         alloc,
         ByteBuf::from(bytes),
@@ -193,7 +208,7 @@ fn sets_of_a_struct_write_as_sets(rt: HostRuntime) -> Result<(), Fail> {
             ByteBuf::from(b"world".to_vec(alloc)?),
         ]?,
     };
-    writes(
+    writes_directly(
         &rt,
         alloc,
         sets,
