@@ -1,3 +1,4 @@
+mod AttributeRows
 pub mod ByHand
 pub mod Chars
 pub mod Contents
