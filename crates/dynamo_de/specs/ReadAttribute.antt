@@ -5,7 +5,7 @@
 use Rattle.std.specs.Prelude.{ℕ, List, [], ◌∷◌, ◌++◌, Ok, Err, if◌then◌else◌}
 use Rattle.std.specs.FinMap.Entries.{put}
 use Rattle.dynamo_value.specs.Av as av
-use Rattle.dynamo_value.specs.Av.{Av, members_of}
+use Rattle.dynamo_value.specs.Av.{Av, elements_of, members_of}
 use Rattle.dynamo_value.specs.Base64.{bytes_of_base64}
 use Rattle.dynamo_value.specs.Fault.{failed_to_parse_float, expected_map, expected_seq}
 use Rattle.dynamo_value.specs.Prefix as prefix
@@ -17,7 +17,7 @@ use Rattle.dynamo_de.specs.Contents as contents
 use Rattle.dynamo_de.specs.Number.{is_number_text}
 use Rattle.dynamo_de.specs.Promises.{Reading, refuse, promised, answered, ◌>>=◌}
 use Rattle.dynamo_de.specs.Scalars.{read_string, read_bool}
-use Rattle.dynamo_de.specs.Source.{Source, attribute, number_text, plain_text, byte_string}
+use Rattle.dynamo_de.specs.Source.{Source, attribute, number_text, plain_text, byte_string, Entry}
 
 -- ---- what holds no attribute values
 
@@ -118,3 +118,33 @@ attribute_from = read_map_from read_attribute
 
 abbrev pub item_from : Source → Reading av.Members
 item_from = read_map_from read_item
+
+-- ---- level by level
+
+abbrev pub own_refusals_in : List Entry → List Refusal
+own_refusals_in [] = []
+own_refusals_in (e ∷ es) = refusals_of (promised (known e.0) >>= λ p. read_content p e.1) ++ own_refusals_in es
+
+abbrev pub attribute_in : List Entry → Reading Av
+attribute_in [] = refuse no_key
+attribute_in (e ∷ []) = promised (known e.0) >>= λ p. read_content p e.1
+attribute_in es = Err (several_keys ∷ own_refusals_in es)
+
+abbrev pub read_entries : List (List ℕ × Av) → List Entry → Reading av.Members
+read_entries so_far [] = Ok (members_of so_far)
+read_entries so_far (e ∷ es) = do
+  value ← read_attribute e.1
+  read_entries (put text_cmp e.0 value so_far) es
+
+-- what stands under a prefix
+abbrev pub content_from : Prefix → Source → Reading Av
+content_from prefix.N s = read_text s >>= λ text. Ok (av.N text)
+content_from prefix.S s = read_text s >>= λ text. Ok (av.S text)
+content_from prefix.Bool s = answered (read_bool s) >>= λ b. Ok (av.Boolean b)
+content_from prefix.B s = read_blob s >>= λ bytes. Ok (av.B bytes)
+content_from prefix.Null s = answered (read_bool s) >>= λ b. Ok (av.Null b)
+content_from prefix.M s = answered (contents.read_entries s) >>= λ es. read_entries [] es >>= λ members. Ok (av.M members)
+content_from prefix.L s = answered (contents.read_elements s) >>= λ ss. read_each attribute_from ss >>= λ values. Ok (av.L (elements_of values))
+content_from prefix.Ss s = read_texts s >>= λ texts. Ok (av.Ss texts)
+content_from prefix.Ns s = read_texts s >>= λ texts. Ok (av.Ns texts)
+content_from prefix.Bs s = read_blobs s >>= λ blobs. Ok (av.Bs blobs)
