@@ -1,4 +1,5 @@
 pub mod Agree
+pub mod AttributeBack
 pub mod Builders
 pub mod Bytes
 pub mod Each
@@ -6,11 +7,15 @@ pub mod Floats
 pub mod JsonBack
 pub mod Messages
 pub mod Objects
+pub mod Orders
 mod PlainRows
 pub mod PlainWritten
 pub mod ReadBack
 pub mod Reading
 pub mod Results
 mod Rows
+pub mod TellsPlain
 pub mod Texts
+pub mod Told
+pub mod ViewOrder
 pub mod Written

@@ -14,7 +14,7 @@ values_told es = map (λ e. (e.0, attribute_datum e.1)) es
 abbrev keys_told : List (String Global × Datum) → List (Datum × Datum)
 keys_told es = map (λ e. (text_datum e.0, e.1)) es
 
-entries_told : (es : List (String Global × AttributeValue))
+pub entries_told : (es : List (String Global × AttributeValue))
     → datum.pairs_of (keys_told (values_told es)) ≡ datum.pairs_of (map (λ e. (text_datum e.0, attribute_datum e.1)) es)
 entries_told [] = refl
 entries_told (e ∷ es) = ap (datum.pair (text_datum e.0) (attribute_datum e.1)) (entries_told es)
