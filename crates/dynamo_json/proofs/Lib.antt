@@ -1,7 +1,9 @@
 pub mod Agree
 pub mod AttributeBack
+mod AttributeRows
 pub mod Builders
 pub mod Bytes
+pub mod Differ
 pub mod Each
 pub mod Floats
 pub mod JsonBack

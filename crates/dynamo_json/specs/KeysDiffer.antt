@@ -30,7 +30,10 @@ keys_differ = fold-AttributeValue Bool differ_step
 abbrev pub KeysDiffer : AttributeValue → Type 0
 KeysDiffer v = keys_differ v ≡ true
 
--- the same of a hashed map's entries, and of an item
+-- the same of a list's values, of a hashed map's entries, and of an item
+abbrev pub ElementsDiffer : List AttributeValue → Type 0
+ElementsDiffer vs = list_all (λ b. b) (map keys_differ vs) ≡ true
+
 abbrev pub EntriesDiffer : List (String Global × AttributeValue) → Type 0
 EntriesDiffer es = entries_differ (map (λ e. (e.0, keys_differ e.1)) es) ≡ true
 
