@@ -17,6 +17,7 @@ pub mod Reading
 pub mod Results
 mod Rows
 pub mod TellsPlain
+pub mod TellsSome
 pub mod Texts
 pub mod Told
 pub mod ViewOrder

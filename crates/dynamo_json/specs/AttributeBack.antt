@@ -16,6 +16,10 @@ use Rattle.dynamo_json.specs.KeyOrder.{InOrder, ItemInOrder}
 use Rattle.dynamo_json.specs.KeysDiffer.{KeysDiffer, ItemKeysDiffer}
 use Rattle.dynamo_json.specs.Plain.{plain}
 
+-- Each attribute value tells a datum.
+abbrev pub TellsSome : Type 0
+TellsSome = (a : Av) → (d : Datum) × Tells a d
+
 -- What a value of a program tells is among what its attribute value tells, and the maps of that are in order.
 abbrev pub TellsItsDatum : Type 0
 TellsItsDatum = (v : AttributeValue) → KeysDiffer v → Tells (view v) (attribute_datum v)
@@ -31,6 +35,9 @@ abbrev pub EachDatumBack : Type 0
 EachDatumBack = (a : Av) (d : Datum) → HasBytes a → InOrder a → Tells a d → AttributeBack a d
 
 -- ---- the same of items
+
+abbrev pub ItemTellsSome : Type 0
+ItemTellsSome = (members : Members) → (d : Datum) × ItemTells members d
 
 abbrev pub TellsItsItem : Type 0
 TellsItsItem = (item : Item) → ItemKeysDiffer item → ItemTells (item_view item) (item_datum item)

@@ -36,6 +36,7 @@ mod opener;
 mod options;
 #[cfg(test)]
 mod order;
+pub mod own_types;
 #[cfg(test)]
 mod pairs;
 #[cfg(test)]

@@ -1,4 +1,5 @@
 use Rattle.dynamo_json.proofs.AttributeBack.{attribute_back, item_back}
+use Rattle.dynamo_json.proofs.TellsSome.{tells_some, item_tells_some}
 use Rattle.dynamo_json.proofs.Told.{tells_its_datum, tells_its_item}
 use Rattle.dynamo_json.proofs.ViewOrder.{views_in_order, item_views_in_order}
 use Rattle.serde_dynamo.proofs.laws.attribute_value.Goals as goal
@@ -20,3 +21,9 @@ returns-clause-item_tells c = tells_its_item
 
 pub returns-clause-item_order : goal.returns-clause-item_order
 returns-clause-item_order c = item_views_in_order
+
+pub returns-clause-some : goal.returns-clause-some
+returns-clause-some c = tells_some
+
+pub returns-clause-item_some : goal.returns-clause-item_some
+returns-clause-item_some c = item_tells_some
