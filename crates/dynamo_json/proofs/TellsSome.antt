@@ -6,7 +6,7 @@ use Rattle.dynamo_value.specs.Prefix as prefix
 use Rattle.dynamo_ser.specs.AttributeDatum.{under}
 use Rattle.dynamo_ser.specs.Datum as datum
 use Rattle.dynamo_ser.specs.Datum.{Datum}
-use Rattle.dynamo_json.specs.AttributeBack.{TellsSome, ItemTellsSome}
+use Rattle.dynamo_json.specs.AttributeBack.{ItemTellsSome}
 use Rattle.dynamo_json.specs.AttributeTells.{Tells, ElementsTell, MembersTell}
 
 mutual

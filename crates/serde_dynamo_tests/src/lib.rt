@@ -38,6 +38,8 @@ mod options;
 mod order;
 pub mod own_types;
 #[cfg(test)]
+mod own_values;
+#[cfg(test)]
 mod pairs;
 #[cfg(test)]
 mod reading;
