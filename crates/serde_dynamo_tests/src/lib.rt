@@ -36,6 +36,9 @@ mod opener;
 mod options;
 #[cfg(test)]
 mod order;
+pub mod own_types;
+#[cfg(test)]
+mod own_values;
 #[cfg(test)]
 mod pairs;
 #[cfg(test)]
