@@ -3,6 +3,8 @@
 #![tactic(auto)]
 
 #[cfg(test)]
+mod attribute_values;
+#[cfg(test)]
 mod builders;
 pub mod by_hand;
 #[cfg(test)]
@@ -23,6 +25,8 @@ mod idle;
 mod items;
 #[cfg(test)]
 mod json_values;
+#[cfg(test)]
+mod kept;
 pub mod kinds;
 #[cfg(test)]
 mod maps;

@@ -4,8 +4,8 @@ use crate::{notation, reading};
 use serde_dynamo::{AttributeValue, Item};
 use std::test::Fail;
 
-// Attribute values, what is written of each as a value of a program, and its DynamoDB JSON.
-const ROWS: [(&str, &str, &str); 10] = [
+/// Attribute values, what is written of each as a value of a program, and its DynamoDB JSON.
+pub(crate) const ROWS: [(&str, &str, &str); 10] = [
     (
         "Null(false)",
         r#"M {"NULL": Bool(false)}"#,
