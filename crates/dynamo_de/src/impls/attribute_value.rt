@@ -10,7 +10,8 @@ ghost use Rattle.dynamo_de.specs.Answer.{Gives};
 ghost use Rattle.dynamo_de.specs.Contents as contents;
 ghost use Rattle.dynamo_de.specs.Meets.{Meets};
 ghost use Rattle.dynamo_de.specs.Promises.{Agrees};
-ghost use Rattle.dynamo_de.specs.ReadAttribute.{attribute_from, item_from, content_from, read_each, read_entries, read_texts, read_blob, read_blobs};
+ghost use Rattle.dynamo_de.specs.ReadAttribute.{attribute_from, item_from, content_from, read_each, read_entries};
+ghost use Rattle.dynamo_de.specs.ReadAttribute.{read_texts, read_blob, read_blobs};
 
 use crate::visitor::refuse;
 use crate::{Deserialize, Deserializer, Error, Reader, Request, Showing};
