@@ -73,15 +73,15 @@ ignored_as_shown (byte_string bytes) = refl
 
 -- ---- how deep it goes
 
-elements_high : (as' : Elements) → sources_height (values_of as') ≡ elements_height as'
+pub elements_high : (as' : Elements) → sources_height (values_of as') ≡ elements_height as'
 elements_high av.no_elements = refl
 elements_high (av.element a as') = ap (max (height a)) (elements_high as')
 
-members_high : (ms : Members) → entries_height (entries_of ms) ≡ members_height ms
+pub members_high : (ms : Members) → entries_height (entries_of ms) ≡ members_height ms
 members_high av.no_members = refl
 members_high (av.member k a ms) = ap (max (height a)) (members_high ms)
 
-flat : (source : List ℕ → Source) → ((t : List ℕ) → source_height (source t) ≡ 0) → (ts : List (List ℕ)) → sources_height (each source ts) ≡ 0
+pub flat : (source : List ℕ → Source) → ((t : List ℕ) → source_height (source t) ≡ 0) → (ts : List (List ℕ)) → sources_height (each source ts) ≡ 0
 flat source h [] = refl
 flat source h (t ∷ ts) = rw (h t, flat source h ts) refl
 

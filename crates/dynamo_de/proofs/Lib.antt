@@ -1,3 +1,5 @@
+mod AttributeRows
+pub mod Attributes
 pub mod ByHand
 pub mod Chars
 pub mod Contents
@@ -11,5 +13,6 @@ mod JsonRows
 pub mod JsonSteps
 pub mod Meets
 pub mod Pairs
+pub mod Promises
 pub mod Rows
 pub mod Scalars

@@ -10,6 +10,8 @@ pub mod Ignored
 pub mod JsonItems
 pub mod Meets
 pub mod Number
+pub mod Promises
+pub mod ReadAttribute
 pub mod ReadJson
 pub mod Reads
 pub mod Scalars

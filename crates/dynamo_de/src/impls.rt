@@ -1,3 +1,4 @@
+mod attribute_value;
 mod json;
 mod maps;
 mod numbers;

@@ -6,6 +6,10 @@
 //!
 //! A `serde_json::Value` reads whatever JSON has a form for: a unit and `None` as null, whole numbers of 64 bits, a map as
 //! an object. A number that no 64 bits hold, a float among them, and a byte string are refused by a message.
+//!
+//! An `AttributeValue` reads its DynamoDB JSON: a map of one entry, whose key is the prefix of its kind, as in
+//! `{"S": "Hello"}`; an `Item` reads a map of these. What isn't in that form is refused by the messages of DynamoDB JSON. Of
+//! a map with several entries either that is the fault, or one that an entry has by itself: it is open which.
 #![tactic(auto)]
 
 mod access;

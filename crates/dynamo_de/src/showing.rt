@@ -1,3 +1,5 @@
+use crate::Kind;
+
 /// What a [`Reader`](crate::Reader) shows. `D` reads what lies inside, `L` has the elements of a sequence, `M` the entries
 /// of a map, `C` a variant.
 #[derive(Drop)]
@@ -29,4 +31,34 @@ pub enum Showing<D, L, M, C> {
     Sequence(L),
     Map(M),
     Enum(C),
+}
+
+impl<D, L, M, C> Showing<D, L, M, C> {
+    // The kind of what is shown, for the text of a refusal.
+    pub(crate) fn kind(&self) -> Kind {
+        match self {
+            Showing::Bool(_) => Kind::Bool,
+            Showing::I8(_) => Kind::I8,
+            Showing::I16(_) => Kind::I16,
+            Showing::I32(_) => Kind::I32,
+            Showing::I64(_) => Kind::I64,
+            Showing::I128(_) => Kind::I128,
+            Showing::U8(_) => Kind::U8,
+            Showing::U16(_) => Kind::U16,
+            Showing::U32(_) => Kind::U32,
+            Showing::U64(_) => Kind::U64,
+            Showing::U128(_) => Kind::U128,
+            Showing::NumberText(_) => Kind::NumberText,
+            Showing::Char(_) | Showing::FirstChar(_) => Kind::Char,
+            Showing::Text(_) => Kind::Str,
+            Showing::Bytes(_) => Kind::Bytes,
+            Showing::None => Kind::None,
+            Showing::Unit => Kind::Unit,
+            Showing::Some(_) => Kind::Some,
+            Showing::Newtype(_) => Kind::NewtypeStruct,
+            Showing::Sequence(_) => Kind::Seq,
+            Showing::Map(_) => Kind::Map,
+            Showing::Enum(_) => Kind::Enum,
+        }
+    }
 }

@@ -77,7 +77,7 @@ collected_back so_far (e ∷ es) (f ∷ fs) h = rw h.1 (
     ap (λ ms. read_members ms (av.members_of es)) (put_same e.0 f.1 so_far ∙ ap (λ t. members_of (put text_cmp t f.1 so_far)) h.0)
     ∙ collected_back (put text_cmp f.0 f.1 so_far) es fs h.2)
 
-members_again : (ms : json.Members) → members_of (entries ms) ≡ ms
+pub members_again : (ms : json.Members) → members_of (entries ms) ≡ ms
 members_again json.no_members = refl
 members_again (json.member name j ms) = ap (json.member name j) (members_again ms)
 

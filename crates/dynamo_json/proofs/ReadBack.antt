@@ -26,7 +26,7 @@ use Rattle.dynamo_json.proofs.Results.{the_same, no_value, bound, was_some, was_
 
 -- ---- it is read back
 
-blob_back : (bytes : List ℕ) → IsBytes bytes → bytes_of_base64 (base64_text bytes) ≡ Ok bytes
+pub blob_back : (bytes : List ℕ) → IsBytes bytes → bytes_of_base64 (base64_text bytes) ≡ Ok bytes
 blob_back bytes h = ap (λ r. or_refuse not_base64 (result_ok r)) (decode_of-encode_of standard bytes refl h)
 
 strings_back : (texts : List (List ℕ)) → each_in string_in (items_of (map json.string texts)) ≡ Ok texts

@@ -1,6 +1,10 @@
+pub mod AttributeBack
+pub mod AttributeTells
 pub mod Entries
 pub mod Json
 pub mod JsonBack
+pub mod KeyOrder
+pub mod KeysDiffer
 pub mod Laws
 pub mod Parsed
 pub mod Plain

@@ -8,6 +8,7 @@ ghost use Rattle.dynamo_value.specs.Kind.{fault_of};
 ghost use Rattle.dynamo_value.specs.Refusal.{Refusal, Refused, refusal_in};
 ghost use Rattle.dynamo_value.specs.View as av;
 ghost use Rattle.dynamo_json.specs.Json.{json_of, item_json};
+ghost use Rattle.dynamo_json.specs.KeysDiffer.{KeysDiffer, ItemKeysDiffer};
 ghost use Rattle.dynamo_json.specs.Parsed.{parsed, parsed_item};
 
 use crate::{from_json, to_json};
@@ -64,9 +65,11 @@ impl DynamoJson for AttributeValue {
     ghost refusal = { λ json. refusal_in (parsed json) };
 
     /// The JSON value of this attribute value. Its byte strings hold bytes, so no other attribute value has this JSON value.
+    /// No map in it has a key twice.
     fn to_json(&self, alloc: Global) -> Result<Value>
         ensures json { MatchResult result (λ json. sj.view json ≡ json_of (av.view self.now)) (λ e. fault_of e ≡ out_of_memory) }
         ensures bytes { OnOk result (HasBytes (av.view self.now)) }
+        ensures keys { OnOk result (KeysDiffer self.now) }
     {
         Ok(to_json::value(alloc, self)?)
     }
@@ -87,10 +90,12 @@ impl DynamoJson for Item {
 
     ghost refusal = { λ json. refusal_in (parsed_item json) };
 
-    /// The JSON value of this item. Its byte strings hold bytes, so no other item has this JSON value.
+    /// The JSON value of this item. Its byte strings hold bytes, so no other item has this JSON value. No map in it has a key
+    /// twice.
     fn to_json(&self, alloc: Global) -> Result<Value>
         ensures json { MatchResult result (λ json. sj.view json ≡ item_json (item_view self.now)) (λ e. fault_of e ≡ out_of_memory) }
         ensures bytes { OnOk result (MembersHaveBytes (item_view self.now)) }
+        ensures keys { OnOk result (ItemKeysDiffer self.now) }
     {
         Ok(Value::Object(to_json::object(alloc, self.inner())?))
     }

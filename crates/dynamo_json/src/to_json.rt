@@ -10,6 +10,7 @@ ghost use Rattle.dynamo_value.specs.PrefixView.{prefix_view};
 ghost use Rattle.dynamo_value.specs.View.{view, elements_view, members_view};
 ghost use Rattle.dynamo_json.specs.Json as dynamo;
 ghost use Rattle.dynamo_json.specs.Json.{json_of, elements_json, members_json, strings};
+ghost use Rattle.dynamo_json.specs.KeysDiffer.{KeysDiffer, ElementsDiffer, EntriesDiffer};
 ghost use Rattle.serde_json.specs.Data as json;
 
 use dynamo_value::{AttributeValue, Prefix, base64_text};
@@ -22,6 +23,7 @@ use std::collections::HashMap;
 pub(crate) fn value(alloc: Global, value: &AttributeValue) -> Result<Value, AllocError>
     ensures json { IfOk result (λ j. sj.view j ≡ json_of (view value.now)) }
     ensures bytes { OnOk result (HasBytes (view value.now)) }
+    ensures keys { OnOk result (KeysDiffer value.now) }
 {
     match value {
         AttributeValue::N(text) => under(alloc, Prefix::N, Value::String(text.clone()?)),
@@ -49,6 +51,7 @@ pub(crate) fn object(
 ) -> Result<Map<String, Value>, AllocError>
     ensures json { IfOk result (λ m. sj.members_view m.entries ≡ members_json (members_view map.now.entries)) }
     ensures bytes { OnOk result (MembersHaveBytes (members_view map.now.entries)) }
+    ensures keys { OnOk result (EntriesDiffer map.now.entries) }
 {
     let mut object = Map::new(alloc);
     for (key, member) in map.iter() {
@@ -63,6 +66,7 @@ pub(crate) fn object(
 fn array(alloc: Global, list: &Vec<AttributeValue>) -> Result<Vec<Value>, AllocError>
     ensures json { IfOk result (λ v. sj.items_view v.items ≡ elements_json (elements_view list.now.items)) }
     ensures bytes { OnOk result (ElementsHaveBytes (elements_view list.now.items)) }
+    ensures keys { OnOk result (ElementsDiffer list.now.items) }
 {
     let mut array = Vec::with_capacity(alloc, list.len())?;
     for element in list {

@@ -2,6 +2,7 @@ pub use Rattle.dynamo_value.specs.Av
 pub use Rattle.dynamo_value.specs.Fault
 pub use Rattle.dynamo_value.specs.Integer
 pub use Rattle.dynamo_value.specs.Kind
+pub mod AttributeDatum
 pub mod Datum
 pub mod JsonValue
 pub mod Key

@@ -1,4 +1,5 @@
 // The library's types, by kinds of data.
+mod attribute_value;
 mod json;
 mod maps;
 mod numbers;

@@ -11,6 +11,10 @@
 //! A `serde_json::Value` is written as what it is: null as a unit, a whole number as a `u64`, or an `i64` where it is
 //! negative, an array as a sequence, an object as a map in the order of its keys. A float, which this data model doesn't
 //! have, is refused by the message `JSON floats are not supported`.
+//!
+//! An `AttributeValue` is written as its DynamoDB JSON: a map of one pair, whose key is the prefix of its kind, as in
+//! `{"S": "Hello"}`. A number is its text, a byte string its base64 text, a set a sequence under its prefix. An `Item` is
+//! the map of its attributes.
 #![tactic(auto)]
 
 pub mod binary_set;

@@ -1,11 +1,13 @@
 pub use Rattle.dynamo_value.specs.Av
 pub use Rattle.dynamo_value.specs.Bytes
 pub use Rattle.dynamo_value.specs.Fault
+pub use Rattle.dynamo_value.specs.HasBytes
 pub use Rattle.dynamo_value.specs.Integer
 pub use Rattle.dynamo_value.specs.Item
 pub use Rattle.dynamo_value.specs.Kind
 pub use Rattle.dynamo_value.specs.Text
 pub use Rattle.dynamo_value.specs.View
+pub use Rattle.dynamo_ser.specs.AttributeDatum
 pub use Rattle.dynamo_ser.specs.Datum
 pub use Rattle.dynamo_ser.specs.JsonValue
 pub use Rattle.dynamo_ser.specs.Key
@@ -21,6 +23,8 @@ pub use Rattle.dynamo_de.specs.Fields
 pub use Rattle.dynamo_de.specs.Ignored
 pub use Rattle.dynamo_de.specs.Meets
 pub use Rattle.dynamo_de.specs.Number
+pub use Rattle.dynamo_de.specs.Promises
+pub use Rattle.dynamo_de.specs.ReadAttribute
 pub use Rattle.dynamo_de.specs.ReadJson
 pub use Rattle.dynamo_de.specs.Reads
 pub use Rattle.dynamo_de.specs.Scalars
@@ -36,7 +40,12 @@ pub use Rattle.dynamo_write.specs.Held
 pub use Rattle.dynamo_write.specs.Memory
 pub use Rattle.dynamo_write.specs.Set
 pub use Rattle.dynamo_write.specs.Written
+pub use Rattle.dynamo_json.specs.AttributeBack
+pub use Rattle.dynamo_json.specs.AttributeTells
+pub use Rattle.dynamo_json.specs.Json
 pub use Rattle.dynamo_json.specs.JsonBack
+pub use Rattle.dynamo_json.specs.KeyOrder
+pub use Rattle.dynamo_json.specs.KeysDiffer
 pub use Rattle.dynamo_json.specs.Plain
 pub use Rattle.dynamo_json.specs.PlainAnswers
 pub use Rattle.dynamo_json.specs.PlainMemory

@@ -1,5 +1,7 @@
 //! Laws that tie the definitions together. Each is a function that does nothing, whose contract says the law; it speaks of the
 //! definitions alone, and of all data.
+ghost use Rattle.dynamo_json.specs.AttributeBack.{TellsSome, TellsItsDatum, ViewsInOrder, EachDatumBack};
+ghost use Rattle.dynamo_json.specs.AttributeBack.{ItemTellsSome, TellsItsItem, ItemViewsInOrder, EachItemDatumBack};
 ghost use Rattle.dynamo_json.specs.JsonBack.{IsJson, JsonBack};
 ghost use Rattle.dynamo_json.specs.Laws.{ReadsExactly, StandsForOne, RefusesByMessage, WritesNoFloat, HoldsTexts};
 ghost use Rattle.dynamo_json.specs.Laws.{ReadsItemsExactly, StandsForOneItem, RefusesItemsByMessage, WritesItemsWithoutFloat};
@@ -43,4 +45,27 @@ pub fn square()
 /// A JSON value without floats is written, and read back as itself alone; its plain JSON is itself.
 pub fn json_value()
     ensures { (j : Data) → IsJson j → JsonBack j }
+{}
+
+/// Attribute values and items as values of a program, which write and read by their DynamoDB JSON: whatever datum they tell,
+/// it is written, that is read back as themselves alone, and its plain JSON is their DynamoDB JSON.
+///
+/// The maps of attribute values are hashed maps, which tell their entries in an order that nobody chose. So the law speaks of
+/// all data that an attribute value tells, with the pairs of each map in any order.
+pub fn attribute_value()
+    // Each attribute value tells data. Where its byte strings hold bytes and its maps are in the order of their keys, each
+    // datum that it tells is written, read back, and its own DynamoDB JSON.
+    ensures some { TellsSome }
+    ensures back { EachDatumBack }
+
+    // A value of a program tells such a datum of the attribute value that it stands for, where no map in it has a key twice;
+    // the maps of that are in order.
+    ensures tells { TellsItsDatum }
+    ensures order { ViewsInOrder }
+
+    // The same of items.
+    ensures item_some { ItemTellsSome }
+    ensures item_back { EachItemDatumBack }
+    ensures item_tells { TellsItsItem }
+    ensures item_order { ItemViewsInOrder }
 {}

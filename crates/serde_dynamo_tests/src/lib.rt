@@ -4,6 +4,8 @@
 
 pub mod at_shapes;
 #[cfg(test)]
+mod attribute_values;
+#[cfg(test)]
 mod builders;
 pub mod by_hand;
 #[cfg(test)]
@@ -24,6 +26,8 @@ mod idle;
 mod items;
 #[cfg(test)]
 mod json_values;
+#[cfg(test)]
+mod kept;
 pub mod kinds;
 #[cfg(test)]
 mod maps;
@@ -37,6 +41,9 @@ mod opener;
 mod options;
 #[cfg(test)]
 mod order;
+pub mod own_types;
+#[cfg(test)]
+mod own_values;
 #[cfg(test)]
 mod pairs;
 #[cfg(test)]

@@ -1,4 +1,4 @@
-use Rattle.std.proofs.Common.{◌≡◌, List, [], ◌∷◌, ◌++◌, map, sym, ap, ◌∙◌, subst, append_assoc}
+use Rattle.std.proofs.Common.{rules, ◌≡◌, List, [], ◌∷◌, ◌++◌, map, sym, ap, ◌∙◌, subst, append_assoc}
 use Rattle.std.proofs.lemmas.List.{take_all}
 use Rattle.std.specs.List.{AllByRecursion, IsDistinct}
 use Rattle.std.specs.Map.{keys_of}
@@ -9,6 +9,8 @@ use Rattle.dynamo_value.specs.HasBytes.{HasBytes}
 use Rattle.dynamo_value.specs.View.{view, elements_view}
 use Rattle.dynamo_value.specs.declared.attribute_value.AttributeValue.{AttributeValue}
 use Rattle.dynamo_json.specs.Json.{json_of, elements_json}
+use Rattle.dynamo_json.specs.KeysDiffer.{KeysDiffer}
+use Rattle.dynamo_json.proofs.Differ.{one_more, elements_differ, entries_differ}
 use Rattle.dynamo_json.proofs.Written.{written, written_bytes, elements_have_bytes, elements_json-elements_of}
 use Rattle.dynamo_json.proofs.to_json.+write.Goals as goal
 
@@ -26,6 +28,7 @@ object-loop-key-preserved t c =
       json = written l.object.entries c.insert.new.self.entries done left e c.in_ok-name.name c.in_ok-value.field-0 distinct
           l.invariant.json c.in_ok-insert.ensures.entries c.in_ok-name.ensures.cases c.in_ok-value.ensures.json;
       bytes = written_bytes done left e distinct l.invariant.bytes c.in_ok-value.ensures.bytes;
+      keys = one_more done e l.invariant.keys c.in_ok-value.ensures.keys;
     }
 
 pub array-returns-clause-json : goal.array-returns-clause-json
@@ -41,3 +44,15 @@ array-returns-clause-bytes t c =
     let all = take_all c.loop-element.element-index items c.loop-element-test.false in
     let good = subst (λ (vs : List AttributeValue). AllByRecursion HasBytes (map view vs)) all c.loop-element.invariant.bytes in
     rw (← c.deref-element-items.ensures.value) (elements_have_bytes (map view items) good)
+
+pub array-returns-clause-keys : goal.array-returns-clause-keys
+array-returns-clause-keys t c =
+    let items = c.deref-element-items.result.now in
+    let all = take_all c.loop-element.element-index items c.loop-element-test.false in
+    let each = subst (AllByRecursion KeysDiffer) all c.loop-element.invariant.keys in
+    rw (← c.deref-element-items.ensures.value) (elements_differ items each)
+
+pub object-returns-clause-keys : goal.object-returns-clause-keys
+object-returns-clause-keys t c =
+    let all : c.args.map.now.entries ≡ c.loop-key.invariant.done = search rules in
+    entries_differ c.args.map.now.entries c.iter-key-items.ensures.unique (rw all c.loop-key.invariant.keys)

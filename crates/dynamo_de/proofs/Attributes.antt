@@ -1,0 +1,273 @@
+-- Reading an attribute value, one level at a time.
+use Rattle.std.proofs.Common.{◌≡◌, ◌⊎◌, ℕ, ℤ, suc, ◌≤◌, Bool, true, false, List, [], ◌∷◌, ◌++◌, map, Option, Some, None, Result, Ok, Err, String, Vec, Global, string_bytes, refl, ap, sym, subst, ◌∙◌, inl, inr, arith}
+use Rattle.std.specs.Prelude.{if◌then◌else◌, ◌||◌, is_some, OnOk}
+use Rattle.std.specs.Result.{is_err}
+use Rattle.std.specs.FinMap.Entries.{put}
+use Rattle.dynamo_value.specs.View.{text_cmp, view}
+use Rattle.dynamo_value.specs.declared.attribute_value.AttributeValue.{AttributeValue}
+use Rattle.dynamo_value.specs.Av as av
+use Rattle.dynamo_value.specs.Av.{Av, elements_of, members_of}
+use Rattle.dynamo_value.specs.Base64.{bytes_of_base64}
+use Rattle.dynamo_value.specs.Fault.{Fault, failed_to_parse_float, out_of_memory}
+use Rattle.dynamo_value.specs.Integer.{i64, u64}
+use Rattle.dynamo_value.specs.Prefix as prefix
+use Rattle.dynamo_value.specs.Prefix.{Prefix, prefix_of}
+use Rattle.dynamo_value.specs.Refusal.{fault, any_message, Refused, refusal_in}
+use Rattle.dynamo_value.specs.SingleKey.{several_keys, known}
+use Rattle.dynamo_de.specs.Answer as answer
+use Rattle.dynamo_de.specs.Answer.{Answer, Gives, After}
+use Rattle.dynamo_de.specs.Contents as contents
+use Rattle.dynamo_de.specs.Ignored.{source_height, sources_height, entries_height}
+use Rattle.dynamo_de.specs.Number.{parse, is_float_text, is_number_text}
+use Rattle.dynamo_de.specs.Promises.{Reading, answered, promised, refuse, Agrees, ◌>>=◌}
+use Rattle.dynamo_de.specs.ReadAttribute.{read_attribute, read_content, read_elements, read_members, read_none, own_refusals, own_refusals_in, refusals_of, attribute_from, attribute_in, item_from, content_from, read_each, read_entries, read_text, read_texts, read_blob, read_blobs, no_map}
+use Rattle.dynamo_de.specs.Reads.{ReadsEach, ReadsList}
+use Rattle.dynamo_de.specs.Scalars.{read_string}
+use Rattle.dynamo_de.specs.Shown.{Shown, shown, signed_or_other, unsigned_or_float}
+use Rattle.dynamo_de.specs.Shows.{TakesEntry}
+use Rattle.dynamo_de.specs.Sight as sight
+use Rattle.dynamo_de.specs.Source.{Source, attribute, key_text, number_text, plain_text, byte_string, Entry, entries_of, values_of, each}
+use Rattle.dynamo_de.specs.declared.request.Request.TheVariants as request
+use Rattle.dynamo_de.proofs.Ignored.{elements_high, members_high, flat}
+use Rattle.dynamo_de.proofs.Promises.{value_answered, fault_answered, value_read, value_agrees, part_agrees, stops, refusal_agrees, told, each_reads}
+
+-- ---- what a map and a sequence are shown as
+
+abbrev pub entries_in : Shown → Answer (List Entry)
+entries_in (Err f) = answer.fault f
+entries_in (Ok (sight.entries es)) = answer.value es
+entries_in (Ok _) = answer.refused
+
+abbrev pub elements_in : Shown → Answer (List Source)
+elements_in (Err f) = answer.fault f
+elements_in (Ok (sight.sequence ss)) = answer.value ss
+elements_in (Ok _) = answer.refused
+
+-- a number that is neither a map nor a sequence
+module _ {A : Type 0} (look : Shown → Answer A) (fails : (f : Fault) → look (Err f) ≡ answer.fault f) (number : (t : List ℕ) → look (Ok (sight.number_text t)) ≡ answer.refused)
+    (integer : (k : _) (z : ℤ) → look (Ok (sight.integer k z)) ≡ answer.refused) where
+  float_seen : (b : Bool) (t : List ℕ) → (if b then answer.refused else answer.fault (failed_to_parse_float t)) ≡ look (if b then Ok (sight.number_text t) else Err (failed_to_parse_float t))
+  float_seen true t = sym (number t)
+  float_seen false t = sym (fails (failed_to_parse_float t))
+
+  unsigned_seen : (o : Option ℤ) (t : List ℕ) → (if is_some o || is_float_text t then answer.refused else answer.fault (failed_to_parse_float t)) ≡ look (unsigned_or_float o t)
+  unsigned_seen None t = float_seen (is_float_text t) t
+  unsigned_seen (Some z) t = sym (integer u64 z)
+
+  signed_seen : (o : Option ℤ) (t : List ℕ) → (if is_some o || is_some (parse u64 t) || is_float_text t then answer.refused else answer.fault (failed_to_parse_float t)) ≡ look (signed_or_other o t)
+  signed_seen None t = unsigned_seen (parse u64 t) t
+  signed_seen (Some z) t = sym (integer i64 z)
+
+pub entries_as_shown : (s : Source) → contents.read_entries s ≡ entries_in (shown request.Map s)
+entries_as_shown (attribute (av.M ms)) = refl
+entries_as_shown (attribute _) = refl
+entries_as_shown (key_text t) = refl
+entries_as_shown (number_text t) = signed_seen entries_in (λ f. refl) (λ t. refl) (λ k z. refl) (parse i64 t) t
+entries_as_shown (plain_text t) = refl
+entries_as_shown (byte_string bytes) = refl
+
+pub elements_as_shown : (s : Source) → contents.read_elements s ≡ elements_in (shown request.Seq s)
+elements_as_shown (attribute (av.L as')) = refl
+elements_as_shown (attribute (av.Ss ts)) = refl
+elements_as_shown (attribute (av.Ns ts)) = refl
+elements_as_shown (attribute (av.Bs ts)) = refl
+elements_as_shown (attribute _) = refl
+elements_as_shown (key_text t) = refl
+elements_as_shown (number_text t) = signed_seen elements_in (λ f. refl) (λ t. refl) (λ k z. refl) (parse i64 t) t
+elements_as_shown (plain_text t) = refl
+elements_as_shown (byte_string bytes) = refl
+
+-- ---- what an attribute value is read from
+
+unknown_map : {A : Type 0} (b : Bool) (t : List ℕ) (next : List Entry → Reading A)
+    → refuse (if b then any_message else fault (failed_to_parse_float t)) ≡ (answered (if b then answer.refused else answer.fault (failed_to_parse_float t)) >>= next)
+unknown_map true t next = refl
+unknown_map false t next = refl
+
+own_same : (ms : av.Members) → own_refusals ms ≡ own_refusals_in (entries_of ms)
+own_same av.no_members = refl
+own_same (av.member key a ms) = ap (λ rs. refusals_of (promised (known key) >>= λ p. read_content p a) ++ rs) (own_same ms)
+
+pub attribute_as_entries : (s : Source) → attribute_from s ≡ (answered (contents.read_entries s) >>= attribute_in)
+attribute_as_entries (attribute (av.M av.no_members)) = refl
+attribute_as_entries (attribute (av.M (av.member key a av.no_members))) = refl
+attribute_as_entries (attribute (av.M (av.member key a (av.member other b ms)))) = ap (λ rs. Err (several_keys ∷ rs)) (own_same (av.member key a (av.member other b ms)))
+attribute_as_entries (attribute _) = refl
+attribute_as_entries (key_text t) = refl
+attribute_as_entries (number_text t) = unknown_map (is_number_text t) t attribute_in
+attribute_as_entries (plain_text t) = refl
+attribute_as_entries (byte_string bytes) = refl
+
+members_same : (so_far : List (List ℕ × Av)) (ms : av.Members) → read_members so_far ms ≡ read_entries so_far (entries_of ms)
+members_same so_far av.no_members = refl
+members_same so_far (av.member key a ms) = one (read_attribute a) (λ value. members_same (put text_cmp key value so_far) ms)
+  where
+    one : {A B : Type 0} (x : Reading A) {f g : A → Reading B} → ((y : A) → f y ≡ g y) → (x >>= f) ≡ (x >>= g)
+    one (Ok y) h = h y
+    one (Err rs) h = refl
+
+pub item_as_entries : (s : Source) → item_from s ≡ (answered (contents.read_entries s) >>= read_entries [])
+item_as_entries (attribute (av.M ms)) = members_same [] ms
+item_as_entries (attribute _) = refl
+item_as_entries (key_text t) = refl
+item_as_entries (number_text t) = unknown_map (is_number_text t) t (read_entries [])
+item_as_entries (plain_text t) = refl
+item_as_entries (byte_string bytes) = refl
+
+as_elements : Reading (List Av) → Reading av.Elements
+as_elements x = x >>= λ values. Ok (elements_of values)
+
+elements_same : (as' : av.Elements) → read_elements as' ≡ as_elements (read_each attribute_from (values_of as'))
+unfolding as_elements
+elements_same av.no_elements = refl
+elements_same (av.element a as') = rw (elements_same as') (in_turn (read_attribute a) (read_each attribute_from (values_of as')))
+  where
+    in_turn : (x : Reading Av) (y : Reading (List Av)) → (x >>= λ value. as_elements y >>= λ values. Ok (av.element value values)) ≡ as_elements (x >>= λ value. y >>= λ values. Ok (value ∷ values))
+    in_turn (Ok value) (Ok values) = refl
+    in_turn (Ok value) (Err rs) = refl
+    in_turn (Err rs) y = refl
+
+none_same : (source : List ℕ → Source) → ((t : List ℕ) → attribute_from (source t) ≡ refuse (no_map (source t))) → (ts : List (List ℕ)) → read_none source ts ≡ as_elements (read_each attribute_from (each source ts))
+unfolding as_elements
+none_same source h [] = refl
+none_same source h (t ∷ ts) = rw (h t) refl
+
+as_list : Reading av.Elements → Reading Av
+as_list x = x >>= λ elements. Ok (av.L elements)
+
+listed : (x : Reading (List Av)) → as_list (as_elements x) ≡ (x >>= λ values. Ok (av.L (elements_of values)))
+unfolding as_list as_elements
+listed (Ok values) = refl
+listed (Err rs) = refl
+
+pub content_same : (p : Prefix) (a : Av) → read_content p a ≡ content_from p (attribute a)
+unfolding as_list
+content_same prefix.N a = refl
+content_same prefix.S a = refl
+content_same prefix.Bool a = refl
+content_same prefix.B a = refl
+content_same prefix.Null a = refl
+content_same prefix.M (av.M ms) = ap (λ x. x >>= λ members. Ok (av.M members)) (members_same [] ms)
+content_same prefix.M _ = refl
+content_same prefix.L (av.L as') = ap as_list (elements_same as') ∙ listed _
+content_same prefix.L (av.Ss ts) = ap as_list (none_same plain_text (λ t. refl) ts) ∙ listed _
+content_same prefix.L (av.Ns ts) = ap as_list (none_same number_text (λ t. refl) ts) ∙ listed _
+content_same prefix.L (av.Bs ts) = ap as_list (none_same byte_string (λ t. refl) ts) ∙ listed _
+content_same prefix.L _ = refl
+content_same prefix.Ss a = refl
+content_same prefix.Ns a = refl
+content_same prefix.Bs a = refl
+
+-- ---- how deep it goes
+
+pub entries_lower : {M : Type 0} (entries : M → List Entry) (s : Source) (m : M) → Gives entries (contents.read_entries s) (Ok m) → suc (entries_height (entries m)) ≤ source_height s
+entries_lower entries s m h = below s (value_answered entries (contents.read_entries s) m h)
+  where
+    below : (s : Source) → answered (contents.read_entries s) ≡ Ok (entries m) → suc (entries_height (entries m)) ≤ source_height s
+    below (attribute (av.M ms)) e = let same : entries_of ms ≡ entries m = cc in rw (← same, members_high ms) (omega arith)
+    below (attribute _) e = cc
+    below (key_text t) e = cc
+    below (number_text t) e = absurd (no_value (is_number_text t) e)
+      where
+        no_value : (b : Bool) → answered (if b then answer.refused else answer.fault (failed_to_parse_float t)) ≡ Ok (entries m) → ⊥
+        no_value true e = cc
+        no_value false e = cc
+    below (plain_text t) e = cc
+    below (byte_string bytes) e = cc
+
+pub elements_lower : {L : Type 0} (elements : L → List Source) (s : Source) (l : L) → Gives elements (contents.read_elements s) (Ok l) → suc (sources_height (elements l)) ≤ source_height s
+elements_lower elements s l h = below s (value_answered elements (contents.read_elements s) l h)
+  where
+    flat_below : (source : List ℕ → Source) → ((t : List ℕ) → source_height (source t) ≡ 0) → (ts : List (List ℕ)) → each source ts ≡ elements l → suc (sources_height (elements l)) ≤ 1
+    flat_below source none ts same = rw (← same, flat source none ts) (omega arith)
+
+    below : (s : Source) → answered (contents.read_elements s) ≡ Ok (elements l) → suc (sources_height (elements l)) ≤ source_height s
+    below (attribute (av.L as')) e = let same : values_of as' ≡ elements l = cc in rw (← same, elements_high as') (omega arith)
+    below (attribute (av.Ss ts)) e = flat_below plain_text (λ t. refl) ts cc
+    below (attribute (av.Ns ts)) e = flat_below number_text (λ t. refl) ts cc
+    below (attribute (av.Bs ts)) e = flat_below byte_string (λ t. refl) ts cc
+    below (attribute _) e = cc
+    below (key_text t) e = cc
+    below (number_text t) e = absurd (no_value (is_number_text t) e)
+      where
+        no_value : (b : Bool) → answered (if b then answer.refused else answer.fault (failed_to_parse_float t)) ≡ Ok (elements l) → ⊥
+        no_value true e = cc
+        no_value false e = cc
+    below (plain_text t) e = cc
+    below (byte_string bytes) e = cc
+
+-- ---- texts
+
+text_agrees : (x : Answer (List ℕ)) (r : Result (String Global) Fault) → Gives string_bytes x r → Agrees string_bytes (answered x) r
+text_agrees x (Ok text) h = value_agrees string_bytes (answered x) text (value_answered string_bytes x text h)
+text_agrees x (Err f) h = fault_answered string_bytes x f h
+
+pub texts_read : (s : Source) (r : Result (Vec (String Global) Global) Fault) → After (contents.read_elements s) (ReadsList (λ e. Gives string_bytes (read_string e))) r
+    → Agrees (λ v. map string_bytes v.items) (read_texts s) r
+texts_read s r h = all (contents.read_elements s) r h
+  where
+    each : (ss : List Source) (r : Result (List (String Global)) Fault) → ReadsEach (λ e. Gives string_bytes (read_string e)) ss r → Agrees (map string_bytes) (read_each read_text ss) r
+    each = each_reads string_bytes read_text (λ e. Gives string_bytes (read_string e)) (λ e. text_agrees (read_string e))
+
+    all : (x : Answer (List Source)) (r : Result (Vec (String Global) Global) Fault) → After x (ReadsList (λ e. Gives string_bytes (read_string e))) r
+        → Agrees (λ v. map string_bytes v.items) (answered x >>= read_each read_text) r
+    all (answer.value ss) (Ok v) h = part_agrees (map string_bytes) (λ v. v.items) (read_each read_text ss) (Ok v) (each ss (Ok v.items) h)
+    all (answer.value ss) (Err f) h = part_agrees (map string_bytes) (λ (v : Vec (String Global) Global). v.items) (read_each read_text ss) (Err f) (each ss (Err f) h)
+    all (answer.fault g) (Ok v) h = cc
+    all (answer.fault g) (Err f) h = inl cc
+    all answer.refused (Ok v) h = absurd h
+    all answer.refused (Err f) h = inl h
+
+-- ---- base64
+
+pub blob_refused : (s : Source) (text : String Global) (f g : Fault) → Gives string_bytes (read_string s) (Ok text) → Refused (refusal_in (bytes_of_base64 (string_bytes text))) f
+    → (g ≡ f) ⊎ (g ≡ out_of_memory) → (g ≡ out_of_memory) ⊎ Agrees {V = Vec ℕ Global} (λ b. b.items) (read_blob s) (Err g)
+blob_refused s text f g is refused says =
+    rw (value_answered string_bytes (read_string s) text is) (refusal_agrees (λ (b : Vec ℕ Global). b.items) (bytes_of_base64 (string_bytes text)) g (told _ f g says refused))
+
+pub blobs_of : {L : Type 0} (elements : L → List Source) (s : Source) (l : L) → Gives elements (contents.read_elements s) (Ok l) → read_each read_blob (elements l) ≡ read_blobs s
+blobs_of elements s l is = rw (value_answered elements (contents.read_elements s) l is) refl
+
+-- ---- entries that are taken in order
+
+pub item_of_entries : {M : Type 0} (entries : M → List Entry) (s : Source) (m : M) → Gives entries (contents.read_entries s) (Ok m) → item_from s ≡ read_entries [] (entries m)
+item_of_entries entries s m is = item_as_entries s ∙ rw (value_answered entries (contents.read_entries s) m is) refl
+
+module _ {D M : Type 0} (source : D → Source) (entries : M → List Entry) where
+  named : (e : Entry) (d : D × D) (name : String Global) → source d.0 ≡ key_text e.0 → Gives string_bytes (read_string (source d.0)) (Ok name) → string_bytes name ≡ e.0
+  named e d name is given = subst (λ s. Gives string_bytes (read_string s) (Ok name)) is given
+
+  -- the one entry of a map
+  pub one_entry : (s : Source) (m : M) (new end : List Entry) (d : D × D) (name : String Global) (p : Prefix) → Gives entries (contents.read_entries s) (Ok m)
+      → TakesEntry source (entries m) new (Some d) → TakesEntry source new end None → Gives string_bytes (read_string (source d.0)) (Ok name)
+      → prefix_of (string_bytes name) ≡ Some p → content_from p (source d.1) ≡ attribute_from s
+  one_entry s m new end d name p is first last given known = sym (attribute_as_entries s ∙ rw (value_answered entries (contents.read_entries s) m is) (alone (entries m) new first last))
+    where
+      alone : (es new : List Entry) → TakesEntry source es new (Some d) → TakesEntry source new end None → attribute_in es ≡ content_from p (source d.1)
+      alone [] new t l = cc
+      alone (e ∷ es) (f ∷ fs) t l = absurd l
+      alone (e ∷ []) [] t l = rw (t.2, ← named e d name t.1 given, known) (content_same p e.1)
+      alone (e ∷ f ∷ es) [] t l = absurd (nil≢cons t.0)
+        where
+          nil≢cons : [] ≡ f ∷ es → ⊥
+          nil≢cons h = cc
+
+  pub member_more : (all : Reading av.Members) (so_far : List (List ℕ × Av)) (name : String Global) (v : AttributeValue) (es new : List Entry) (d : D × D) → TakesEntry source es new (Some d)
+      → read_entries so_far es ≡ all → Gives string_bytes (read_string (source d.0)) (Ok name) → Agrees view (attribute_from (source d.1)) (Ok v)
+      → read_entries (put text_cmp (string_bytes name) (view v) so_far) new ≡ all
+  member_more all so_far name v [] new d t is given agrees = cc
+  member_more all so_far name v (e ∷ es) new d t is given agrees =
+      let same_value : read_attribute e.1 ≡ Ok (view v) = value_read view (read_attribute e.1) v (subst (λ s. Agrees view (attribute_from s) (Ok v)) t.2 agrees) in
+      rw (named e d name t.1 given, t.0) (ap (λ x. x >>= λ value. read_entries (put text_cmp e.0 value so_far) es) (sym same_value) ∙ is)
+
+  pub member_stops : {W : Type 0} (told : W → av.Members) (all : Reading av.Members) (so_far : List (List ℕ × Av)) (es new : List Entry) (d : D × D) (f : Fault) → TakesEntry source es new (Some d)
+      → read_entries so_far es ≡ all → (f ≡ out_of_memory) ⊎ Agrees view (attribute_from (source d.1)) (Err f) → (f ≡ out_of_memory) ⊎ Agrees told all (Err f)
+  member_stops told all so_far es new d f t is (inl lacks) = inl lacks
+  member_stops told all so_far [] new d f t is (inr agrees) = cc
+  member_stops told all so_far (e ∷ es) new d f t is (inr agrees) =
+      inr (subst (λ x. Agrees told x (Err f)) is (stops view told (λ value. read_entries (put text_cmp e.0 value so_far) es) (read_attribute e.1) f (subst (λ s. Agrees view (attribute_from s) (Err f)) t.2 agrees)))
+
+-- what holds where there is no error
+pub kept : {T E P : Type 0} (r : Result T E) → is_err r ≡ false → OnOk r P → P
+kept (Ok x) is h = h
+kept (Err e) is h = cc

@@ -1,0 +1,200 @@
+//! Reading attribute values and items by DynamoDB JSON, as the data model has it: a map of one entry, whose key is a prefix.
+
+ghost use Rattle.std.specs.Prelude.{◌≡◌, ◌⊎◌, [], map, string_bytes};
+ghost use Rattle.dynamo_value.specs.Fault.{out_of_memory};
+ghost use Rattle.dynamo_value.specs.Item.{item_view};
+ghost use Rattle.dynamo_value.specs.Kind.{fault_of};
+ghost use Rattle.dynamo_value.specs.PrefixView.{prefix_view};
+ghost use Rattle.dynamo_value.specs.View.{view, members_view};
+ghost use Rattle.dynamo_de.specs.Answer.{Gives};
+ghost use Rattle.dynamo_de.specs.Contents as contents;
+ghost use Rattle.dynamo_de.specs.Meets.{Meets};
+ghost use Rattle.dynamo_de.specs.Promises.{Agrees};
+ghost use Rattle.dynamo_de.specs.ReadAttribute.{attribute_from, item_from, content_from, read_each, read_entries};
+ghost use Rattle.dynamo_de.specs.ReadAttribute.{read_texts, read_blob, read_blobs};
+
+use crate::visitor::refuse;
+use crate::{Deserialize, Deserializer, Error, Reader, Request, Showing};
+use dynamo_value::{AttributeValue, ErrorImpl, Item, Prefix, base64_text, refusal};
+use std::alloc::Global;
+use std::collections::HashMap;
+
+/// An attribute value is read as DynamoDB JSON has it: `{"N": "1"}`, `{"SS": ["a"]}`, `{"B": "AQI="}`.
+impl Deserialize for AttributeValue {
+    ghost reads = { λ s. Agrees view (attribute_from s) };
+
+    fn deserialize<D: Deserializer>(
+        alloc: Global,
+        deserializer: D,
+    ) -> Result<AttributeValue, D::Error> {
+        read(alloc, deserializer)
+    }
+}
+
+/// An item is read as a map of attribute values: `{"a": {"N": "1"}}`.
+impl Deserialize for Item {
+    ghost reads = { λ s. Agrees item_view (item_from s) };
+
+    fn deserialize<D: Deserializer>(alloc: Global, deserializer: D) -> Result<Item, D::Error> {
+        let entries = entries_of(alloc, deserializer, "a map of attribute values")?;
+        Ok(Item::from(read_members::<D>(alloc, entries)?))
+    }
+}
+
+/// Reads an attribute value by the reader's own calls: it holds itself, so no visitor could read it.
+#[cycle(read)]
+fn read<R: Reader>(alloc: Global, reader: R) -> Result<AttributeValue, R::Error>
+    ensures { Meets R.Error.fault (Agrees view (attribute_from (R.source reader))) result }
+{
+    let mut entries = entries_of(
+        alloc,
+        reader,
+        r#"an object with a single key "N", "S", "BOOL", "B", "NULL", "M", "L", "SS", "NS", or "BS""#,
+    )?;
+    let Some((key, content)) = R::next_entry(&mut entries) else {
+        return Err(told(alloc, refusal::no_key(alloc)));
+    };
+    if R::next_entry(&mut entries).is_some() {
+        return Err(told(alloc, refusal::several_keys(alloc)));
+    }
+    let key = String::deserialize(alloc, key)?;
+    let Some(prefix) = Prefix::named(&key) else {
+        return Err(told(alloc, refusal::unknown_key(alloc, &key)));
+    };
+    read_content(alloc, prefix, content)
+}
+
+// Reads what stands under a prefix.
+#[cycle(read)]
+fn read_content<R: Reader>(
+    alloc: Global,
+    prefix: Prefix,
+    content: R,
+) -> Result<AttributeValue, R::Error>
+    ensures { Meets R.Error.fault (Agrees view (content_from (prefix_view prefix) (R.source content))) result }
+{
+    match prefix {
+        Prefix::N => Ok(AttributeValue::N(String::deserialize(alloc, content)?)),
+        Prefix::S => Ok(AttributeValue::S(String::deserialize(alloc, content)?)),
+        Prefix::Bool => Ok(AttributeValue::Bool(bool::deserialize(alloc, content)?)),
+        Prefix::B => Ok(AttributeValue::B(read_bytes(alloc, content)?)),
+        Prefix::Null => Ok(AttributeValue::Null(bool::deserialize(alloc, content)?)),
+        Prefix::M => {
+            let entries = entries_of(alloc, content, "a map of attribute values")?;
+            Ok(AttributeValue::M(read_members::<R>(alloc, entries)?))
+        }
+        Prefix::L => {
+            let elements = elements_of(alloc, content, "a sequence of attribute values")?;
+            Ok(AttributeValue::L(read_elements::<R>(alloc, elements)?))
+        }
+        Prefix::Ss => Ok(AttributeValue::Ss(read_texts(alloc, content)?)),
+        Prefix::Ns => Ok(AttributeValue::Ns(read_texts(alloc, content)?)),
+        Prefix::Bs => Ok(AttributeValue::Bs(read_blobs(alloc, content)?)),
+    }
+}
+
+// Reads attribute values, in order.
+#[cycle(read)]
+fn read_elements<R: Reader>(
+    alloc: Global,
+    mut elements: R::Elements,
+) -> Result<Vec<AttributeValue>, R::Error>
+    ensures { Meets R.Error.fault (Agrees (λ v. map view v.items) (read_each attribute_from (R.elements elements))) result }
+{
+    let mut values = Vec::new(alloc);
+    while let Some(element) = R::next_element(&mut elements) {
+        let value = read(alloc, element)?;
+        if values.push(value).is_err() {
+            return Err(R::Error::out_of_memory());
+        }
+    }
+    Ok(values)
+}
+
+// Reads attribute values, each under its key.
+#[cycle(read)]
+fn read_members<R: Reader>(
+    alloc: Global,
+    mut entries: R::Entries,
+) -> Result<HashMap<String, AttributeValue>, R::Error>
+    ensures { Meets R.Error.fault (Agrees (λ m. members_view m.entries) (read_entries [] (R.entries entries))) result }
+{
+    let mut members = HashMap::new(alloc);
+    while let Some((key, value)) = R::next_entry(&mut entries) {
+        let name = String::deserialize(alloc, key)?;
+        let member = read(alloc, value)?;
+        if members.insert(name, member).is_err() {
+            return Err(R::Error::out_of_memory());
+        }
+    }
+    Ok(members)
+}
+
+// Reads the texts of a sequence, in order.
+fn read_texts<R: Reader>(alloc: Global, reader: R) -> Result<Vec<String>, R::Error>
+    ensures { Meets R.Error.fault (Agrees (λ v. map string_bytes v.items) (read_texts (R.source reader))) result }
+{
+    Vec::deserialize(alloc, reader)
+}
+
+// Reads the byte strings of a sequence of base64 texts, in order.
+fn read_blobs<R: Reader>(alloc: Global, reader: R) -> Result<Vec<Vec<u8>>, R::Error>
+    ensures { Meets R.Error.fault (Agrees (λ v. map (λ b. b.items) v.items) (read_blobs (R.source reader))) result }
+{
+    let mut elements = elements_of(alloc, reader, "a sequence of base64 texts")?;
+    let mut blobs = Vec::new(alloc);
+    while let Some(element) = R::next_element(&mut elements) {
+        let bytes = read_bytes(alloc, element)?;
+        if blobs.push(bytes).is_err() {
+            return Err(R::Error::out_of_memory());
+        }
+    }
+    Ok(blobs)
+}
+
+// Reads the bytes of a base64 text.
+fn read_bytes<R: Reader>(alloc: Global, reader: R) -> Result<Vec<u8>, R::Error>
+    ensures { Meets R.Error.fault (Agrees (λ b. b.items) (read_blob (R.source reader))) result }
+{
+    let text = String::deserialize(alloc, reader)?;
+    match base64_text::decode(alloc, &text) {
+        Ok(bytes) => Ok(bytes),
+        Err(refusal) => Err(told(alloc, refusal)),
+    }
+}
+
+// The entries of a map that is asked for.
+#[tactic(auto, using(crate::proofs::Attributes::entries_as_shown))]
+fn entries_of<R: Reader>(alloc: Global, reader: R, expecting: &str) -> Result<R::Entries, R::Error>
+    ensures { Meets R.Error.fault (Gives R.entries (contents.read_entries (R.source reader))) result }
+{
+    match reader.show(Request::Map)? {
+        Showing::Map(entries) => Ok(entries),
+        other => refuse(alloc, other.kind(), false, expecting),
+    }
+}
+
+// The elements of a sequence that is asked for.
+#[tactic(auto, using(crate::proofs::Attributes::elements_as_shown))]
+fn elements_of<R: Reader>(
+    alloc: Global,
+    reader: R,
+    expecting: &str,
+) -> Result<R::Elements, R::Error>
+    ensures { Meets R.Error.fault (Gives R.elements (contents.read_elements (R.source reader))) result }
+{
+    match reader.show(Request::Seq)? {
+        Showing::Sequence(elements) => Ok(elements),
+        other => refuse(alloc, other.kind(), false, expecting),
+    }
+}
+
+// A refusal of DynamoDB JSON, as an error of the reader.
+fn told<E: Error>(alloc: Global, refusal: dynamo_value::Error) -> E
+    ensures { (E.fault result ≡ fault_of refusal) ⊎ (E.fault result ≡ out_of_memory) }
+{
+    match refusal.kind() {
+        ErrorImpl::Message(text) => E::custom(alloc, text),
+        _ => E::out_of_memory(),
+    }
+}

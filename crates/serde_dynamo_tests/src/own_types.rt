@@ -1,0 +1,62 @@
+//! Attribute values and items where a value of a program's own type may stand.
+ghost use Rattle.std.specs.Prelude.{◌≡◌, IfOk, IfErr};
+ghost use Rattle.serde_dynamo.specs.Fault.{out_of_memory};
+ghost use Rattle.serde_dynamo.specs.Item.{item_view};
+ghost use Rattle.serde_dynamo.specs.Kind.{fault_of};
+ghost use Rattle.serde_dynamo.specs.View as av;
+ghost use Rattle.serde_json.specs.View.{view};
+
+use serde_dynamo::{
+    AttributeValue, DynamoJson, Item, Result, from_attribute_value, laws, to_attribute_value,
+    to_json_value,
+};
+use serde_json::Value;
+use std::alloc::Global;
+
+/// The plain JSON of an attribute value, and its DynamoDB JSON, which are the same.
+pub fn both_json(alloc: Global, value: &AttributeValue) -> Result<(Value, Value)>
+    ensures { IfOk result (λ both. view both.0 ≡ view both.1) }
+{
+    laws::attribute_value();
+    Ok((to_json_value(alloc, value)?, value.to_json(alloc)?))
+}
+
+/// The plain JSON of an item, and its DynamoDB JSON, which are the same.
+pub fn both_item_json(alloc: Global, item: &Item) -> Result<(Value, Value)>
+    ensures { IfOk result (λ both. view both.0 ≡ view both.1) }
+{
+    laws::attribute_value();
+    Ok((to_json_value(alloc, item)?, item.to_json(alloc)?))
+}
+
+/// The DynamoDB JSON of an attribute value, and what is read of what it writes: the attribute value again.
+///
+/// # Errors
+///
+/// `OutOfMemory` alone.
+pub fn json_and_back(alloc: Global, value: &AttributeValue) -> Result<(Value, AttributeValue)>
+    ensures back { IfOk result (λ both. av.view both.1 ≡ av.view value.now) }
+    ensures err { IfErr result (λ e. fault_of e ≡ out_of_memory) }
+{
+    laws::attribute_value();
+    let json = value.to_json(alloc)?;
+    let written = to_attribute_value(alloc, value)?;
+    let read: AttributeValue = from_attribute_value(alloc, written)?;
+    Ok((json, read))
+}
+
+/// The DynamoDB JSON of an item, and what is read of what it writes: the item again.
+///
+/// # Errors
+///
+/// `OutOfMemory` alone.
+pub fn item_json_and_back(alloc: Global, item: &Item) -> Result<(Value, Item)>
+    ensures back { IfOk result (λ both. item_view both.1 ≡ item_view item.now) }
+    ensures err { IfErr result (λ e. fault_of e ≡ out_of_memory) }
+{
+    laws::attribute_value();
+    let json = item.to_json(alloc)?;
+    let written = to_attribute_value(alloc, item)?;
+    let read: Item = from_attribute_value(alloc, written)?;
+    Ok((json, read))
+}
