@@ -11,7 +11,7 @@ use Rattle.serde_dynamo.specs.Fields.{read_first, read_fields}
 use Rattle.serde_dynamo.specs.Ignored.{read_ignored}
 use Rattle.serde_dynamo.specs.Integer.{u8}
 use Rattle.serde_dynamo.specs.Options.{option_tells}
-use Rattle.serde_dynamo.specs.Source.{Source, Entry, attribute}
+use Rattle.serde_dynamo.specs.Source.{Entry, attribute}
 use Rattle.dynamo_shape.specs.ByValue.{SameOption}
 use Rattle.dynamo_shape.specs.Laws.{IsToldByValue}
 use Rattle.dynamo_shape.specs.Read.{read, into, read_field, fields_by_name}
