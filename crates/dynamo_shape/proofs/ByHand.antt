@@ -1,15 +1,19 @@
 -- Reading by hand as a shape says: answers in step.
-use Rattle.std.proofs.Common.{◌≡◌, Result, Ok, Err, refl, sym, ap, subst, ◌∙◌}
+use Rattle.std.proofs.Common.{◌≡◌, Option, Some, None, Result, Ok, Err, refl, sym, ap, subst, ◌∙◌}
 use Rattle.std.specs.Prelude.{⊤}
 use Rattle.dynamo_value.specs.Fault.{Fault}
+use Rattle.dynamo_ser.specs.Datum as datum
 use Rattle.dynamo_ser.specs.Datum.{Datum}
+use Rattle.dynamo_ser.specs.Options.{option_tells}
 use Rattle.dynamo_de.specs.Answer as answer
-use Rattle.dynamo_de.specs.Answer.{Answer, After, Gives, ◌>>=◌}
+use Rattle.dynamo_de.specs.Answer.{Answer, After, Gives, Is, ◌>>=◌}
+use Rattle.dynamo_de.specs.Contents.{read_content}
+use Rattle.dynamo_de.specs.Reads.{ReadsOption}
 use Rattle.dynamo_de.specs.Source.{Source}
 use Rattle.dynamo_shape.specs.Laws.{Answers}
-use Rattle.dynamo_shape.specs.Read.{read, into}
+use Rattle.dynamo_shape.specs.Read.{read, into, read_some}
 use Rattle.dynamo_shape.specs.Same.{Same}
-use Rattle.dynamo_shape.specs.Shape.{Shape}
+use Rattle.dynamo_shape.specs.Shape.{Shape, option}
 use Rattle.dynamo_shape.proofs.Alike.{same_refl}
 use Rattle.dynamo_shape.proofs.Scalars.{no_fault, same_fault}
 
@@ -85,3 +89,47 @@ gives_after tells answer.refused f r h = h
 -- what is told of each step is what reading at the shape gives
 pub by_steps : {X V : Type 0} (s : Shape) (C : Datum → Type 0) (tells : V → Datum) (source : Source) (a : Answer X) (f : X → Answer Datum) → a >>= f ≡ read s source → (r : Result V Fault) → After a (λ x. Gives tells (f x)) r → Answers C Same tells (read s source) r
 by_steps s C tells source a f same r h = told C tells (read s source) r (subst (λ x. Gives tells x r) same (gives_after tells a f r h))
+
+-- ---- types whose values tell the very data that reading at their shape gives
+
+abbrev pub ReadsTold : {T : Type 0} → Shape → (T → Datum) → (Source → Result T Fault → Type 0) → Type 0
+ReadsTold {T} s tells reads = (source : Source) (r : Result T Fault) → reads source r → Gives tells (read s source) r
+
+pub read_itself : (s : Shape) → IsReadAs s (read s) (λ d. d)
+read_itself s source = itself (read s source)
+  where
+    itself : (a : Answer Datum) → a ≡ into (λ d. d) a
+    itself (answer.value d) = refl
+    itself (answer.fault e) = refl
+    itself answer.refused = refl
+
+-- what is made of one scalar
+pub scalar_told : {T A : Type 0} (s : Shape) (seen : T → A) (make : A → Datum) (reads : Source → Answer A) → IsReadAs s reads make → ReadsTold s (λ v. make (seen v)) (λ source. Gives seen (reads source))
+scalar_told {T} {A} s seen make reads same source r h = subst (λ a. Gives (λ v. make (seen v)) a r) (sym (same source)) (along (reads source) r h)
+  where
+    along : (a : Answer A) (r : Result T Fault) → Gives seen a r → Gives (λ v. make (seen v)) (into make a) r
+    along (answer.value x) (Ok v) h = ap make h
+    along (answer.value x) (Err f) h = absurd h
+    along (answer.fault e) r h = h
+    along answer.refused r h = h
+
+pub option_told : {T : Type 0} (s : Shape) (tells : T → Datum) (reads : Source → Result T Fault → Type 0) → ReadsTold s tells reads → ReadsTold (option s) (option_tells tells) (λ source. After (read_content source) (ReadsOption reads))
+option_told {T} s tells reads h source r a = along (read_content source) r a
+  where
+    some_told : (d : Answer Datum) (v : T) → Gives tells d (Ok v) → Gives (option_tells tells) (into datum.some d) (Ok (Some v))
+    some_told (answer.value e) v h = ap datum.some h
+    some_told (answer.fault f) v h = absurd (no_fault h)
+    some_told answer.refused v h = absurd h
+
+    fault_told : (d : Answer Datum) (f : Fault) → Gives tells d (Err f) → Gives (option_tells tells) (into datum.some d) (Err f)
+    fault_told (answer.value e) f h = absurd h
+    fault_told (answer.fault g) f h = ap Err (same_fault h)
+    fault_told answer.refused f h = h
+
+    along : (c : Answer (Option Source)) (r : Result (Option T) Fault) → After c (ReadsOption reads) r → Gives (option_tells tells) (c >>= read_some (read s)) r
+    along (answer.value None) r a = subst (λ x. Is (option_tells tells) datum.none x) (sym a) refl
+    along (answer.value (Some x)) (Ok None) a = absurd a
+    along (answer.value (Some x)) (Ok (Some v)) a = some_told (read s x) v (h x (Ok v) a)
+    along (answer.value (Some x)) (Err f) a = fault_told (read s x) f (h x (Err f) a)
+    along (answer.fault e) r a = a
+    along answer.refused r a = a

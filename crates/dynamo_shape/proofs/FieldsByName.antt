@@ -80,9 +80,9 @@ module _ {F S : Type 0} (entry : F → S → Av → Answer S) (slots : S → Slo
       elim (bytes_eq t own) as (λ b. Both (λ new d. slots new ≡ behind i (λ os. if b then fill d os else behind 1 (fill_named fs t d) os) (slots u)) (entry (if b then f else others t) u a) (if b then read s (attribute a) else read_field fs t a)) [
         | true ↦ rw (takes u a, same (attribute a)) (both_made (λ new d. slots new ≡ fill_slot i d (slots u)) (λ x. keep x u) make (reads (attribute a)) (λ x. fills x u))
         | false ↦
-          both_weaker (λ new d. slots new ≡ behind (suc i) (fill_named fs t d) (slots u)) (λ new d. slots new ≡ behind i (behind 1 (fill_named fs t d)) (slots u))
-          (λ new d h. h ∙ sym (behind_behind i (fill_named fs t d) (slots u)))
-          (entry (others t) u a) (read_field fs t a) (more t u a)
+            both_weaker (λ new d. slots new ≡ behind (suc i) (fill_named fs t d) (slots u)) (λ new d. slots new ≡ behind i (behind 1 (fill_named fs t d)) (slots u))
+            (λ new d h. h ∙ sym (behind_behind i (fill_named fs t d) (slots u)))
+            (entry (others t) u a) (read_field fs t a) (more t u a)
       ]
 
   -- any other entry is ignored
@@ -118,13 +118,13 @@ after_filled no_field_shapes t d l os n = refl
 after_filled (field_shape own s fs) t d l os n =
     elim (bytes_eq t own) as (λ b. bytes_eq t own ≡ b → after (field_shape own s fs) l (if b then fill d os else behind 1 (fill_named fs t d) os) ≡ after (field_shape own s fs) ((t, d) ∷ l) os) [
       | true ↦ λ q.
-            let here = sym (turned t own q) in
-            let others = sym (after_other fs t d l (other_slots os) (ap (is_field fs) ((bytes_eq-Decides t own).0 q) ∙ n.0)) in
-            λ i. last_of own l (cond (here i) (Some d) (first_slot os)) ∷ others i
+          let here = sym (turned t own q) in
+          let others = sym (after_other fs t d l (other_slots os) (ap (is_field fs) ((bytes_eq-Decides t own).0 q) ∙ n.0)) in
+          λ i. last_of own l (cond (here i) (Some d) (first_slot os)) ∷ others i
       | false ↦ λ q.
-            let here = sym (not_turned t own q) in
-            let others = after_filled fs t d l (other_slots os) n.1 in
-            λ i. last_of own l (cond (here i) (Some d) (first_slot os)) ∷ others i
+          let here = sym (not_turned t own q) in
+          let others = after_filled fs t d l (other_slots os) n.1 in
+          λ i. last_of own l (cond (here i) (Some d) (first_slot os)) ∷ others i
     ] refl
 
 close_none : (fs : FieldShapes) (os : Slots) → close fs (after fs [] os) ≡ close fs os

@@ -1,4 +1,4 @@
--- Structs, and what variants hold, that tell the same data are the same by value, part by part.
+-- Structs, sets and newtypes that tell the same data are the same by value, part by part.
 use Rattle.std.proofs.Common.{refl, sym, ap, subst}
 use Rattle.std.specs.declared.alloc.Global.{Global}
 use Rattle.std.specs.declared.vec.Vec.{Vec}
@@ -85,3 +85,9 @@ set_conforms k s ds c = (ds, refl, subst (AllElements (conforms s)) (sym (ap lis
     list_in : Datum → Elements
     list_in (datum.seq es) = es
     list_in _ = datum.no_elements
+
+-- ---- newtypes
+
+pub newtype_told : {V : Type 0} (name : Text) (s : Shape) (tells : V → Datum) (same : V → V → Type 0) → IsToldByValue s tells same → IsToldByValue (shape.newtype name s) (λ v. datum.newtype_struct name (tells v)) same
+newtype_told name s tells same h v w c d e =
+    h v w (subst (conforms s) (sym (ap content_in c.1)) c.2) (subst (conforms s) (sym (ap content_in d.1)) d.2) (subst (Same (tells v)) (sym (ap content_in e.1)) e.2)

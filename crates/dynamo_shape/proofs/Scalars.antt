@@ -101,3 +101,10 @@ unit_permitted s r h = given (conforms shape.unit) (λ u. u) (λ _. datum.unit) 
 
 pub unit_told : IsToldByValue {T = ⊤} shape.unit (λ _. datum.unit) (λ a b. a ≡ b)
 unit_told a b _ _ h = refl
+
+-- what is made of one integer
+pub integer_permitted : {T : Type 0} (seen : T → ℤ) (k : IntegerKind) → ReadsByShape (shape.integer k) (λ n. datum.integer k (seen n)) (λ s. Gives seen (read_integer k s))
+integer_permitted seen k s r h = given (conforms (shape.integer k)) seen (datum.integer k) (read_integer k s) r h
+
+pub integer_told : {T : Type 0} (seen : T → ℤ) (k : IntegerKind) → IsToldByValue (shape.integer k) (λ n. datum.integer k (seen n)) (λ a b. seen a ≡ seen b)
+integer_told seen k a b _ _ h = ap integer_in h

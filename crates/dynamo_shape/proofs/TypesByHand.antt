@@ -1,17 +1,20 @@
--- Structs and enums that are read by hand: what they read is permitted by reading at their shapes.
-use Rattle.std.proofs.Common.{◌≡◌, ℕ, suc, true, false, List, Option, Some, None, refl, sym, ap, ◌∙◌}
+-- Structs, enums and newtypes that are read by hand: what they read is permitted by reading at their shapes.
+use Rattle.std.proofs.Common.{◌≡◌, ℕ, suc, true, false, List, Option, Some, None, Result, refl, sym, ap, subst, ◌∙◌}
 use Rattle.std.specs.Prelude.{if◌then◌else◌, bytes_eq}
+use Rattle.dynamo_value.specs.Fault.{Fault}
 use Rattle.dynamo_ser.specs.Datum as datum
 use Rattle.dynamo_ser.specs.Datum.{Datum, Elements, Fields, Variant}
 use Rattle.dynamo_de.specs.Answer as answer
 use Rattle.dynamo_de.specs.Answer.{Answer, After, Gives, ◌>>=◌}
-use Rattle.dynamo_de.specs.Contents.{Parts, by_name, in_order, read_elements, read_entries, read_parts, read_variant}
+use Rattle.dynamo_de.specs.Contents.{Parts, by_name, in_order, read_elements, read_entries, read_newtype, read_parts, read_variant}
 use Rattle.dynamo_de.specs.Source.{Source, Text, Entry}
 use Rattle.dynamo_shape.specs.Conforms.{conforms}
 use Rattle.dynamo_shape.specs.Laws.{ReadsByShape}
-use Rattle.dynamo_shape.specs.Read.{into, read_each, read_field, fields_by_name, fields_in_order, fields_of, read_inside, read_one_of}
+use Rattle.dynamo_shape.specs.Read.{read, into, read_each, read_field, fields_by_name, fields_in_order, fields_of, read_inside, read_one_of}
 use Rattle.dynamo_shape.specs.Shape as shape
 use Rattle.dynamo_shape.specs.Shape.{Shape, Shapes, FieldShapes, Content, Variants, struct, enum, no_variants, variant}
+use Rattle.dynamo_shape.specs.Same.{Same}
+use Rattle.dynamo_shape.proofs.Answered.{made, after}
 use Rattle.dynamo_shape.proofs.ByHand.{IsReadAs, into_into, same_next, by_steps}
 use Rattle.dynamo_shape.proofs.InOrder.{ListsFields, ListsElements}
 
@@ -72,3 +75,16 @@ several_inside ts v elements same content none h (Some s) = h s ∙ same_next (d
 pub named_inside : (fs : FieldShapes) (v : Variant) (entries : List Entry → Answer Datum) → ((es : List Entry) → entries es ≡ into (datum.struct_variant v) (fields_by_name fs (read_field fs) es)) → (content : Option Source → Answer Datum) → content None ≡ answer.refused → ((s : Source) → content (Some s) ≡ (read_entries s >>= entries)) → (s : Option Source) → content s ≡ read_inside (shape.named fs) v s
 named_inside fs v entries same content none h None = none
 named_inside fs v entries same content none h (Some s) = h s ∙ same_next (datum.struct_variant v) (read_entries s) entries (fields_by_name fs (read_field fs)) same
+
+-- ---- a newtype
+
+-- its content is read, and the newtype made of it
+pub newtype_permitted : {V : Type 0} (name : Text) (s : Shape) (tells : V → Datum) (reads : Source → Result V Fault → Type 0) → ReadsByShape s tells reads → ReadsByShape (shape.newtype name s) (λ v. datum.newtype_struct name (tells v)) (λ source. After (read_newtype source) reads)
+newtype_permitted name s tells reads h source r a =
+    after (conforms (shape.newtype name s)) Same (λ v. datum.newtype_struct name (tells v)) reads (λ c. into (datum.newtype_struct name) (read s c))
+    (λ c r b. made (conforms s) Same (conforms (shape.newtype name s)) Same tells (datum.newtype_struct name) (λ d k. subst (conforms s) (sym (ap content_in k.1)) k.2) (λ d e same. (e, refl, same)) (read s c) r (h c r b))
+    (read_newtype source) r a
+  where
+    content_in : Datum → Datum
+    content_in (datum.newtype_struct other d) = d
+    content_in d = d

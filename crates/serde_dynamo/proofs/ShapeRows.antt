@@ -9,7 +9,7 @@ user_is_clear = record { nearly = (refl, tt, (refl, tt, (refl, tt, tt))); none_n
 event_is_clear : Clear event_shape
 event_is_clear = record {
   nearly = (refl, tt, (refl, tt, (refl, (tt, (tt, tt)), (refl, (refl, tt, (refl, tt, tt)), tt))));
-  none_nested = (tt, (tt, ((tt, (tt, tt)), ((tt, (tt, tt)), tt))))
+  none_nested = (tt, (tt, ((tt, (tt, tt)), ((tt, (tt, tt)), tt))));
 }
 
 sets_is_clear : Clear sets_shape

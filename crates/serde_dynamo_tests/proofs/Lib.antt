@@ -1,0 +1,2 @@
+pub mod StationFields
+pub mod StationRows

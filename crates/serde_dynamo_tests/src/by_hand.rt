@@ -1,5 +1,9 @@
-//! Types of the forms that a struct can have, read by hand as a user would write them.
-ghost use Rattle.std.specs.Prelude.{codes, string_bytes};
+//! Types of the forms that a struct can have, read by hand as a user would write them, and the shapes of the newtypes.
+ghost use Rattle.std.specs.Prelude.{◌≡◌, codes, string_bytes};
+ghost use Rattle.dynamo_shape.specs.Shape as shape;
+ghost use Rattle.dynamo_shape.proofs.FieldsTold.{newtype_told};
+ghost use Rattle.dynamo_shape.proofs.Scalars.{integer_permitted, integer_told, text_permitted, text_told};
+ghost use Rattle.dynamo_shape.proofs.TypesByHand.{newtype_permitted};
 ghost use Rattle.serde_dynamo.specs.Answer.{After, Gives};
 ghost use Rattle.serde_dynamo.specs.Contents.{read_newtype};
 ghost use Rattle.serde_dynamo.specs.Datum as datum;
@@ -8,6 +12,7 @@ ghost use Rattle.serde_dynamo.specs.Scalars.{read_integer, read_string, read_uni
 ghost use Rattle.serde_dynamo.specs.Visitors.{claims_newtype, claims_unit, take_newtype, take_unit};
 
 use crate::kinds::{Name, UnitStruct};
+use serde_dynamo::Shaped;
 use serde_dynamo::de::{Deserialize, Deserializer, Error, Kind, Visitor};
 use serde_dynamo::ser::{Serialize, Serializer};
 use std::alloc::Global;
@@ -89,6 +94,20 @@ impl Deserialize for Name {
     }
 }
 
+impl Shaped for Name {
+    ghost shape = { shape.newtype (codes "Name") shape.string };
+
+    ghost same = { λ m n. string_bytes m.0 ≡ string_bytes n.0 };
+
+    ghost reads_by_shape = { newtype_permitted (codes "Name") shape.string (λ n. datum.string (string_bytes n.0)) _ (text_permitted (λ n. string_bytes n.0)) };
+
+    ghost told_by_value = { newtype_told (codes "Name") shape.string _ _ (text_told (λ n. string_bytes n.0)) };
+
+    fn conforms(&self) {
+        self.0.conforms();
+    }
+}
+
 /// `struct Count(i64)`, a newtype.
 #[derive(Clone, Copy, Debug, Drop, PartialEq, Eq, PartialOrd, Ord, Hash)]
 pub struct Count(pub i64);
@@ -137,5 +156,19 @@ impl Deserialize for Count {
 
     fn deserialize<D: Deserializer>(alloc: Global, deserializer: D) -> Result<Count, D::Error> {
         deserializer.deserialize_newtype_struct("Count", CountVisitor { alloc })
+    }
+}
+
+impl Shaped for Count {
+    ghost shape = { shape.newtype (codes "Count") (shape.integer integers.i64) };
+
+    ghost same = { λ c d. c.0 ≡ d.0 };
+
+    ghost reads_by_shape = { newtype_permitted (codes "Count") (shape.integer integers.i64) (λ c. datum.integer datum.i64 c.0) _ (integer_permitted (λ c. c.0) integers.i64) };
+
+    ghost told_by_value = { newtype_told (codes "Count") (shape.integer integers.i64) _ _ (integer_told (λ c. c.0) integers.i64) };
+
+    fn conforms(&self) {
+        self.0.conforms();
     }
 }

@@ -68,6 +68,7 @@ mod samples;
 mod sequences;
 #[cfg(test)]
 mod sets;
+pub mod shaped_by_hand;
 #[cfg(test)]
 mod show;
 #[cfg(test)]
