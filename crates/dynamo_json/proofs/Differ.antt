@@ -7,10 +7,10 @@ use Rattle.dynamo_value.specs.declared.attribute_value.AttributeValue.{Attribute
 use Rattle.dynamo_value.proofs.Members.{Entry}
 use Rattle.dynamo_json.specs.KeysDiffer.{all_differ, keys_differ, KeysDiffer, ElementsDiffer, EntriesDiffer}
 
-abbrev EachDiffers : List Entry → Type 0
+abbrev pub EachDiffers : List Entry → Type 0
 EachDiffers = AllByRecursion (λ e. KeysDiffer e.1)
 
-pub one_more : (es : List Entry) (e : Entry) → AllByRecursion (λ (e : Entry). KeysDiffer e.1) es → KeysDiffer e.1 → AllByRecursion (λ (e : Entry). KeysDiffer e.1) (es ++ e ∷ [])
+pub one_more : (es : List Entry) (e : Entry) → EachDiffers es → KeysDiffer e.1 → EachDiffers (es ++ e ∷ [])
 one_more [] e h k = (k, tt)
 one_more (d ∷ es) e h k = (h.0, one_more es e h.1 k)
 
@@ -34,9 +34,9 @@ same_keys : (es : List Entry) → keys_of (differ_in es) ≡ keys_of es
 same_keys [] = refl
 same_keys (e ∷ es) = ap (λ ks. e.0 ∷ ks) (same_keys es)
 
-each_differs : (es : List Entry) → AllByRecursion (λ (e : Entry). KeysDiffer e.1) es → list_all (λ e. e.1) (differ_in es) ≡ true
+each_differs : (es : List Entry) → EachDiffers es → list_all (λ e. e.1) (differ_in es) ≡ true
 each_differs [] h = refl
 each_differs (e ∷ es) h = rw (h.0, each_differs es h.1) refl
 
-pub entries_differ : (es : List Entry) → IsDistinct string_eq (keys_of es) → AllByRecursion (λ (e : Entry). KeysDiffer e.1) es → EntriesDiffer es
+pub entries_differ : (es : List Entry) → IsDistinct string_eq (keys_of es) → EachDiffers es → EntriesDiffer es
 entries_differ es d h = rw (each_differs es h, ap all_differ (same_keys es) ∙ distinct (keys_of es) d) refl

@@ -49,4 +49,5 @@ abbrev pub ItemBack : Members → Datum → Type 0
 ItemBack members d = (e : Av) × (written d ≡ Ok e) × (read_item e ≡ Ok members) × (plain d ≡ Ok (item_json members))
 
 abbrev pub EachItemDatumBack : Type 0
-EachItemDatumBack = (members : Members) (d : Datum) → MembersHaveBytes members → ItemInOrder members → ItemTells members d → ItemBack members d
+EachItemDatumBack =
+    (members : Members) (d : Datum) → MembersHaveBytes members → ItemInOrder members → ItemTells members d → ItemBack members d

@@ -6,6 +6,7 @@ use Rattle.dynamo_value.specs.HasBytes.{HasBytes, MembersHaveBytes}
 use Rattle.dynamo_value.specs.View.{view, members_view}
 use Rattle.dynamo_json.specs.Json.{json_of, members_json}
 use Rattle.dynamo_json.specs.KeysDiffer.{KeysDiffer}
+use Rattle.dynamo_json.proofs.Differ.{EachDiffers}
 use Rattle.dynamo_json.proofs.to_json.+write.Given as goal
 
 abbrev pub invariant-array-loop-element : goal.invariant-array-loop-element
@@ -24,5 +25,5 @@ invariant-object-loop-key l =
       rest : l.map.entries ≡ done ++ l.key-iterator;
       json : sj.members_view l.object.entries ≡ members_json (members_view done);
       bytes : MembersHaveBytes (members_view done);
-      keys : AllByRecursion (λ (e : Entry). KeysDiffer e.1) done;
+      keys : EachDiffers done;
     }

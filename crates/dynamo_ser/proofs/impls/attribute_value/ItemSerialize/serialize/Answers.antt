@@ -1,4 +1,5 @@
+use Rattle.std.proofs.Common.{rules}
 use Rattle.dynamo_ser.proofs.impls.attribute_value.ItemSerialize.serialize.Goals as goal
 
 pub returns : goal.returns
-returns g c = rw (← c.inner.ensures) c.serialize.ensures
+returns g c = rw (← c.inner.ensures) (search rules)
