@@ -72,6 +72,8 @@ pub mod shaped_by_hand;
 #[cfg(test)]
 mod show;
 #[cfg(test)]
+mod stations;
+#[cfg(test)]
 mod struct_forms;
 #[cfg(test)]
 mod struct_rows;
