@@ -1,5 +1,5 @@
-//! Reads its input to the end as one JSON text, and prints whether it is one. `bench/check_speed` times it beside `check`,
-//! which reads the same value first.
+//! Reads its input to the end as one JSON text, and prints whether it is one. `bench/speed` times it beside the words,
+//! which read the same value first.
 #![tactic(auto)]
 
 use serde_json::Value;
