@@ -79,6 +79,7 @@ texts_written (t ∷ ts) = rw (texts_written ts) refl
 
 mutual
   unfolding form forms entry_forms
+
   is_written : (a : Av) → InOrder a → WritesAs (json_of a) (form a)
   is_written (av.N text) o = refl
   is_written (av.S text) o = refl
@@ -120,6 +121,7 @@ collected_again ms sorted = ap av.members_of (collect-sorted (entries ms) sorted
 
 mutual
   unfolding form forms entry_forms
+
   is_read : (a : Av) → HasBytes a → InOrder a → read_attribute (form a) ≡ Ok a
   is_read (av.N text) h o = refl
   is_read (av.S text) h o = refl

@@ -52,9 +52,9 @@ module _ {A : Type 0} where
       → OutOf es f others → eq_by_cmp text_cmp t f.0 ≡ false → Fresh t others → Fresh t es
   fresh_out t [] f others w h k = absurd w
   fresh_out t (e ∷ es) f others w h k = elim w [
-      | inl x ↦ (ap (λ y. eq_by_cmp text_cmp t y.0) x.0 ∙ h, subst (Fresh t) x.1 k)
-      | inr y ↦ let g = subst (Fresh t) y.1 k in (g.0, fresh_out t es f y.0 y.2 h g.1)
-    ]
+    | inl x ↦ (ap (λ y. eq_by_cmp text_cmp t y.0) x.0 ∙ h, subst (Fresh t) x.1 k)
+    | inr y ↦ let g = subst (Fresh t) y.1 k in (g.0, fresh_out t es f y.0 y.2 h g.1)
+  ]
 
   fresh_below : (t : List ℕ) (fs es : List (List ℕ × A)) → T (below_all text_cmp t fs) → AnyOrder fs es → Fresh t es
   fresh_below t [] es h k = subst (Fresh t) (sym k) tt
@@ -63,18 +63,18 @@ module _ {A : Type 0} where
   last_here : (q : List ℕ) (f : List ℕ × A) (es : List (List ℕ × A)) (o : Option A) → Fresh f.0 es
       → last q es (cond (eq_by_cmp text_cmp q f.0) (Some f.1) o) ≡ cond (eq_by_cmp text_cmp q f.0) (Some f.1) (last q es o)
   last_here q f es o h = elim (eq_by_cmp text_cmp q f.0) as (λ b. eq_by_cmp text_cmp q f.0 ≡ b → last q es (cond b (Some f.1) o) ≡ cond b (Some f.1) (last q es o)) [
-      | true ↦ λ e. last_fresh q es (Some f.1) (subst (λ t. Fresh t es) (sym (same_text q f.0 e)) h)
-      | false ↦ λ e. refl
-    ] refl
+    | true ↦ λ e. last_fresh q es (Some f.1) (subst (λ t. Fresh t es) (sym (same_text q f.0 e)) h)
+    | false ↦ λ e. refl
+  ] refl
 
   last_out : (q : List ℕ) (es : List (List ℕ × A)) (f : List ℕ × A) (others : List (List ℕ × A)) (o : Option A)
       → OutOf es f others → Fresh f.0 others → last q es o ≡ cond (eq_by_cmp text_cmp q f.0) (Some f.1) (last q others o)
   last_out q [] f others o w h = absurd w
   last_out q (e ∷ es) f others o w h = elim w [
-      | inl x ↦ ap (λ y. last q es (cond (eq_by_cmp text_cmp q y.0) (Some y.1) o)) x.0
-      ∙ last_here q f es o (subst (Fresh f.0) x.1 h) ∙ ap (λ r. cond (eq_by_cmp text_cmp q f.0) (Some f.1) (last q r o)) (sym x.1)
-      | inr y ↦ last_out q es f y.0 _ y.2 (subst (Fresh f.0) y.1 h).1 ∙ ap (λ r. cond (eq_by_cmp text_cmp q f.0) (Some f.1) (last q r o)) (sym y.1)
-    ]
+    | inl x ↦ ap (λ y. last q es (cond (eq_by_cmp text_cmp q y.0) (Some y.1) o)) x.0
+        ∙ last_here q f es o (subst (Fresh f.0) x.1 h) ∙ ap (λ r. cond (eq_by_cmp text_cmp q f.0) (Some f.1) (last q r o)) (sym x.1)
+    | inr y ↦ last_out q es f y.0 _ y.2 (subst (Fresh f.0) y.1 h).1 ∙ ap (λ r. cond (eq_by_cmp text_cmp q f.0) (Some f.1) (last q r o)) (sym y.1)
+  ]
 
   pub collect_order : (fs es : List (List ℕ × A)) → T (is_sorted text_cmp fs) → AnyOrder fs es → collect es ≡ fs
   collect_order [] es s h = ap collect h

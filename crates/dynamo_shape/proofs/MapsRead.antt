@@ -101,7 +101,7 @@ module _ {K V : Type 0} (eq : K → K → Bool) (tk : K → Datum) (tv : V → D
       ] in
       λ i. cond (tests i) (Some e.1) (same_lookup q r h es i)
 
--- ---- entry by entry
+  -- ---- entry by entry
 
   -- whatever is found later, something is found
   stays : (xs : List (K × V)) (f : K → Option V) (q : K) (v : V) → f q ≡ Some v → (w : V) × (update_all eq f xs q ≡ Some w)
@@ -232,4 +232,3 @@ module _ {K V : Type 0} (eq : K → K → Bool) (tk : K → Datum) (tv : V → D
     map_permitted {M} entries get gets source r a =
         subst (λ x. Answers (conforms (shape.map k s)) Same (λ m. datum.map (told (entries m))) x r) (sym (in_turn (read_entries source) (read_pairs (read k) (read s) no_pairs) (λ ps. answer.value (datum.map ps))))
         (after (conforms (shape.map k s)) Same (λ m. datum.map (told (entries m))) (ReadsMap get eq keys values) (λ es. read_pairs (read k) (read s) no_pairs es >>= λ ps. answer.value (datum.map ps)) (map_answered entries get gets) (read_entries source) r a)
-

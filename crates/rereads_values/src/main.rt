@@ -2,9 +2,7 @@
 //! and prints what came of it. `bench/speed` times it.
 #![tactic(auto)]
 
-use serde_dynamo::{
-    AttributeValue, DynamoJson, Result, from_attribute_value, to_attribute_value,
-};
+use serde_dynamo::{AttributeValue, DynamoJson, Result, from_attribute_value, to_attribute_value};
 use serde_json::Value;
 use std::alloc::Global;
 use std::io::{self, Read};

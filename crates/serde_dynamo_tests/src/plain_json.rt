@@ -135,7 +135,12 @@ fn a_user_is_the_same_both_ways(rt: HostRuntime) -> Result<(), Fail> {
         name: String::from_str(alloc, "Arthur Dent")?,
         age: 42,
     };
-    plain_is(&rt, alloc, &user, r#"{"age":42,"id":"x","name":"Arthur Dent"}"#)?;
+    plain_is(
+        &rt,
+        alloc,
+        &user,
+        r#"{"age":42,"id":"x","name":"Arthur Dent"}"#,
+    )?;
     let expected = r#"M {"age": N "42", "id": S "x", "name": S "Arthur Dent"}"#;
     writes(&rt, alloc, user, expected)
 }

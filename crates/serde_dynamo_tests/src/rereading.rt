@@ -1,9 +1,7 @@
 use crate::kinds::Name;
 use crate::reading::reads;
 use crate::show;
-use serde_dynamo::{
-    ByteBuf, Shaped, StringSet, from_attribute_value, reread, to_attribute_value,
-};
+use serde_dynamo::{ByteBuf, Shaped, StringSet, from_attribute_value, reread, to_attribute_value};
 use std::alloc::Global;
 use std::collections::{BTreeMap, HashMap};
 use std::fmt::Debug;
@@ -56,9 +54,19 @@ fn a_map_is_reread(rt: HostRuntime) -> Result<(), Fail> {
 fn an_option_of_an_option_loses_the_inner_none(rt: HostRuntime) -> Result<(), Fail> {
     let alloc = rt.alloc();
     let some_none: Option<Option<u8>> = Some(None);
-    rereads(&rt, alloc, some_none, ("Null(true)", r#"{"NULL":true}"#, "None"))?;
+    rereads(
+        &rt,
+        alloc,
+        some_none,
+        ("Null(true)", r#"{"NULL":true}"#, "None"),
+    )?;
     let some: Option<Option<u8>> = Some(Some(1));
-    rereads(&rt, alloc, some, (r#"N "1""#, r#"{"N":"1"}"#, "Some(Some(1))"))
+    rereads(
+        &rt,
+        alloc,
+        some,
+        (r#"N "1""#, r#"{"N":"1"}"#, "Some(Some(1))"),
+    )
 }
 
 #[test]
@@ -67,7 +75,12 @@ fn each_shape_of_the_library_is_reread(rt: HostRuntime) -> Result<(), Fail> {
     let most = "340282366920938463463374607431768211455";
     let written = format!(in alloc; "N \"{most}\"")?;
     let json = format!(in alloc; "{{\"N\":\"{most}\"}}")?;
-    rereads(&rt, alloc, u128::MAX, (written.as_str(), json.as_str(), most))?;
+    rereads(
+        &rt,
+        alloc,
+        u128::MAX,
+        (written.as_str(), json.as_str(), most),
+    )?;
     gives_back(&rt, alloc, false)?;
     gives_back(&rt, alloc, i8::MIN)?;
     gives_back(&rt, alloc, i16::MIN)?;

@@ -23,7 +23,12 @@ fn an_event_is_reread(rt: HostRuntime) -> Result<(), Fail> {
     let written = r#"M {"Structy": M {"one": N "1", "two": N "2"}}"#;
     let json = r#"{"M":{"Structy":{"M":{"one":{"N":"1"},"two":{"N":"2"}}}}}"#;
     let structy = Event::Structy { one: 1, two: 2 };
-    rereads(&rt, alloc, structy, (written, json, "Structy { one: 1, two: 2 }"))?;
+    rereads(
+        &rt,
+        alloc,
+        structy,
+        (written, json, "Structy { one: 1, two: 2 }"),
+    )?;
     gives_back(&rt, alloc, Event::Unit)?;
     gives_back(&rt, alloc, Event::Newtype(255))?;
     gives_back(&rt, alloc, Event::Tuple(0, 7))
@@ -33,12 +38,19 @@ fn an_event_is_reread(rt: HostRuntime) -> Result<(), Fail> {
 fn three_sets_are_reread(rt: HostRuntime) -> Result<(), Fail> {
     let alloc = rt.alloc();
     let sets = Sets {
-        names: vec![in alloc; String::from_str(alloc, "John")?, String::from_str(alloc, "Jane")?]?,
+        names: vec![in alloc;
+            String::from_str(alloc, "John")?,
+            String::from_str(alloc, "Jane")?,
+        ]?,
         numbers: vec![in alloc; 14, 25, 32]?,
-        blobs: vec![in alloc; ByteBuf::from(vec![in alloc; 104, 101, 108, 108, 111]?), ByteBuf::from(vec![in alloc; 119, 111, 114, 108, 100]?)]?,
+        blobs: vec![in alloc;
+            ByteBuf::from(vec![in alloc; 104, 101, 108, 108, 111]?),
+            ByteBuf::from(vec![in alloc; 119, 111, 114, 108, 100]?),
+        ]?,
     };
     let (_, json, read) = reread(alloc, &sets)?;
-    let expected = r#"{"M":{"blobs":{"BS":["aGVsbG8=","d29ybGQ="]},"names":{"SS":["John","Jane"]},"numbers":{"NS":["14","25","32"]}}}"#;
+    let expected =
+        r#"{"M":{"blobs":{"BS":["aGVsbG8=","d29ybGQ="]},"names":{"SS":["John","Jane"]},"numbers":{"NS":["14","25","32"]}}}"#;
     assert_eq!(rt; json.to_string(alloc)?.as_str(), expected);
     assert!(rt; read == sets);
     Ok(())
