@@ -6,7 +6,6 @@ use Rattle.std.specs.Prelude.{Bool, ⊤, ◌||◌, is_ok}
 use Rattle.std.proofs.lemmas.Bool.{or_parts, true≢false}
 use Rattle.serde_json.specs.Data as json
 use Rattle.serde_json.specs.Data.{Data, put}
-use Rattle.serde_json.specs.Find.{of_integer}
 use Rattle.serde_json.specs.View.{items_of, view}
 use Rattle.serde_json.specs.declared.value.Value.{Value}
 use Rattle.serde_json.specs.Written.{has_float, items_have_float, members_have_float}

@@ -1,4 +1,4 @@
-use Rattle.std.proofs.Common.{◌≡◌, false, Ok, string_bytes, refl, inl, inr}
+use Rattle.std.proofs.Common.{◌≡◌, false, Ok, string_bytes, inl, inr}
 use Rattle.serde_json.specs.Written.{has_float}
 use Rattle.serde_json.specs.View.{view}
 use Rattle.dynamo_value.specs.View as av

@@ -1,5 +1,4 @@
-use Rattle.std.proofs.Common.{◌≡◌, false, string_bytes, refl}
-use Rattle.serde_json.specs.Written.{has_float}
+use Rattle.std.proofs.Common.{◌≡◌, string_bytes}
 use Rattle.serde_json.specs.View.{view}
 use Rattle.dynamo_value.specs.View as av
 use Rattle.dynamo_de.specs.Answer.{value}
