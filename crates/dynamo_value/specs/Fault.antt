@@ -17,7 +17,7 @@ abbrev pub float_cause : List ℕ → List ℕ
 float_cause [] = codes "cannot parse float from empty string"
 float_cause (b ∷ bs) = codes "invalid float literal"
 
--- The printed text. That of a failed integer text ends with the standard library's cause, of which nothing is claimed.
+-- The printed text. That of a failed integer text ends with its cause, which no fault holds: the text of the error says it.
 abbrev pub printed : Fault → Option (List ℕ)
 printed (message text) = Some text
 printed not_maplike = Some (codes "Not a map-like object")

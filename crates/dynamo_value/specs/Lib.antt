@@ -7,6 +7,7 @@ pub mod HasBytes
 pub mod Integer
 pub mod Item
 pub mod Kind
+pub mod KindText
 pub mod Prefix
 pub mod PrefixView
 pub mod Refusal

@@ -1,11 +1,13 @@
 ghost use Rattle.std.specs.Prelude.{◌≡◌};
-ghost use Rattle.dynamo_value.specs.Fault.{out_of_memory, printed, float_cause};
+ghost use Rattle.std.specs.Str.Parse.{error_kind};
+ghost use Rattle.dynamo_value.specs.Fault.{out_of_memory, float_cause};
 ghost use Rattle.dynamo_value.specs.Kind.{fault_of};
+ghost use Rattle.dynamo_value.specs.KindText.{kind_text, integer_cause};
 
 use std::alloc::{AllocError, AllocFailed};
 use std::fmt;
 use std::marker::Model;
-use std::num::ParseIntError;
+use std::num::{IntErrorKind, ParseIntError};
 
 /// What writing or reading answers: a value, or an [`Error`].
 pub type Result<T, E = Error> = std::result::Result<T, E>;
@@ -138,7 +140,7 @@ impl<T: Drop> From<AllocFailed<T>> for Error {
 }
 
 impl fmt::Display for Error {
-    ghost output = { λ e. printed (fault_of e) };
+    ghost output = { kind_text };
 
     fn fmt<W: fmt::Write>(&self, f: &mut fmt::Formatter<W>) -> fmt::Result {
         fmt::Display::fmt(&self.kind, f)
@@ -146,7 +148,7 @@ impl fmt::Display for Error {
 }
 
 impl fmt::Display for ErrorImpl {
-    ghost output = { λ k. printed (fault_of k) };
+    ghost output = { kind_text };
 
     fn fmt<W: fmt::Write>(&self, f: &mut fmt::Formatter<W>) -> fmt::Result {
         match self {
@@ -165,6 +167,7 @@ impl fmt::Display for ErrorImpl {
             ErrorImpl::ExpectedBytes => f.write_str("Expected binary data"),
             ErrorImpl::ExpectedSingleKey => f.write_str("Expected an item with a single key"),
             ErrorImpl::FailedToParseInt(text, cause) => {
+                let cause = why_no_integer(cause);
                 write!(f, "Failed to parse '{text}' as an integer: {cause}")
             }
             ErrorImpl::FailedToParseFloat(text) => {
@@ -192,6 +195,19 @@ impl fmt::Display for ErrorImpl {
                 f.write_str("MapAccess::next_value called before MapAccess::next_key")
             }
         }
+    }
+}
+
+// What Rust's `ParseIntError` prints.
+fn why_no_integer(cause: &ParseIntError) -> &'static str
+    ensures { result.now ≡ integer_cause (error_kind cause.now) }
+{
+    match cause.kind() {
+        IntErrorKind::Empty => "cannot parse integer from empty string",
+        IntErrorKind::InvalidDigit => "invalid digit found in string",
+        IntErrorKind::PosOverflow => "number too large to fit in target type",
+        IntErrorKind::NegOverflow => "number too small to fit in target type",
+        IntErrorKind::Zero => "number would be zero for non-zero type",
     }
 }
 
