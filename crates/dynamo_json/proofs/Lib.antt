@@ -21,4 +21,5 @@ pub mod TellsSome
 pub mod Texts
 pub mod Told
 pub mod ViewOrder
+pub mod WithoutFloats
 pub mod Written

@@ -6,10 +6,12 @@ mod from_json;
 mod plain;
 mod to_json;
 mod via_json;
+mod without_floats;
 
 pub use dynamo::DynamoJson;
 pub use plain::to_json_value;
 pub use via_json::to_attribute_value_via_json;
+pub use without_floats::is_without_floats;
 
 #[cfg(test)]
 mod tests;
