@@ -2,6 +2,7 @@ pub mod EventContent
 pub mod InOrder
 pub mod MapsOfItems
 pub mod ReadBack
+pub mod SamplesEqual
 pub mod Rows
 pub mod SetsFields
 pub mod ShapeRows

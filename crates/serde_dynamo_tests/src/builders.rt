@@ -1,7 +1,7 @@
 use crate::refuses::Refuses;
 use crate::show;
 use serde_dynamo::ser::SerializeMap;
-use serde_dynamo::{Result, SerializerMap};
+use serde_dynamo::{ErrorImpl, Result, SerializerMap, Text};
 use std::alloc::{AllocError, Global};
 use std::collections::BTreeMap;
 use std::test::Fail;
@@ -113,6 +113,21 @@ fn each_sequence_of_four_calls_follows_the_rules(rt: HostRuntime) -> std::result
         let answer = show::answer(alloc, &map.end())?;
         assert_eq!(rt; answer, rules.end(alloc)?, "sequence {sequence}");
     }
+    Ok(())
+}
+
+#[test]
+fn a_second_key_is_refused_and_the_first_goes_on_waiting(
+    rt: HostRuntime,
+) -> std::result::Result<(), Fail> {
+    let alloc = rt.alloc();
+    let mut map = SerializerMap::new(alloc, None);
+    map.serialize_key(&Text::new("a"))?;
+    let second = map.serialize_key(&Text::new("b"));
+    assert!(rt; matches!(&second, Err(e) if *e.kind() == ErrorImpl::SerializeMapKeyCalledTwice));
+    map.serialize_value(&1_u8)?;
+    let answer = show::answer(alloc, &map.end())?;
+    assert_eq!(rt; answer.as_str(), r#"M {"a": N "1"}"#);
     Ok(())
 }
 

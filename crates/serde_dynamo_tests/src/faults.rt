@@ -1,5 +1,6 @@
 use serde_dynamo::{Error, ErrorImpl};
 use std::alloc::Global;
+use std::num::{NonZeroU8, ParseIntError};
 use std::process::Abort;
 use std::test::Fail;
 
@@ -94,13 +95,6 @@ fn kinds_with_contents_print_them(rt: HostRuntime) -> Result<(), Fail> {
         "the queue is closed",
     )?;
 
-    let Err(cause) = "256".parse::<u8>() else {
-        return Err(Fail::from("256 is a u8"));
-    };
-    let text = String::from_str(alloc, "256")?;
-    let int = "Failed to parse '256' as an integer: number too large to fit in target type";
-    prints(&rt, alloc, ErrorImpl::FailedToParseInt(text, cause), int)?;
-
     let float = "Failed to parse '1e' as a float: invalid float literal";
     let text = String::from_str(alloc, "1e")?;
     prints(&rt, alloc, ErrorImpl::FailedToParseFloat(text), float)?;
@@ -111,6 +105,54 @@ fn kinds_with_contents_print_them(rt: HostRuntime) -> Result<(), Fail> {
         ErrorImpl::FailedToParseFloat(String::new(alloc)),
         empty,
     )
+}
+
+#[test]
+fn a_failed_integer_text_is_printed_with_its_cause(rt: HostRuntime) -> Result<(), Fail> {
+    let alloc = rt.alloc();
+    no_byte(&rt, alloc, "", "cannot parse integer from empty string")?;
+    no_byte(&rt, alloc, "seven", "invalid digit found in string")?;
+    no_byte(&rt, alloc, "256", "number too large to fit in target type")?;
+    let Err(cause) = "-129".parse::<i8>() else {
+        return Err(Fail::from("-129 is an i8"));
+    };
+    fails(
+        &rt,
+        alloc,
+        "-129",
+        cause,
+        "number too small to fit in target type",
+    )?;
+    let Err(cause) = "0".parse::<NonZeroU8>() else {
+        return Err(Fail::from("0 is not zero"));
+    };
+    fails(
+        &rt,
+        alloc,
+        "0",
+        cause,
+        "number would be zero for non-zero type",
+    )
+}
+
+// The text is no byte, and the error prints it with this cause.
+fn no_byte(rt: &impl Abort, alloc: Global, text: &str, why: &str) -> Result<(), Fail> {
+    match text.parse::<u8>() {
+        Err(cause) => fails(rt, alloc, text, cause, why),
+        Ok(_) => Err(Fail::from("the text is a byte")),
+    }
+}
+
+fn fails(
+    rt: &impl Abort,
+    alloc: Global,
+    text: &str,
+    cause: ParseIntError,
+    why: &str,
+) -> Result<(), Fail> {
+    let kind = ErrorImpl::FailedToParseInt(String::from_str(alloc, text)?, cause);
+    let printed = format!(in alloc; "Failed to parse '{text}' as an integer: {why}")?;
+    prints(rt, alloc, kind, printed.as_str())
 }
 
 #[test]

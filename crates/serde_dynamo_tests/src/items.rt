@@ -1,3 +1,4 @@
+use crate::notation;
 use serde_dynamo::{AttributeValue, ByteBuf, Bytes, Item, Items, Text};
 use std::alloc::Global;
 use std::collections::HashMap;
@@ -63,5 +64,36 @@ fn byte_strings_and_texts_lend_what_they_hold(rt: HostRuntime) -> Result<(), Fai
     assert!(rt; one < two);
     assert_eq!(rt; one.as_slice(), [1, 2].as_slice());
     assert_eq!(rt; two.into_vec().as_slice(), [1, 3].as_slice());
+    Ok(())
+}
+
+#[test]
+fn attribute_values_and_items_have_a_debug_text(rt: HostRuntime) -> Result<(), Fail> {
+    let alloc = rt.alloc();
+    for (source, text) in [
+        (r#"N "1""#, r#"N("1")"#),
+        (r#"S "a""#, r#"S("a")"#),
+        ("Bool(true)", "Bool(true)"),
+        ("B [1, 2]", "B([1, 2])"),
+        ("Null(false)", "Null(false)"),
+        (r#"M {"a": N "1"}"#, r#"M({"a": N("1")})"#),
+        (r#"L [Null(true), L []]"#, "L([Null(true), L([])])"),
+        (r#"Ss ["a"]"#, r#"Ss(["a"])"#),
+        (r#"Ns ["1", "2"]"#, r#"Ns(["1", "2"])"#),
+        ("Bs [[1], []]", "Bs([[1], []])"),
+    ] {
+        let value = notation::value(alloc, source)?;
+        assert_eq!(rt; format!(in alloc; "{value:?}")?.as_str(), text);
+    }
+    let item = Item::from(number(alloc, "n", "1")?);
+    assert_eq!(rt;
+        format!(in alloc; "{item:?}")?.as_str(),
+        r#"Item { map: {"n": N("1")} }"#
+    );
+    let items = Items::from(vec![in alloc; number(alloc, "n", "1")?]?);
+    assert_eq!(rt;
+        format!(in alloc; "{items:?}")?.as_str(),
+        r#"Items { maps: [{"n": N("1")}] }"#
+    );
     Ok(())
 }

@@ -1,6 +1,7 @@
 use crate::notation;
+use crate::own_types::json_value_and_back;
 use crate::reading::fault;
-use serde_dynamo::{Result, from_attribute_value, to_attribute_value};
+use serde_dynamo::{Result, from_attribute_value, is_without_floats};
 use serde_json::Value;
 use std::alloc::Global;
 use std::test::Fail;
@@ -67,9 +68,22 @@ fn a_json_value_reads_what_json_has_a_form_for(rt: HostRuntime) -> std::result::
 fn a_json_value_reads_back(rt: HostRuntime) -> std::result::Result<(), Fail> {
     let alloc = rt.alloc();
     for text in WRITTEN {
-        let written = to_attribute_value(alloc, Value::from_str(alloc, text)?)?;
-        let read = from_attribute_value(alloc, written);
+        let json = Value::from_str(alloc, text)?;
+        assert!(rt; is_without_floats(&json), "{text}");
+        let read = json_value_and_back(alloc, &json);
         assert_eq!(rt; text_of(alloc, read)?.as_str(), text);
+    }
+    Ok(())
+}
+
+#[test]
+fn a_float_is_found_at_any_depth_and_refused(rt: HostRuntime) -> std::result::Result<(), Fail> {
+    let alloc = rt.alloc();
+    for text in ["1.5", "[1,2,-1e3]", r#"{"a":1,"b":{"c":[null,0.1]}}"#] {
+        let json = Value::from_str(alloc, text)?;
+        assert!(rt; !is_without_floats(&json), "{text}");
+        let read = json_value_and_back(alloc, &json);
+        assert_eq!(rt; text_of(alloc, read)?.as_str(), "a message", "{text}");
     }
     Ok(())
 }

@@ -2,7 +2,9 @@
 ghost use Rattle.std.specs.Prelude.{codes, string_bytes};
 ghost use Rattle.serde_dynamo.specs.Datum as datum;
 
-use serde_dynamo::ser::{Serialize, SerializeStruct, SerializeTupleStruct, Serializer};
+use serde_dynamo::ser::{
+    Serialize, SerializeMap, SerializeStruct, SerializeTupleStruct, Serializer,
+};
 
 /// `struct UnitStruct;`.
 #[derive(Clone, Copy, Debug, Drop, PartialEq, Eq, Hash)]
@@ -29,6 +31,20 @@ impl Serialize for Empty {
 
     fn serialize<S: Serializer>(&self, serializer: S) -> Result<S::Ok, S::Error> {
         serializer.serialize_struct("Empty", 0)?.end()
+    }
+}
+
+/// A value that writes as a map without entries.
+#[derive(Clone, Copy, PartialEq, Eq, Hash)]
+pub struct EmptyMap {}
+
+impl Serialize for EmptyMap {
+    ghost tells = { λ _. datum.map datum.no_pairs };
+
+    ghost wants = { λ _. ⊥ };
+
+    fn serialize<S: Serializer>(&self, serializer: S) -> Result<S::Ok, S::Error> {
+        serializer.serialize_map(Some(0))?.end()
     }
 }
 

@@ -82,6 +82,8 @@ mod teller;
 #[cfg(test)]
 mod tree;
 #[cfg(test)]
+mod valued;
+#[cfg(test)]
 mod values;
 #[cfg(test)]
 mod variants;

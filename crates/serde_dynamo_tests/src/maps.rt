@@ -1,9 +1,10 @@
-use crate::kinds::{Empty, Name, Pair, UnitStruct};
+use crate::by_hand::Count;
+use crate::kinds::{Empty, EmptyMap, Name, Pair, UnitStruct};
 use crate::refuses::Refuses;
 use crate::writing::writes;
 use serde_dynamo::samples::Event;
 use serde_dynamo::ser::Serialize;
-use serde_dynamo::{ByteBuf, Text};
+use serde_dynamo::{ByteBuf, NumberSet, Text};
 use std::alloc::Global;
 use std::collections::{BTreeMap, HashMap};
 use std::hash::Hash;
@@ -58,6 +59,9 @@ fn keys_write_as_texts(rt: HostRuntime) -> Result<(), Fail> {
     key_writes(&rt, alloc, 5_u32, r#"M {"5": N "1"}"#)?;
     key_writes(&rt, alloc, 5_u64, r#"M {"5": N "1"}"#)?;
     key_writes(&rt, alloc, 5_u128, r#"M {"5": N "1"}"#)?;
+    key_writes(&rt, alloc, 5_i128, r#"M {"5": N "1"}"#)?;
+    key_writes(&rt, alloc, Count(5), r#"M {"5": N "1"}"#)?;
+    key_writes(&rt, alloc, NumberSet(5_u8), r#"M {"5": N "1"}"#)?;
     key_writes(&rt, alloc, 'a', r#"M {"a": N "1"}"#)?;
     key_writes(&rt, alloc, Event::Unit, r#"M {"Unit": N "1"}"#)?;
     key_writes(
@@ -81,6 +85,8 @@ fn what_has_no_text_is_no_key(rt: HostRuntime) -> Result<(), Fail> {
     key_writes(&rt, alloc, Some(text()?), refused)?;
     key_writes(&rt, alloc, UnitStruct, refused)?;
     key_writes(&rt, alloc, Empty {}, refused)?;
+    key_writes(&rt, alloc, EmptyMap {}, refused)?;
+    key_writes(&rt, alloc, NumberSet(vec![in alloc; 1_u8]?), refused)?;
     key_writes(&rt, alloc, (1_u8, 2_u8), refused)?;
     key_writes(&rt, alloc, Pair(text()?, text()?), refused)?;
     key_writes(&rt, alloc, Event::Newtype(5), refused)?;

@@ -1,14 +1,15 @@
 //! Attribute values and items where a value of a program's own type may stand.
-ghost use Rattle.std.specs.Prelude.{◌≡◌, IfOk, IfErr};
+ghost use Rattle.std.specs.Prelude.{◌≡◌, false, IfOk, IfErr};
 ghost use Rattle.serde_dynamo.specs.Fault.{out_of_memory};
 ghost use Rattle.serde_dynamo.specs.Item.{item_view};
 ghost use Rattle.serde_dynamo.specs.Kind.{fault_of};
 ghost use Rattle.serde_dynamo.specs.View as av;
 ghost use Rattle.serde_json.specs.View.{view};
+ghost use Rattle.serde_json.specs.Written.{has_float};
 
 use serde_dynamo::{
-    AttributeValue, DynamoJson, Item, Result, from_attribute_value, laws, to_attribute_value,
-    to_json_value,
+    AttributeValue, DynamoJson, Item, Result, from_attribute_value, is_without_floats, laws,
+    to_attribute_value, to_json_value,
 };
 use serde_json::Value;
 use std::alloc::Global;
@@ -43,6 +44,21 @@ pub fn json_and_back(alloc: Global, value: &AttributeValue) -> Result<(Value, At
     let written = to_attribute_value(alloc, value)?;
     let read: AttributeValue = from_attribute_value(alloc, written)?;
     Ok((json, read))
+}
+
+/// What is read of what a JSON value writes. Where it holds no float, that is the JSON value again.
+///
+/// # Errors
+///
+/// Where it holds no float, `OutOfMemory` alone.
+pub fn json_value_and_back(alloc: Global, value: &Value) -> Result<Value>
+    ensures back { IfOk result (λ v. has_float (view value.now) ≡ false → view v ≡ view value.now) }
+    ensures err { IfErr result (λ e. has_float (view value.now) ≡ false → fault_of e ≡ out_of_memory) }
+{
+    laws::json_value();
+    let _no_float = is_without_floats(value);
+    let written = to_attribute_value(alloc, value)?;
+    from_attribute_value(alloc, written)
 }
 
 /// The DynamoDB JSON of an item, and what is read of what it writes: the item again.

@@ -2,7 +2,7 @@ use crate::show;
 use crate::writing::writes;
 use serde_dynamo::samples::{Event, Sets, User};
 use serde_dynamo::ser::Serialize;
-use serde_dynamo::{to_attribute_value_via_json, to_json_value};
+use serde_dynamo::{ByteBuf, StringSet, Text, to_attribute_value_via_json, to_json_value};
 use std::alloc::Global;
 use std::process::Abort;
 use std::test::Fail;
@@ -41,6 +41,22 @@ fn events_are_plain_json(rt: HostRuntime) -> Result<(), Fail> {
     plain_is(&rt, alloc, Event::Tuple(1, 2), r#"{"Tuple":[1,2]}"#)?;
     let structy = Event::Structy { one: 1, two: 2 };
     plain_is(&rt, alloc, structy, r#"{"Structy":{"one":1,"two":2}}"#)
+}
+
+#[test]
+fn byte_strings_and_sets_are_lists_by_json(rt: HostRuntime) -> Result<(), Fail> {
+    let alloc = rt.alloc();
+    let bytes = ByteBuf::from(vec![in alloc; 1, 2]?);
+    let written = to_attribute_value_via_json(alloc, bytes)?;
+    assert_eq!(rt;
+        show::value(alloc, &written)?.as_str(),
+        r#"L [N "1", N "2"]"#
+    );
+
+    let texts = StringSet(vec![in alloc; Text::new("a")]?);
+    let written = to_attribute_value_via_json(alloc, texts)?;
+    assert_eq!(rt; show::value(alloc, &written)?.as_str(), r#"L [S "a"]"#);
+    Ok(())
 }
 
 #[test]

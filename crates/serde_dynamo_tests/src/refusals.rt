@@ -7,8 +7,11 @@ use crate::reading::{agrees, fault};
 use crate::request_rows::{INSIDE, VALUES};
 use crate::requests::{REQUESTS, ask_source, expected};
 use serde_dynamo::de::{Deserialize, Deserializer, Kind, Visitor};
-use serde_dynamo::{ErrorImpl, from_attribute_value};
+use serde_dynamo::samples::{Event, Sets, User};
+use serde_dynamo::{AttributeValue, ErrorImpl, Item, from_attribute_value};
+use serde_json::Value;
 use std::alloc::Global;
+use std::collections::{BTreeMap, HashMap};
 use std::process::Abort;
 use std::test::Fail;
 
@@ -120,7 +123,26 @@ fn the_types_of_the_library_tell_what_they_expect(rt: HostRuntime) -> Result<(),
     let numbers = r#"Ns ["1.5"]"#;
     expects::<Vec<String>>(&rt, alloc, numbers, ", expected a string")?;
     expects::<Vec<char>>(&rt, alloc, numbers, ", expected a character")?;
-    expects::<Vec<serde_dynamo::ByteBuf>>(&rt, alloc, numbers, ", expected byte array")
+    expects::<Vec<serde_dynamo::ByteBuf>>(&rt, alloc, numbers, ", expected byte array")?;
+    expects::<Vec<(u8, u8)>>(&rt, alloc, texts, ", expected a tuple of 2 elements")?;
+    expects::<Vec<(u8, u8, u8)>>(&rt, alloc, texts, ", expected a tuple of 3 elements")?;
+    expects::<Vec<(u8, u8, u8, u8)>>(&rt, alloc, texts, ", expected a tuple of 4 elements")?;
+    expects::<Vec<HashMap<u8, u8>>>(&rt, alloc, texts, ", expected a map")?;
+    expects::<Vec<BTreeMap<u8, u8>>>(&rt, alloc, texts, ", expected a map")?;
+    expects::<Value>(&rt, alloc, "B [1]", ", expected any valid JSON value")?;
+    let single =
+        r#", expected an object with a single key "N", "S", "BOOL", "B", "NULL", "M", "L", "SS", "NS", or "BS""#;
+    expects::<Vec<AttributeValue>>(&rt, alloc, texts, single)?;
+    expects::<Vec<Item>>(&rt, alloc, texts, ", expected a map of attribute values")
+}
+
+#[test]
+fn the_samples_tell_what_they_expect(rt: HostRuntime) -> Result<(), Fail> {
+    let alloc = rt.alloc();
+    let texts = r#"Ss ["a"]"#;
+    expects::<Vec<User>>(&rt, alloc, texts, ", expected struct User")?;
+    expects::<Vec<Sets>>(&rt, alloc, texts, ", expected struct Sets")?;
+    expects::<Vec<Event>>(&rt, alloc, "Bs [[1]]", ", expected enum Event")
 }
 
 #[test]

@@ -1,13 +1,17 @@
-// A type that holds itself, through a box and through a list, is written by the library's own implementations of these.
+// A type that holds itself, through a box and through a list, is written by the library's own implementations of these. It is
+// read by the small calls of a reader.
 ghost use Rattle.std.specs.Prelude.{pos};
 ghost use Rattle.serde_dynamo.specs.Datum as datum;
 ghost use Rattle.serde_dynamo.specs.Datum.{Datum};
 
+use crate::reading::reads;
 use crate::writing::writes;
+use serde_dynamo::de::{Deserialize, Deserializer, Error, Reader, Request, Showing};
 use serde_dynamo::ser::{Serialize, Serializer};
+use std::alloc::Global;
 use std::test::Fail;
 
-#[derive(Drop)]
+#[derive(Debug, Drop)]
 enum Tree {
     Leaf(u64),
     Only(Box<Tree>),
@@ -34,6 +38,55 @@ impl Serialize for Tree {
             Tree::Many(children) => children.serialize(serializer),
         }
     }
+}
+
+impl Deserialize for Tree {
+    ghost reads = { λ _ _. Unit {0} };
+
+    fn deserialize<D: Deserializer>(alloc: Global, deserializer: D) -> Result<Tree, D::Error> {
+        read(alloc, deserializer)
+    }
+}
+
+// A number is a leaf, a list a node.
+#[cycle(read)]
+fn read<R: Reader>(alloc: Global, reader: R) -> Result<Tree, R::Error> {
+    match reader.show(Request::Any)? {
+        Showing::I64(n) => match u64::try_from(n) {
+            Ok(n) => Ok(Tree::Leaf(n)),
+            Err(_) => Err(R::Error::custom(alloc, "a leaf is below zero")),
+        },
+        Showing::U64(n) => Ok(Tree::Leaf(n)),
+        Showing::Sequence(elements) => Ok(Tree::Many(children::<R>(alloc, elements)?)),
+        _ => Err(R::Error::custom(alloc, "neither a leaf nor a node")),
+    }
+}
+
+#[cycle(read)]
+fn children<R: Reader>(alloc: Global, mut elements: R::Elements) -> Result<Vec<Tree>, R::Error> {
+    let mut children = Vec::new(alloc);
+    while let Some(element) = R::next_element(&mut elements) {
+        let child = read(alloc, element)?;
+        if children.push(child).is_err() {
+            return Err(R::Error::out_of_memory());
+        }
+    }
+    Ok(children)
+}
+
+#[test]
+fn a_type_that_holds_itself_reads(rt: HostRuntime) -> Result<(), Fail> {
+    let alloc = rt.alloc();
+    let tree = "Many([Many([Leaf(1), Leaf(18446744073709551615)]), Leaf(3)])";
+    reads::<Tree>(
+        &rt,
+        alloc,
+        r#"L [L [N "1", N "18446744073709551615"], N "3"]"#,
+        tree,
+    )?;
+    reads::<Tree>(&rt, alloc, r#"Ns ["1", "2"]"#, "Many([Leaf(1), Leaf(2)])")?;
+    reads::<Tree>(&rt, alloc, r#"L [L [N "-1"]]"#, "a message")?;
+    reads::<Tree>(&rt, alloc, r#"L [Null(false)]"#, "Expected unit")
 }
 
 #[test]

@@ -109,6 +109,8 @@ fn what_is_no_json_is_refused(rt: HostRuntime) -> Result<(), Fail> {
     assert_eq!(rt; status, 1);
     let deep = "[".repeat(alloc, 128)?;
     prints(&rt, alloc, deep.as_str(), line, 1)?;
+    let closed = format!(in alloc; "{deep}{}", "]".repeat(alloc, 128)?)?;
+    prints(&rt, alloc, closed.as_str(), line, 1)?;
     prints(&rt, alloc, "{\"S\":\"a\"} {}", line, 1)
 }
 
