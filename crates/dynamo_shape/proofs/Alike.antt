@@ -1,8 +1,10 @@
 -- Each datum is the same as itself.
-use Rattle.std.proofs.Common.{refl, inl}
+use Rattle.std.proofs.Common.{◌≡◌, refl, subst, inl}
 use Rattle.dynamo_ser.specs.Datum as datum
 use Rattle.dynamo_ser.specs.Datum.{Datum, some, newtype_struct, newtype_variant, seq, tuple, tuple_struct, tuple_variant, map, struct, struct_variant, Pairs, no_pairs, pair, Fields, no_fields, field}
+use Rattle.dynamo_shape.specs.Laws.{ToldAlike}
 use Rattle.dynamo_shape.specs.Same.{Same, SameElements, SamePairs, SameFields}
+use Rattle.dynamo_shape.specs.Shape.{Shape}
 
 mutual
   pub same_refl : (d : Datum) → Same d d
@@ -29,3 +31,7 @@ mutual
   pub fields_refl : (fs : Fields) → SameFields fs fs
   fields_refl no_fields = refl
   fields_refl (field name d fs) = (d, fs, refl, same_refl d, fields_refl fs)
+
+-- equal values tell the same data
+pub equal_alike : {V : Type 0} (s : Shape) (tells : V → Datum) → ToldAlike s tells (λ v w. v ≡ w)
+equal_alike s tells v w _ _ h = subst (λ u. Same (tells v) (tells u)) h (same_refl (tells v))

@@ -31,7 +31,7 @@ abbrev pairs_in : Datum → Pairs
 pairs_in (datum.map ps) = ps
 pairs_in _ = no_pairs
 
-key_has : (l : Datum) (ps : Pairs) → HasKey l ps → (y : Datum) × Has l y ps
+pub key_has : (l : Datum) (ps : Pairs) → HasKey l ps → (y : Datum) × Has l y ps
 key_has l no_pairs h = absurd h
 key_has l (pair k d ps) (inl e) = (d, inl (e, refl))
 key_has l (pair k d ps) (inr h) = let t = key_has l ps h in (t.0, inr t.1)

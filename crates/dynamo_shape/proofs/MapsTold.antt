@@ -1,4 +1,4 @@
--- Maps that tell the same are the same at each key.
+-- Maps that tell the same are the same at each key, and maps that are the same at each key tell the same.
 use Rattle.std.proofs.Common.{◌≡◌, Bool, false, List, [], ◌∷◌, Option, Some, None, refl, sym, ap, subst, ◌∙◌, inl, inr}
 use Rattle.std.specs.List.{IsDistinct, AllByRecursion}
 use Rattle.std.specs.Map.{lookup, keys_of}
@@ -8,13 +8,14 @@ use Rattle.dynamo_ser.specs.Datum as datum
 use Rattle.dynamo_ser.specs.Datum.{Datum, Pairs, no_pairs, pair}
 use Rattle.dynamo_shape.specs.ByValue.{SameMap, SameOption}
 use Rattle.dynamo_shape.specs.Conforms.{conforms, AllPairs, HasKey, KeysDiffer}
-use Rattle.dynamo_shape.specs.Laws.{EqualAsTold, ToldApart, IsToldByValue}
+use Rattle.dynamo_shape.specs.Laws.{EqualAsTold, ToldApart, IsToldByValue, ToldAlike}
 use Rattle.dynamo_shape.specs.Same.{Same, SamePairs}
 use Rattle.dynamo_shape.specs.Shape as shape
 use Rattle.dynamo_shape.specs.Shape.{Shape}
+use Rattle.dynamo_shape.proofs.Alike.{same_refl}
 use Rattle.dynamo_shape.proofs.Equivalence.{same_sym}
-use Rattle.dynamo_shape.proofs.MapsRead.{told, found, own, a_key, value_conforms}
-use Rattle.dynamo_shape.proofs.Pairs.{Has, taken_in, rest_in}
+use Rattle.dynamo_shape.proofs.MapsRead.{told, found, own, a_key, key_has, value_conforms}
+use Rattle.dynamo_shape.proofs.Pairs.{Has, has_key, same_pairs, taken_in, rest_in}
 
 -- a pair has one like it
 like_it : (ps qs : Pairs) → SamePairs ps qs → (l y : Datum) → Has l y ps → (m : Datum) × (z : Datum) × Has m z qs × Same l m × Same y z
@@ -61,6 +62,66 @@ module _ {K V : Type 0} (eq : K → K → Bool) (tk : K → Datum) (tv : V → D
 
   pub map_told : {M : Type 0} (entries : M → List (K × V)) (get : M → K → Option V) → ((m : M) (q : K) → get m q ≡ lookup (eq q) (entries m)) → IsToldByValue (shape.map k s) (λ m. datum.map (told eq tk tv equal (entries m))) (SameMap get same)
   map_told entries get gets m n c d e q = at_key (entries m) (entries n) q c d e (get m q) (get n q) (sym (gets m q)) (sym (gets n q))
+
+-- ---- maps that are the same at each key
+
+-- where the second has a value, the first has one that is the same
+first_too : {V : Type 0} (same : V → V → Type 0) (x y : Option V) → SameOption same x y → (w : V) → y ≡ Some w → (v : V) × (x ≡ Some v) × same v w
+first_too same None None h w e = absurd (none-some w e)
+first_too same None (Some u) h w e = absurd h
+first_too same (Some v) None h w e = absurd h
+first_too same (Some v) (Some u) h w e = (v, refl, subst (same v) (same_Some u w e) h)
+
+-- where the first has a value, the second has one
+second_too : {V : Type 0} (same : V → V → Type 0) (x y : Option V) → SameOption same x y → (v : V) → x ≡ Some v → (w : V) × (y ≡ Some w)
+second_too same None None h v e = absurd (none-some v e)
+second_too same None (Some w) h v e = absurd h
+second_too same (Some u) None h v e = absurd h
+second_too same (Some u) (Some w) h v e = (w, refl)
+
+module _ {K V : Type 0} (eq : K → K → Bool) (tk : K → Datum) (tv : V → Datum) (equal : EqualAsTold tk eq) (k s : Shape) (same : V → V → Type 0) (hv : ToldAlike s tv same) where
+  abbrev pairs : List (K × V) → Pairs
+  pairs es = told eq tk tv equal es
+
+  abbrev Conforms : List (K × V) → Type 0
+  Conforms es = conforms (shape.map k s) (datum.map (pairs es))
+
+  abbrev SameAtKeys : List (K × V) → List (K × V) → Type 0
+  SameAtKeys es fs = (q : K) → SameOption same (lookup (eq q) es) (lookup (eq q) fs)
+
+  -- each pair is told of a key and its value
+  told_of : (es : List (K × V)) → Conforms es → (l y : Datum) → Has l y (pairs es) → (q : K) × (v : V) × (tk q ≡ l) × (lookup (eq q) es ≡ Some v) × (tv v ≡ y)
+  told_of es c l y h =
+      let p = a_key eq tk tv equal l y es h in
+      let r = own eq tk tv equal p.0 y es (in_map k s (pairs es) c).1 (subst (λ m. Has m y (pairs es)) (sym p.1) h) in
+      (p.0, r.0, p.1, r.1, r.2)
+
+  -- the second has the keys of the first
+  keys_too : (es fs : List (K × V)) → Conforms es → SameAtKeys es fs → (l : Datum) → HasKey l (pairs es) → HasKey l (pairs fs)
+  keys_too es fs c h l g =
+      let has = key_has l (pairs es) g in
+      let p = told_of es c l has.0 has.1 in
+      let w = second_too same (lookup (eq p.0) es) (lookup (eq p.0) fs) (h p.0) p.1 p.3 in
+      subst (λ m. HasKey m (pairs fs)) p.2 (has_key (tk p.0) (tv w.0) (pairs fs) (found eq tk tv equal p.0 w.0 fs w.1))
+
+  -- a pair of the second has one like it in the first
+  pair_too : (es fs : List (K × V)) → Conforms es → Conforms fs → SameAtKeys es fs → (l y : Datum) → Has l y (pairs fs) → (e : Datum) × Has l e (pairs es) × Same e y
+  pair_too es fs c d h l y g =
+      let p = told_of fs d l y g in
+      let v = first_too same (lookup (eq p.0) es) (lookup (eq p.0) fs) (h p.0) p.1 p.3 in
+      let here = found eq tk tv equal p.0 v.0 es v.1 in
+      let there = found eq tk tv equal p.0 p.1 fs p.3 in
+      let alike = hv v.0 p.1 (value_conforms k s (tk p.0) (tv v.0) (pairs es) (in_map k s (pairs es) c).0 here) (value_conforms k s (tk p.0) (tv p.1) (pairs fs) (in_map k s (pairs fs) d).0 there) v.2 in
+      (tv v.0, subst (λ m. Has m (tv v.0) (pairs es)) p.2 here, subst (Same (tv v.0)) p.4 alike)
+
+  pairs_alike : (es fs : List (K × V)) → Conforms es → Conforms fs → SameAtKeys es fs → SamePairs (pairs es) (pairs fs)
+  pairs_alike es fs c d h = same_pairs (pairs es) (pairs fs) (in_map k s (pairs es) c).1 (in_map k s (pairs fs) d).1 (keys_too es fs c h) (pair_too es fs c d h) (λ l _. same_refl l)
+
+  same_at_keys : (es fs : List (K × V)) (f g : K → Option V) → ((q : K) → f q ≡ lookup (eq q) es) → ((q : K) → g q ≡ lookup (eq q) fs) → ((q : K) → SameOption same (f q) (g q)) → SameAtKeys es fs
+  same_at_keys es fs f g is also h q = subst (λ x. SameOption same x (lookup (eq q) fs)) (is q) (subst (SameOption same (f q)) (also q) (h q))
+
+  pub map_alike : {M : Type 0} (entries : M → List (K × V)) (get : M → K → Option V) → ((m : M) (q : K) → get m q ≡ lookup (eq q) (entries m)) → ToldAlike (shape.map k s) (λ m. datum.map (told eq tk tv equal (entries m))) (SameMap get same)
+  map_alike entries get gets m n c d e = (pairs (entries n), refl, pairs_alike (entries m) (entries n) c d (same_at_keys (entries m) (entries n) (get m) (get n) (gets m) (gets n) e))
 
 -- ---- what a map tells conforms
 

@@ -1,9 +1,12 @@
 -- Two permitted results are one answer.
-use Rattle.std.proofs.Common.{Result, Ok, Err, sym, ◌∙◌, inl, inr}
+use Rattle.std.proofs.Common.{Result, Ok, Err, sym, subst, ◌∙◌, inl, inr}
+use Rattle.std.specs.Prelude.{IfOk}
 use Rattle.dynamo_shape.proofs.Equivalence.{same_sym, same_trans}
 use Rattle.dynamo_de.specs.Answer.{Answer, value, fault, refused}
 use Rattle.dynamo_de.specs.Source.{Source}
 use Rattle.dynamo_ser.specs.Datum.{Datum}
+use Rattle.dynamo_shape.specs.Conforms.{conforms}
+use Rattle.dynamo_shape.specs.Laws.{Answers, IsToldByValue}
 use Rattle.dynamo_shape.specs.Permits.{Permits, SameAnswer, FaultsOrSame}
 use Rattle.dynamo_shape.specs.Read.{read}
 use Rattle.dynamo_shape.specs.ReadsBack.{IsDetermined, WalksAgree}
@@ -33,3 +36,15 @@ weaker (Err f) (Ok y) h = absurd h
 
 pub walks : (s : Shape) (src : Source) → WalksAgree s src
 walks s src r q h k = weaker r q (determined s src r q h k)
+
+-- ---- answers of a type that reads by its shape
+
+permitted : {T : Type 0} (C : Datum → Type 0) (tells : T → Datum) (x : Answer Datum) (v : T) → C (tells v) → Answers C Same tells x (Ok v) → Permits Same x (Ok (tells v))
+permitted C tells x v c (d, is, h) = subst (λ y. Permits Same y (Ok (tells v))) (sym is) (h c)
+
+-- two of them are one answer: the values are the same by value
+pub one_by_value : {T : Type 0} (s : Shape) (tells : T → Datum) (same : T → T → Type 0) → IsToldByValue s tells same → (x : Answer Datum) (r q : Result T Fault) → IfOk r (λ v. conforms s (tells v)) → IfOk q (λ w. conforms s (tells w)) → Answers (conforms s) Same tells x r → Answers (conforms s) Same tells x q → SameAnswer same r q
+one_by_value s tells same told x (Ok v) (Ok w) c d h k = told v w c d (one x (Ok (tells v)) (Ok (tells w)) (permitted (conforms s) tells x v c h) (permitted (conforms s) tells x w d k))
+one_by_value s tells same told x (Ok v) (Err g) c d h k = one x (Ok (tells v)) (Err g) (permitted (conforms s) tells x v c h) k
+one_by_value s tells same told x (Err f) (Ok w) c d h k = one x (Err f) (Ok (tells w)) h (permitted (conforms s) tells x w d k)
+one_by_value s tells same told x (Err f) (Err g) c d h k = one x (Err f) (Err g) h k

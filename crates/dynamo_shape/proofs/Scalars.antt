@@ -1,4 +1,4 @@
--- What the scalar types read is permitted by reading at their shapes, and what they tell tells them apart.
+-- What the scalar types read is permitted by reading at their shapes, and what they tell tells them apart, and nothing else does.
 use Rattle.std.proofs.Common.{◌≡◌, ℕ, ℤ, pos, Bool, true, List, [], Result, Ok, Err, refl, sym, ap, subst}
 use Rattle.std.specs.Prelude.{is_ok, ⊤}
 use Rattle.std.proofs.lemmas.Bool.{true≢false}
@@ -10,7 +10,7 @@ use Rattle.dynamo_de.specs.Answer as answer
 use Rattle.dynamo_de.specs.Answer.{Answer, Gives}
 use Rattle.dynamo_de.specs.Scalars.{read_bool, read_integer, read_char, read_string, read_bytes, read_unit}
 use Rattle.dynamo_shape.specs.Conforms.{conforms}
-use Rattle.dynamo_shape.specs.Laws.{Answers, ReadsByShape, IsToldByValue}
+use Rattle.dynamo_shape.specs.Laws.{Answers, ReadsByShape, IsToldByValue, ToldAlike}
 use Rattle.dynamo_shape.specs.Read.{into}
 use Rattle.dynamo_shape.specs.Same.{Same}
 use Rattle.dynamo_shape.specs.Shape as shape
@@ -66,11 +66,17 @@ bool_permitted s r h = given (conforms shape.boolean) (λ b. b) datum.boolean (r
 pub bool_told : IsToldByValue shape.boolean datum.boolean (λ a b. a ≡ b)
 bool_told a b _ _ h = ap bool_in h
 
+pub bool_alike : ToldAlike shape.boolean datum.boolean (λ a b. a ≡ b)
+bool_alike a b _ _ h = ap datum.boolean h
+
 pub signed_permitted : (k : IntegerKind) → ReadsByShape (shape.integer k) (datum.integer k) (λ s. Gives (λ z. z) (read_integer k s))
 signed_permitted k s r h = given (conforms (shape.integer k)) (λ z. z) (datum.integer k) (read_integer k s) r h
 
 pub signed_told : (k : IntegerKind) → IsToldByValue (shape.integer k) (datum.integer k) (λ a b. a ≡ b)
 signed_told k a b _ _ h = ap integer_in h
+
+pub signed_alike : (k : IntegerKind) → ToldAlike (shape.integer k) (datum.integer k) (λ a b. a ≡ b)
+signed_alike k a b _ _ h = ap (datum.integer k) h
 
 pub unsigned_permitted : (k : IntegerKind) → ReadsByShape (shape.integer k) (λ n. datum.integer k (pos n)) (λ s. Gives pos (read_integer k s))
 unsigned_permitted k s r h = given (conforms (shape.integer k)) pos (datum.integer k) (read_integer k s) r h
@@ -78,11 +84,17 @@ unsigned_permitted k s r h = given (conforms (shape.integer k)) pos (datum.integ
 pub unsigned_told : (k : IntegerKind) → IsToldByValue (shape.integer k) (λ n. datum.integer k (pos n)) (λ a b. a ≡ b)
 unsigned_told k a b _ _ h = ap (λ d. number_in (integer_in d)) h
 
+pub unsigned_alike : (k : IntegerKind) → ToldAlike (shape.integer k) (λ n. datum.integer k (pos n)) (λ a b. a ≡ b)
+unsigned_alike k a b _ _ h = ap (λ n. datum.integer k (pos n)) h
+
 pub char_permitted : ReadsByShape shape.char datum.char (λ s. Gives (λ c. c) (read_char s))
 char_permitted s r h = given (conforms shape.char) (λ c. c) datum.char (read_char s) r h
 
 pub char_told : IsToldByValue shape.char datum.char (λ a b. a ≡ b)
 char_told a b _ _ h = ap char_in h
+
+pub char_alike : ToldAlike shape.char datum.char (λ a b. a ≡ b)
+char_alike a b _ _ h = ap datum.char h
 
 pub text_permitted : {T : Type 0} (seen : T → List ℕ) → ReadsByShape shape.string (λ t. datum.string (seen t)) (λ s. Gives seen (read_string s))
 text_permitted seen s r h = given (conforms shape.string) seen datum.string (read_string s) r h
@@ -90,11 +102,17 @@ text_permitted seen s r h = given (conforms shape.string) seen datum.string (rea
 pub text_told : {T : Type 0} (seen : T → List ℕ) → IsToldByValue shape.string (λ t. datum.string (seen t)) (λ a b. seen a ≡ seen b)
 text_told seen a b _ _ h = ap bytes_in h
 
+pub text_alike : {T : Type 0} (seen : T → List ℕ) → ToldAlike shape.string (λ t. datum.string (seen t)) (λ a b. seen a ≡ seen b)
+text_alike seen a b _ _ h = ap datum.string h
+
 pub bytes_permitted : {T : Type 0} (seen : T → List ℕ) → ReadsByShape shape.bytes (λ t. datum.bytes (seen t)) (λ s. Gives seen (read_bytes s))
 bytes_permitted seen s r h = given (conforms shape.bytes) seen datum.bytes (read_bytes s) r h
 
 pub bytes_told : {T : Type 0} (seen : T → List ℕ) → IsToldByValue shape.bytes (λ t. datum.bytes (seen t)) (λ a b. seen a ≡ seen b)
 bytes_told seen a b _ _ h = ap bytes_in h
+
+pub bytes_alike : {T : Type 0} (seen : T → List ℕ) → ToldAlike shape.bytes (λ t. datum.bytes (seen t)) (λ a b. seen a ≡ seen b)
+bytes_alike seen a b _ _ h = ap datum.bytes h
 
 pub unit_permitted : ReadsByShape {T = ⊤} shape.unit (λ _. datum.unit) (λ s. Gives (λ u. u) (read_unit s))
 unit_permitted s r h = given (conforms shape.unit) (λ u. u) (λ _. datum.unit) (read_unit s) r h
@@ -102,9 +120,15 @@ unit_permitted s r h = given (conforms shape.unit) (λ u. u) (λ _. datum.unit) 
 pub unit_told : IsToldByValue {T = ⊤} shape.unit (λ _. datum.unit) (λ a b. a ≡ b)
 unit_told a b _ _ h = refl
 
+pub unit_alike : ToldAlike {T = ⊤} shape.unit (λ _. datum.unit) (λ a b. a ≡ b)
+unit_alike a b _ _ h = refl
+
 -- what is made of one integer
 pub integer_permitted : {T : Type 0} (seen : T → ℤ) (k : IntegerKind) → ReadsByShape (shape.integer k) (λ n. datum.integer k (seen n)) (λ s. Gives seen (read_integer k s))
 integer_permitted seen k s r h = given (conforms (shape.integer k)) seen (datum.integer k) (read_integer k s) r h
 
 pub integer_told : {T : Type 0} (seen : T → ℤ) (k : IntegerKind) → IsToldByValue (shape.integer k) (λ n. datum.integer k (seen n)) (λ a b. seen a ≡ seen b)
 integer_told seen k a b _ _ h = ap integer_in h
+
+pub integer_alike : {T : Type 0} (seen : T → ℤ) (k : IntegerKind) → ToldAlike (shape.integer k) (λ n. datum.integer k (seen n)) (λ a b. seen a ≡ seen b)
+integer_alike seen k a b _ _ h = ap (datum.integer k) h

@@ -23,6 +23,10 @@ ReadsByShape {T} s tells reads = (source : Source) (r : Result T Fault) → read
 abbrev pub IsToldByValue : {T : Type 0} → Shape → (T → Datum) → (T → T → Type 0) → Type 0
 IsToldByValue {T} s tells same = (v w : T) → conforms s (tells v) → conforms s (tells w) → Same (tells v) (tells w) → same v w
 
+-- two values that are the same by value, which conform to the shape, tell the same data
+abbrev pub ToldAlike : {T : Type 0} → Shape → (T → Datum) → (T → T → Type 0) → Type 0
+ToldAlike {T} s tells same = (v w : T) → conforms s (tells v) → conforms s (tells w) → same v w → Same (tells v) (tells w)
+
 -- two keys are equal exactly where they tell the same datum
 abbrev pub EqualAsTold : {K : Type 0} → (K → Datum) → (K → K → Bool) → Type 0
 EqualAsTold {K} tells eq = (k l : K) → ((eq k l ≡ true) ↔ (tells k ≡ tells l))

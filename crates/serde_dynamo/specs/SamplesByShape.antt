@@ -8,15 +8,15 @@ use Rattle.dynamo_ser.specs.Datum.{Datum, elements_of}
 use Rattle.dynamo_ser.specs.Symbols.{strings, numbers, blobs}
 use Rattle.dynamo_de.specs.Scalars.{read_string, read_integer}
 use Rattle.dynamo_de.specs.Source.{Entry}
-use Rattle.dynamo_shape.specs.Laws.{IsToldByValue}
+use Rattle.dynamo_shape.specs.Laws.{IsToldByValue, ToldAlike}
 use Rattle.dynamo_shape.specs.Read.{into, read_field, fields_by_name}
 use Rattle.dynamo_shape.specs.Shape as shape
 use Rattle.dynamo_shape.proofs.Apart.{holds_no_map, told_again}
 use Rattle.dynamo_shape.proofs.FieldsByName as fields
 use Rattle.dynamo_shape.proofs.FieldsByName.{Slots, close}
 use Rattle.dynamo_shape.proofs.FieldsTold as told
-use Rattle.dynamo_shape.proofs.FieldsTold.{first_told, last_told, struct_told}
-use Rattle.dynamo_shape.proofs.Scalars.{text_told, unsigned_told, bytes_told}
+use Rattle.dynamo_shape.proofs.FieldsTold.{first_told, last_told, struct_told, first_alike, last_alike, struct_alike}
+use Rattle.dynamo_shape.proofs.Scalars.{text_told, text_alike, unsigned_told, unsigned_alike, bytes_told, bytes_alike}
 use Rattle.dynamo_shape.proofs.InOrder.{ListsFields, first_field, no_more_fields, ListsElements, first_element, no_more_elements, set_read}
 use Rattle.dynamo_shape.proofs.TypesByHand as variants
 use Rattle.dynamo_shape.proofs.TypesByHand.{one_inside, several_inside, named_inside}
@@ -72,6 +72,13 @@ user_by_value =
     (first_told (codes "id") _ _ (λ (u : User). u.id) _ _ _ _ (text_told string_bytes)
     (first_told (codes "name") _ _ (λ (u : User). u.name) _ _ _ _ (text_told string_bytes)
     (last_told (codes "age") _ (λ (u : User). u.age) _ _ (unsigned_told u8))))
+
+pub user_alike : ToldAlike user_shape user_told same_user
+user_alike =
+    struct_alike (codes "User") user_fields _ same_user
+    (first_alike (codes "id") _ _ (λ (u : User). u.id) _ _ _ _ (text_alike string_bytes)
+    (first_alike (codes "name") _ _ (λ (u : User). u.name) _ _ _ _ (text_alike string_bytes)
+    (last_alike (codes "age") _ (λ (u : User). u.age) _ _ (unsigned_alike u8))))
 
 -- ---- an event
 
@@ -184,3 +191,10 @@ sets_by_value =
     (first_told (codes "names") _ _ (λ (s : Sets). s.names) _ _ _ _ (told.set_told strings shape.string _ _ (text_told string_bytes))
     (first_told (codes "numbers") _ _ (λ (s : Sets). s.numbers) _ _ _ _ (told.set_told numbers (shape.integer u64) _ _ (unsigned_told u64))
     (last_told (codes "blobs") _ (λ (s : Sets). s.blobs) _ _ (told.set_told blobs shape.bytes _ _ (bytes_told octets_of)))))
+
+pub sets_alike : ToldAlike sets_shape sets_told same_sets
+sets_alike =
+    struct_alike (codes "Sets") sets_fields _ same_sets
+    (first_alike (codes "names") _ _ (λ (s : Sets). s.names) _ _ _ _ (told.set_alike strings shape.string _ _ (text_alike string_bytes))
+    (first_alike (codes "numbers") _ _ (λ (s : Sets). s.numbers) _ _ _ _ (told.set_alike numbers (shape.integer u64) _ _ (unsigned_alike u64))
+    (last_alike (codes "blobs") _ (λ (s : Sets). s.blobs) _ _ (told.set_alike blobs shape.bytes _ _ (bytes_alike octets_of)))))

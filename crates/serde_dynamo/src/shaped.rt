@@ -1,5 +1,5 @@
 ghost use Rattle.dynamo_shape.specs.Conforms as shapes;
-ghost use Rattle.dynamo_shape.specs.Laws.{ReadsByShape, IsToldByValue, EqualAsTold, ToldApart};
+ghost use Rattle.dynamo_shape.specs.Laws.{ReadsByShape, IsToldByValue, ToldAlike, EqualAsTold, ToldApart};
 ghost use Rattle.dynamo_shape.specs.Shape.{Shape};
 
 mod maps;
@@ -32,6 +32,9 @@ pub trait Shaped: Serialize + Deserialize {
 
     // Two values that tell the same data, up to the order of map entries, are the same by value.
     ghost told_by_value: { IsToldByValue shape Self.Serialize.tells same };
+
+    // Two values that are the same by value tell the same data, up to the order of map entries.
+    ghost told_alike: { ToldAlike shape Self.Serialize.tells same };
 }
 
 /// A shaped type whose values can be the keys of maps.

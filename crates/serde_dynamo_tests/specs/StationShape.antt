@@ -13,17 +13,17 @@ use Rattle.serde_dynamo.specs.Integer.{u8}
 use Rattle.serde_dynamo.specs.Options.{option_tells}
 use Rattle.serde_dynamo.specs.Source.{Entry, attribute}
 use Rattle.dynamo_shape.specs.ByValue.{SameOption}
-use Rattle.dynamo_shape.specs.Laws.{IsToldByValue}
+use Rattle.dynamo_shape.specs.Laws.{IsToldByValue, ToldAlike}
 use Rattle.dynamo_shape.specs.Read.{read, into, read_field, fields_by_name}
 use Rattle.dynamo_shape.specs.Shape as shape
 use Rattle.dynamo_shape.specs.Shape.{Shape, FieldShapes, field_shape, no_field_shapes}
 use Rattle.dynamo_shape.proofs.ByHand.{read_itself}
-use Rattle.dynamo_shape.proofs.ByValue.{option_told}
+use Rattle.dynamo_shape.proofs.ByValue.{option_told, option_alike}
 use Rattle.dynamo_shape.proofs.FieldsByName as fields
 use Rattle.dynamo_shape.proofs.FieldsByName.{Slots, close}
-use Rattle.dynamo_shape.proofs.FieldsTold.{struct_told, first_told, last_told}
+use Rattle.dynamo_shape.proofs.FieldsTold.{struct_told, first_told, last_told, struct_alike, first_alike, last_alike}
 use Rattle.dynamo_shape.proofs.InOrder.{ListsFields, first_field, no_more_fields}
-use Rattle.dynamo_shape.proofs.Scalars.{text_told, unsigned_told}
+use Rattle.dynamo_shape.proofs.Scalars.{text_told, text_alike, unsigned_told, unsigned_alike}
 use Rattle.std.specs.declared.alloc.Global.{Global}
 use Rattle.std.specs.declared.string.String.{String}
 use Rattle.serde_dynamo_tests.specs.declared.shaped_by_hand.Station.{Station}
@@ -106,3 +106,9 @@ station_by_value =
     struct_told (codes "Station") station_fields _ same_station
     (first_told (codes "id") _ _ (λ (s : Station). s.id) _ _ _ _ (text_told string_bytes)
     (last_told (codes "reading") _ (λ (s : Station). s.reading) _ _ (option_told (shape.integer u8) _ _ (unsigned_told u8))))
+
+pub station_alike : ToldAlike (shape.struct (codes "Station") station_fields) station_told same_station
+station_alike =
+    struct_alike (codes "Station") station_fields _ same_station
+    (first_alike (codes "id") _ _ (λ (s : Station). s.id) _ _ _ _ (text_alike string_bytes)
+    (last_alike (codes "reading") _ (λ (s : Station). s.reading) _ _ (option_alike (shape.integer u8) _ _ (unsigned_alike u8))))

@@ -1,11 +1,14 @@
 //! What the three calls that read promise at a type that states its shape: reading by the shape permits the answer, want of
-//! memory aside.
+//! memory aside. So two reads of what is the same answer the same.
 ghost use Rattle.std.specs.Prelude.{◌≡◌, ◌⊎◌, Ok, Err, IfOk, IfErr, map};
 ghost use Rattle.serde_dynamo.specs.Av as av;
+ghost use Rattle.serde_dynamo.specs.Conforms.{conforms};
 ghost use Rattle.serde_dynamo.specs.Datum as datum;
 ghost use Rattle.serde_dynamo.specs.Fault.{out_of_memory};
 ghost use Rattle.serde_dynamo.specs.Item.{item_view, items_view};
 ghost use Rattle.serde_dynamo.specs.Kind.{fault_of};
+ghost use Rattle.serde_dynamo.specs.Meets.{Meets};
+ghost use Rattle.serde_dynamo.specs.Permits.{SameAnswer};
 ghost use Rattle.serde_dynamo.specs.ReadsBack.{Permitted};
 ghost use Rattle.serde_dynamo.specs.Shape as shape;
 ghost use Rattle.serde_dynamo.specs.Source.{attribute};
@@ -44,4 +47,30 @@ pub fn items_at_shape<T: Shaped>(alloc: Global, items: Items) -> Result<Vec<T>>
     let read = from_items::<T>(alloc, items)?;
     read.conforms();
     Ok(read)
+}
+
+/// What [`from_attribute_value`] reads at a type with a shape, which conforms to the shape.
+fn conforming<T: Shaped>(alloc: Global, value: AttributeValue) -> Result<T>
+    ensures reads { Meets fault_of (T.reads (attribute (view value))) result }
+    ensures conforms { IfOk result (λ v. conforms T.shape (T.tells v)) }
+{
+    let read = from_attribute_value::<T>(alloc, value)?;
+    read.conforms();
+    Ok(read)
+}
+
+/// Two reads, each of an attribute value.
+///
+/// Of attribute values that are the same by value they give values that are the same by value, or the same fault; the texts
+/// of messages and want of memory aside.
+pub fn read_twice<T: Shaped>(
+    alloc: Global,
+    first: AttributeValue,
+    second: AttributeValue,
+) -> (Result<T>, Result<T>)
+    ensures first { Meets fault_of (T.reads (attribute (view first))) result.0 }
+    ensures second { Meets fault_of (T.reads (attribute (view second))) result.1 }
+    ensures same { view first ≡ view second → Meets fault_of (λ r. Meets fault_of (SameAnswer T.same r) result.1) result.0 }
+{
+    (conforming(alloc, first), conforming(alloc, second))
 }

@@ -1,8 +1,8 @@
 //! Types of the forms that a struct can have, read by hand as a user would write them, and the shapes of the newtypes.
 ghost use Rattle.std.specs.Prelude.{◌≡◌, codes, string_bytes};
 ghost use Rattle.dynamo_shape.specs.Shape as shape;
-ghost use Rattle.dynamo_shape.proofs.FieldsTold.{newtype_told};
-ghost use Rattle.dynamo_shape.proofs.Scalars.{integer_permitted, integer_told, text_permitted, text_told};
+ghost use Rattle.dynamo_shape.proofs.FieldsTold.{newtype_told, newtype_alike};
+ghost use Rattle.dynamo_shape.proofs.Scalars.{integer_permitted, integer_told, integer_alike, text_permitted, text_told, text_alike};
 ghost use Rattle.dynamo_shape.proofs.TypesByHand.{newtype_permitted};
 ghost use Rattle.serde_dynamo.specs.Answer.{After, Gives};
 ghost use Rattle.serde_dynamo.specs.Contents.{read_newtype};
@@ -103,6 +103,8 @@ impl Shaped for Name {
 
     ghost told_by_value = { newtype_told (codes "Name") shape.string _ _ (text_told (λ n. string_bytes n.0)) };
 
+    ghost told_alike = { newtype_alike (codes "Name") shape.string _ _ (text_alike (λ n. string_bytes n.0)) };
+
     fn conforms(&self) {
         self.0.conforms();
     }
@@ -167,6 +169,8 @@ impl Shaped for Count {
     ghost reads_by_shape = { newtype_permitted (codes "Count") (shape.integer integers.i64) (λ c. datum.integer datum.i64 c.0) _ (integer_permitted (λ c. c.0) integers.i64) };
 
     ghost told_by_value = { newtype_told (codes "Count") (shape.integer integers.i64) _ _ (integer_told (λ c. c.0) integers.i64) };
+
+    ghost told_alike = { newtype_alike (codes "Count") (shape.integer integers.i64) _ _ (integer_alike (λ c. c.0) integers.i64) };
 
     fn conforms(&self) {
         self.0.conforms();

@@ -1,6 +1,7 @@
+use crate::at_shapes::read_twice;
 use crate::kinds::Name;
-use crate::reading::reads;
-use crate::show;
+use crate::reading::{answer, reads};
+use crate::{notation, show};
 use serde_dynamo::{ByteBuf, Shaped, StringSet, from_attribute_value, reread, to_attribute_value};
 use std::alloc::Global;
 use std::collections::{BTreeMap, HashMap};
@@ -115,4 +116,28 @@ fn a_set_of_newtypes_does_not_read_back(rt: HostRuntime) -> Result<(), Fail> {
     let read: serde_dynamo::Result<Vec<Name>> = from_attribute_value(alloc, written);
     assert!(rt; read.is_err());
     Ok(())
+}
+
+// Two reads of the attribute value of this text answer so.
+fn reads_twice<T: Shaped + Debug>(
+    rt: &impl Abort,
+    alloc: Global,
+    source: &str,
+    expected: &str,
+) -> Result<(), Fail> {
+    let first = notation::value(alloc, source)?;
+    let second = notation::value(alloc, source)?;
+    let (one, other) = read_twice::<T>(alloc, first, second);
+    assert_eq!(rt; answer(alloc, &one)?.as_str(), expected);
+    assert_eq!(rt; answer(alloc, &other)?.as_str(), expected);
+    Ok(())
+}
+
+#[test]
+fn two_reads_answer_the_same(rt: HostRuntime) -> Result<(), Fail> {
+    let alloc = rt.alloc();
+    let equal_keys = r#"M {"01": N "7", "1": N "8"}"#;
+    reads_twice::<HashMap<u8, u8>>(&rt, alloc, equal_keys, "{1: 8}")?;
+    let no_number = r#"M {"1": S "7"}"#;
+    reads_twice::<HashMap<u8, u8>>(&rt, alloc, no_number, "Expected num")
 }

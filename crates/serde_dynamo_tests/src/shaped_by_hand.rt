@@ -7,7 +7,7 @@ ghost use Rattle.serde_dynamo.specs.Visitors.{claims_str, take_identifier, claim
 ghost use Rattle.dynamo_shape.specs.Shape.{struct};
 ghost use Rattle.dynamo_shape.proofs.TypesByHand.{struct_permitted};
 ghost use Rattle.serde_dynamo_tests.specs.StationShape.{station_told, station_field, station_parts, station_from_parts};
-ghost use Rattle.serde_dynamo_tests.specs.StationShape.{station_fields, same_station, station_named, station_listed, station_by_value};
+ghost use Rattle.serde_dynamo_tests.specs.StationShape.{station_fields, same_station, station_named, station_listed, station_by_value, station_alike};
 
 use serde_dynamo::Shaped;
 use serde_dynamo::de::{
@@ -164,6 +164,8 @@ impl Shaped for Station {
     ghost reads_by_shape = { struct_permitted (codes "Station") station_fields station_told station_parts station_named station_listed };
 
     ghost told_by_value = { station_by_value };
+
+    ghost told_alike = { station_alike };
 
     fn conforms(&self) {
         self.id.conforms();

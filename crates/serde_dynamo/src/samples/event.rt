@@ -3,6 +3,7 @@ ghost use Rattle.dynamo_de.specs.Answer.{After, Gives};
 ghost use Rattle.dynamo_de.specs.Contents.{read_variant};
 ghost use Rattle.dynamo_de.specs.Fields.{NamesOne};
 ghost use Rattle.dynamo_de.specs.Visitors.{claims_str, take_identifier, claims_seq, take_elements, claims_map, take_entries, claims_enum, take_variant};
+ghost use Rattle.dynamo_shape.proofs.Alike.{equal_alike};
 ghost use Rattle.dynamo_shape.proofs.TypesByHand.{enum_permitted};
 ghost use Rattle.serde_dynamo.specs.SampleShapes.{event_shape, event_variants};
 ghost use Rattle.serde_dynamo.specs.Samples.{event_told};
@@ -297,6 +298,8 @@ impl Shaped for Event {
     ghost reads_by_shape = { enum_permitted (codes "Event") event_content event_variants event_told event_tag event_chosen };
 
     ghost told_by_value = { event_by_value };
+
+    ghost told_alike = { equal_alike event_shape event_told };
 
     fn conforms(&self) {
         match self {

@@ -6,7 +6,7 @@ ghost use Rattle.dynamo_de.specs.Visitors.{claims_str, take_identifier, claims_s
 ghost use Rattle.dynamo_shape.proofs.TypesByHand.{struct_permitted};
 ghost use Rattle.serde_dynamo.specs.SampleShapes.{sets_shape, sets_fields, same_sets};
 ghost use Rattle.serde_dynamo.specs.Samples.{sets_told};
-ghost use Rattle.serde_dynamo.specs.SamplesByShape.{sets_named, sets_listed, sets_by_value};
+ghost use Rattle.serde_dynamo.specs.SamplesByShape.{sets_named, sets_listed, sets_by_value, sets_alike};
 ghost use Rattle.serde_dynamo.specs.SamplesRead.{sets_field, sets_parts, sets_from_parts};
 
 use crate::Shaped;
@@ -184,6 +184,8 @@ impl Shaped for Sets {
     ghost reads_by_shape = { struct_permitted (codes "Sets") sets_fields sets_told sets_parts sets_named sets_listed };
 
     ghost told_by_value = { sets_by_value };
+
+    ghost told_alike = { sets_alike };
 
     #[tactic(auto, using(dynamo_shape::proofs::FieldsTold::set_conforms))]
     fn conforms(&self) {

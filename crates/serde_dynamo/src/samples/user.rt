@@ -6,7 +6,7 @@ ghost use Rattle.dynamo_de.specs.Visitors.{claims_str, take_identifier, claims_s
 ghost use Rattle.dynamo_shape.proofs.TypesByHand.{struct_permitted};
 ghost use Rattle.serde_dynamo.specs.SampleShapes.{user_shape, user_fields, same_user};
 ghost use Rattle.serde_dynamo.specs.Samples.{user_told};
-ghost use Rattle.serde_dynamo.specs.SamplesByShape.{user_named, user_listed, user_by_value};
+ghost use Rattle.serde_dynamo.specs.SamplesByShape.{user_named, user_listed, user_by_value, user_alike};
 ghost use Rattle.serde_dynamo.specs.SamplesRead.{user_field, user_parts, user_from_parts};
 
 use crate::Shaped;
@@ -171,6 +171,8 @@ impl Shaped for User {
     ghost reads_by_shape = { struct_permitted (codes "User") user_fields user_told user_parts user_named user_listed };
 
     ghost told_by_value = { user_by_value };
+
+    ghost told_alike = { user_alike };
 
     fn conforms(&self) {
         self.id.conforms();

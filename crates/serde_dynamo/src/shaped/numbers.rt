@@ -1,7 +1,7 @@
 ghost use Rattle.std.specs.Prelude.{◌≡◌};
 ghost use Rattle.dynamo_shape.specs.Shape as shape;
 ghost use Rattle.dynamo_value.specs.Integer as integers;
-ghost use Rattle.dynamo_shape.proofs.Scalars.{bool_permitted, bool_told, signed_permitted, signed_told, unsigned_permitted, unsigned_told};
+ghost use Rattle.dynamo_shape.proofs.Scalars.{bool_permitted, bool_told, bool_alike, signed_permitted, signed_told, signed_alike, unsigned_permitted, unsigned_told, unsigned_alike};
 ghost use Rattle.dynamo_shape.proofs.KeysTold.{bool_equal, signed_equal, unsigned_equal};
 
 use crate::{Shaped, ShapedKey};
@@ -14,6 +14,8 @@ impl Shaped for bool {
     ghost reads_by_shape = { bool_permitted };
 
     ghost told_by_value = { bool_told };
+
+    ghost told_alike = { bool_alike };
 
     fn conforms(&self) {}
 }
@@ -32,6 +34,8 @@ impl Shaped for i8 {
     ghost reads_by_shape = { signed_permitted integers.i8 };
 
     ghost told_by_value = { signed_told integers.i8 };
+
+    ghost told_alike = { signed_alike integers.i8 };
 
     fn conforms(&self) {
         let _number = *self;
@@ -53,6 +57,8 @@ impl Shaped for i16 {
 
     ghost told_by_value = { signed_told integers.i16 };
 
+    ghost told_alike = { signed_alike integers.i16 };
+
     fn conforms(&self) {
         let _number = *self;
     }
@@ -72,6 +78,8 @@ impl Shaped for i32 {
     ghost reads_by_shape = { signed_permitted integers.i32 };
 
     ghost told_by_value = { signed_told integers.i32 };
+
+    ghost told_alike = { signed_alike integers.i32 };
 
     fn conforms(&self) {
         let _number = *self;
@@ -93,6 +101,8 @@ impl Shaped for i64 {
 
     ghost told_by_value = { signed_told integers.i64 };
 
+    ghost told_alike = { signed_alike integers.i64 };
+
     fn conforms(&self) {
         let _number = *self;
     }
@@ -112,6 +122,8 @@ impl Shaped for i128 {
     ghost reads_by_shape = { signed_permitted integers.i128 };
 
     ghost told_by_value = { signed_told integers.i128 };
+
+    ghost told_alike = { signed_alike integers.i128 };
 
     fn conforms(&self) {
         let _number = *self;
@@ -133,6 +145,8 @@ impl Shaped for u8 {
 
     ghost told_by_value = { unsigned_told integers.u8 };
 
+    ghost told_alike = { unsigned_alike integers.u8 };
+
     fn conforms(&self) {
         let _number = *self;
     }
@@ -152,6 +166,8 @@ impl Shaped for u16 {
     ghost reads_by_shape = { unsigned_permitted integers.u16 };
 
     ghost told_by_value = { unsigned_told integers.u16 };
+
+    ghost told_alike = { unsigned_alike integers.u16 };
 
     fn conforms(&self) {
         let _number = *self;
@@ -173,6 +189,8 @@ impl Shaped for u32 {
 
     ghost told_by_value = { unsigned_told integers.u32 };
 
+    ghost told_alike = { unsigned_alike integers.u32 };
+
     fn conforms(&self) {
         let _number = *self;
     }
@@ -193,6 +211,8 @@ impl Shaped for u64 {
 
     ghost told_by_value = { unsigned_told integers.u64 };
 
+    ghost told_alike = { unsigned_alike integers.u64 };
+
     fn conforms(&self) {
         let _number = *self;
     }
@@ -212,6 +232,8 @@ impl Shaped for u128 {
     ghost reads_by_shape = { unsigned_permitted integers.u128 };
 
     ghost told_by_value = { unsigned_told integers.u128 };
+
+    ghost told_alike = { unsigned_alike integers.u128 };
 
     fn conforms(&self) {
         let _number = *self;

@@ -1,6 +1,6 @@
 ghost use Rattle.dynamo_shape.specs.ByValue.{SameOption};
 ghost use Rattle.dynamo_shape.specs.Shape as shape;
-ghost use Rattle.dynamo_shape.proofs.ByValue.{option_told};
+ghost use Rattle.dynamo_shape.proofs.ByValue.{option_told, option_alike};
 ghost use Rattle.dynamo_shape.proofs.Lists.{option_permitted, through_permitted};
 
 use crate::Shaped;
@@ -13,6 +13,8 @@ impl<T: Shaped> Shaped for Option<T> {
     ghost reads_by_shape = { option_permitted T.shape T.tells T.reads T.reads_by_shape };
 
     ghost told_by_value = { option_told T.shape T.tells T.same T.told_by_value };
+
+    ghost told_alike = { option_alike T.shape T.tells T.same T.told_alike };
 
     fn conforms(&self) {
         if let Some(content) = self {
@@ -30,6 +32,8 @@ impl<T: Shaped> Shaped for Box<T> {
     ghost reads_by_shape = { through_permitted T.shape T.tells T.reads (λ b. b.value) T.reads_by_shape };
 
     ghost told_by_value = { λ b c. T.told_by_value b.value c.value };
+
+    ghost told_alike = { λ b c. T.told_alike b.value c.value };
 
     fn conforms(&self) {
         (**self).conforms();

@@ -1,7 +1,7 @@
 ghost use Rattle.std.specs.Prelude.{◌≡◌, string_bytes};
 ghost use Rattle.dynamo_shape.specs.Shape as shape;
 ghost use Rattle.dynamo_value.specs.Bytes.{octets_of};
-ghost use Rattle.dynamo_shape.proofs.Scalars.{char_permitted, char_told, text_permitted, text_told, bytes_permitted, bytes_told, unit_permitted, unit_told};
+ghost use Rattle.dynamo_shape.proofs.Scalars.{char_permitted, char_told, char_alike, text_permitted, text_told, text_alike, bytes_permitted, bytes_told, bytes_alike, unit_permitted, unit_told, unit_alike};
 ghost use Rattle.dynamo_shape.proofs.KeysTold.{char_equal, text_equal};
 
 use crate::{Shaped, ShapedKey};
@@ -15,6 +15,8 @@ impl Shaped for char {
     ghost reads_by_shape = { char_permitted };
 
     ghost told_by_value = { char_told };
+
+    ghost told_alike = { char_alike };
 
     fn conforms(&self) {
         let _c = *self;
@@ -36,6 +38,8 @@ impl Shaped for String {
 
     ghost told_by_value = { text_told string_bytes };
 
+    ghost told_alike = { text_alike string_bytes };
+
     fn conforms(&self) {
         let _text = self.as_str();
     }
@@ -56,6 +60,8 @@ impl Shaped for ByteBuf {
 
     ghost told_by_value = { bytes_told octets_of };
 
+    ghost told_alike = { bytes_alike octets_of };
+
     fn conforms(&self) {}
 }
 
@@ -67,6 +73,8 @@ impl Shaped for () {
     ghost reads_by_shape = { unit_permitted };
 
     ghost told_by_value = { unit_told };
+
+    ghost told_alike = { unit_alike };
 
     fn conforms(&self) {}
 }
