@@ -122,13 +122,3 @@ unit_told a b _ _ h = refl
 
 pub unit_alike : ToldAlike {T = ⊤} shape.unit (λ _. datum.unit) (λ a b. a ≡ b)
 unit_alike a b _ _ h = refl
-
--- what is made of one integer
-pub integer_permitted : {T : Type 0} (seen : T → ℤ) (k : IntegerKind) → ReadsByShape (shape.integer k) (λ n. datum.integer k (seen n)) (λ s. Gives seen (read_integer k s))
-integer_permitted seen k s r h = given (conforms (shape.integer k)) seen (datum.integer k) (read_integer k s) r h
-
-pub integer_told : {T : Type 0} (seen : T → ℤ) (k : IntegerKind) → IsToldByValue (shape.integer k) (λ n. datum.integer k (seen n)) (λ a b. seen a ≡ seen b)
-integer_told seen k a b _ _ h = ap integer_in h
-
-pub integer_alike : {T : Type 0} (seen : T → ℤ) (k : IntegerKind) → ToldAlike (shape.integer k) (λ n. datum.integer k (seen n)) (λ a b. seen a ≡ seen b)
-integer_alike seen k a b _ _ h = ap (datum.integer k) h

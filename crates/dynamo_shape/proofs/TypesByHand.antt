@@ -1,4 +1,4 @@
--- Structs, enums and newtypes that are read by hand: what they read is permitted by reading at their shapes.
+-- Structs, tuple structs, enums and newtypes that are read by hand: what they read is permitted by reading at their shapes.
 use Rattle.std.proofs.Common.{◌≡◌, ℕ, suc, true, false, List, Option, Some, None, Result, refl, sym, ap, subst, ◌∙◌}
 use Rattle.std.specs.Prelude.{if◌then◌else◌, bytes_eq}
 use Rattle.dynamo_value.specs.Fault.{Fault}
@@ -28,6 +28,13 @@ struct_permitted name fs tells parts named listed source r a =
     either : (p : Parts) → parts p ≡ into (datum.struct name) (fields_of fs (fields_in_order fs) (read_field fs) p)
     either (by_name es) = named es
     either (in_order ss) = listed ss
+
+-- ---- a tuple struct, which is read by its elements in order
+
+pub tuple_struct_permitted : {V : Type 0} (name : Text) (ts : Shapes) (tells : V → Datum) (elements : List Source → Answer Datum) → ListsElements ts elements (datum.tuple_struct name) → ReadsByShape (shape.tuple_struct name ts) tells (λ source. After (read_elements source) (λ ss. Gives tells (elements ss)))
+unfolding ListsElements
+tuple_struct_permitted name ts tells elements listed source r a =
+    by_steps (shape.tuple_struct name ts) (conforms (shape.tuple_struct name ts)) tells source (read_elements source) elements (same_next (datum.tuple_struct name) (read_elements source) elements (read_each ts) listed) r a
 
 -- ---- an enum, which is read by the name of a variant and its content
 

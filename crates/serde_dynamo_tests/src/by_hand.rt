@@ -1,21 +1,26 @@
-//! Types of the forms that a struct can have, read by hand as a user would write them, and the shapes of the newtypes.
+//! Types of the forms that a struct can have, read by hand as a user would write them, and the shapes of the newtypes and
+//! of a tuple struct.
 ghost use Rattle.std.specs.Prelude.{◌≡◌, codes, string_bytes};
 ghost use Rattle.dynamo_shape.specs.Shape as shape;
+ghost use Rattle.dynamo_shape.proofs.Alike.{equal_alike};
 ghost use Rattle.dynamo_shape.proofs.FieldsTold.{newtype_told, newtype_alike};
-ghost use Rattle.dynamo_shape.proofs.Scalars.{integer_permitted, integer_told, integer_alike, text_permitted, text_told, text_alike};
-ghost use Rattle.dynamo_shape.proofs.TypesByHand.{newtype_permitted};
+ghost use Rattle.dynamo_shape.proofs.Lists.{through_permitted};
+ghost use Rattle.dynamo_shape.proofs.Scalars.{text_permitted, text_told, text_alike};
+ghost use Rattle.dynamo_shape.proofs.TypesByHand.{newtype_permitted, tuple_struct_permitted};
 ghost use Rattle.serde_dynamo.specs.Answer.{After, Gives};
-ghost use Rattle.serde_dynamo.specs.Contents.{read_newtype};
+ghost use Rattle.serde_dynamo.specs.Contents.{read_elements, read_newtype};
 ghost use Rattle.serde_dynamo.specs.Datum as datum;
-ghost use Rattle.serde_dynamo.specs.Integer as integers;
-ghost use Rattle.serde_dynamo.specs.Scalars.{read_integer, read_string, read_unit_struct};
-ghost use Rattle.serde_dynamo.specs.Visitors.{claims_newtype, claims_unit, take_newtype, take_unit};
+ghost use Rattle.serde_dynamo.specs.Reads.{Through};
+ghost use Rattle.serde_dynamo.specs.Scalars.{read_string, read_unit_struct};
+ghost use Rattle.serde_dynamo.specs.Visitors.{claims_newtype, claims_seq, claims_unit, take_elements, take_newtype, take_unit};
+ghost use Rattle.serde_dynamo_tests.specs.PointShape.{point_told, point_shape, point_elements, point_in_order, point_listed, point_by_value};
 
 use crate::kinds::{Name, UnitStruct};
 use serde_dynamo::Shaped;
-use serde_dynamo::de::{Deserialize, Deserializer, Error, Kind, Visitor};
-use serde_dynamo::ser::{Serialize, Serializer};
+use serde_dynamo::de::{Deserialize, Deserializer, Error, Kind, SeqAccess, Visitor};
+use serde_dynamo::ser::{Serialize, SerializeTupleStruct, Serializer};
 use std::alloc::Global;
+use std::marker::PhantomData;
 
 #[derive(Drop)]
 struct UnitStructVisitor {
@@ -110,14 +115,14 @@ impl Shaped for Name {
     }
 }
 
-/// `struct Count(i64)`, a newtype.
+/// `struct Count<T>(T)`, a newtype over any type.
 #[derive(Clone, Copy, Debug, Drop, PartialEq, Eq, PartialOrd, Ord, Hash)]
-pub struct Count(pub i64);
+pub struct Count<T>(pub T);
 
-impl Serialize for Count {
-    ghost tells = { λ c. datum.newtype_struct (codes "Count") (datum.integer datum.i64 c.0) };
+impl<T: Serialize> Serialize for Count<T> {
+    ghost tells = { λ c. datum.newtype_struct (codes "Count") (T.tells c.0) };
 
-    ghost wants = { λ _. ⊥ };
+    ghost wants = { λ c. T.wants c.0 };
 
     fn serialize<S: Serializer>(&self, serializer: S) -> Result<S::Ok, S::Error> {
         serializer.serialize_newtype_struct("Count", &self.0)
@@ -125,16 +130,17 @@ impl Serialize for Count {
 }
 
 #[derive(Drop)]
-struct CountVisitor {
+struct CountVisitor<T> {
     alloc: Global,
+    of: PhantomData<T>,
 }
 
-impl Visitor for CountVisitor {
-    type Value = Count;
+impl<T: Deserialize> Visitor for CountVisitor<T> {
+    type Value = Count<T>;
 
     ghost claimed = { λ _. claims_newtype };
 
-    ghost takes = { λ _ s. After (take_newtype s) (λ s. Gives (λ c. c.0) (read_integer integers.i64 s)) };
+    ghost takes = { λ _ s. After (take_newtype s) (λ s. Through (λ c. c.0) (T.reads s)) };
 
     fn expecting(&self) -> &'static str {
         "newtype Count"
@@ -148,31 +154,116 @@ impl Visitor for CountVisitor {
         matches!(kind, Kind::NewtypeStruct)
     }
 
-    fn visit_newtype_struct<D: Deserializer>(self, deserializer: D) -> Result<Count, D::Error> {
-        Ok(Count(i64::deserialize(self.alloc, deserializer)?))
+    fn visit_newtype_struct<D: Deserializer>(self, deserializer: D) -> Result<Count<T>, D::Error> {
+        Ok(Count(T::deserialize(self.alloc, deserializer)?))
     }
 }
 
-impl Deserialize for Count {
-    ghost reads = { λ s. After (read_newtype s) (λ s. Gives (λ c. c.0) (read_integer integers.i64 s)) };
+impl<T: Deserialize> Deserialize for Count<T> {
+    ghost reads = { λ s. After (read_newtype s) (λ s. Through (λ c. c.0) (T.reads s)) };
 
-    fn deserialize<D: Deserializer>(alloc: Global, deserializer: D) -> Result<Count, D::Error> {
-        deserializer.deserialize_newtype_struct("Count", CountVisitor { alloc })
+    fn deserialize<D: Deserializer>(alloc: Global, deserializer: D) -> Result<Count<T>, D::Error> {
+        deserializer.deserialize_newtype_struct(
+            "Count",
+            CountVisitor {
+                alloc,
+                of: PhantomData,
+            },
+        )
     }
 }
 
-impl Shaped for Count {
-    ghost shape = { shape.newtype (codes "Count") (shape.integer integers.i64) };
+impl<T: Shaped> Shaped for Count<T> {
+    ghost shape = { shape.newtype (codes "Count") T.shape };
 
-    ghost same = { λ c d. c.0 ≡ d.0 };
+    ghost same = { λ c d. T.same c.0 d.0 };
 
-    ghost reads_by_shape = { newtype_permitted (codes "Count") (shape.integer integers.i64) (λ c. datum.integer datum.i64 c.0) _ (integer_permitted (λ c. c.0) integers.i64) };
+    ghost reads_by_shape = { newtype_permitted (codes "Count") T.shape (λ c. T.tells c.0) _ (through_permitted T.shape T.tells T.reads (λ c. c.0) T.reads_by_shape) };
 
-    ghost told_by_value = { newtype_told (codes "Count") (shape.integer integers.i64) _ _ (integer_told (λ c. c.0) integers.i64) };
+    ghost told_by_value = { newtype_told (codes "Count") T.shape _ _ (λ c d. T.told_by_value c.0 d.0) };
 
-    ghost told_alike = { newtype_alike (codes "Count") (shape.integer integers.i64) _ _ (integer_alike (λ c. c.0) integers.i64) };
+    ghost told_alike = { newtype_alike (codes "Count") T.shape _ _ (λ c d. T.told_alike c.0 d.0) };
 
     fn conforms(&self) {
         self.0.conforms();
+    }
+}
+
+/// `struct Point(u8, u8)`, a tuple struct.
+#[derive(Clone, Copy, Debug, Drop, PartialEq, Eq)]
+pub struct Point(pub u8, pub u8);
+
+impl Serialize for Point {
+    ghost tells = { point_told };
+
+    ghost wants = { λ _. ⊥ };
+
+    fn serialize<S: Serializer>(&self, serializer: S) -> Result<S::Ok, S::Error> {
+        let mut state = serializer.serialize_tuple_struct("Point", 2)?;
+        state.serialize_field(&self.0)?;
+        state.serialize_field(&self.1)?;
+        state.end()
+    }
+}
+
+#[derive(Drop)]
+struct PointVisitor {
+    alloc: Global,
+}
+
+impl Visitor for PointVisitor {
+    type Value = Point;
+
+    ghost claimed = { λ _. claims_seq };
+
+    ghost takes = { λ _ s. After (take_elements s) (λ ss. Gives point_told (point_in_order ss)) };
+
+    fn expecting(&self) -> &'static str {
+        "tuple struct Point"
+    }
+
+    fn alloc(&self) -> Global {
+        self.alloc
+    }
+
+    fn claims(&self, kind: Kind) -> bool {
+        matches!(kind, Kind::Seq)
+    }
+
+    #[tactic(auto, using(serde_dynamo::proofs::InOrder::byte_element, serde_dynamo::proofs::InOrder::byte_lacks, serde_dynamo::proofs::InOrder::byte_fails))]
+    fn visit_seq<A: SeqAccess>(self, mut seq: A) -> Result<Point, A::Error> {
+        let too_short = "invalid length: too few elements, expected tuple struct Point";
+        let Some(x) = seq.next_element::<u8>(self.alloc)? else {
+            return Err(A::Error::custom(self.alloc, too_short));
+        };
+        let Some(y) = seq.next_element::<u8>(self.alloc)? else {
+            return Err(A::Error::custom(self.alloc, too_short));
+        };
+        Ok(Point(x, y))
+    }
+}
+
+impl Deserialize for Point {
+    ghost reads = { λ s. After (read_elements s) (λ ss. Gives point_told (point_in_order ss)) };
+
+    fn deserialize<D: Deserializer>(alloc: Global, deserializer: D) -> Result<Point, D::Error> {
+        deserializer.deserialize_tuple_struct("Point", 2, PointVisitor { alloc })
+    }
+}
+
+impl Shaped for Point {
+    ghost shape = { point_shape };
+
+    ghost same = { λ p q. p ≡ q };
+
+    ghost reads_by_shape = { tuple_struct_permitted (codes "Point") point_elements point_told point_in_order point_listed };
+
+    ghost told_by_value = { point_by_value };
+
+    ghost told_alike = { equal_alike point_shape point_told };
+
+    fn conforms(&self) {
+        self.0.conforms();
+        self.1.conforms();
     }
 }

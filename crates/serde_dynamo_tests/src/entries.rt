@@ -42,7 +42,7 @@ fn maps_of_one_key_of_each_kind_read_back(rt: HostRuntime) -> Result<(), Fail> {
     key_reads_back(&rt, alloc, 5_u64)?;
     key_reads_back(&rt, alloc, 5_u128)?;
     key_reads_back(&rt, alloc, u128::MAX)?;
-    key_reads_back(&rt, alloc, Count(5))?;
+    key_reads_back(&rt, alloc, Count(5_i64))?;
     key_reads_back(&rt, alloc, Name(String::from_str(alloc, "one")?))?;
     key_reads_back(&rt, alloc, true)?;
     key_reads_back(&rt, alloc, false)?;
@@ -122,7 +122,7 @@ fn keys_of_another_kind_are_refused(rt: HostRuntime) -> Result<(), Fail> {
     reads::<HashMap<bool, u8>>(&rt, alloc, r#"M {"yes": N "1"}"#, "Expected string")?;
     reads::<HashMap<char, u8>>(&rt, alloc, r#"M {"ab": N "1"}"#, "a message")?;
     reads::<HashMap<char, u8>>(&rt, alloc, r#"M {"": N "1"}"#, "a message")?;
-    reads::<HashMap<Count, u8>>(&rt, alloc, r#"M {"x": N "1"}"#, "Expected num")?;
+    reads::<HashMap<Count<i64>, u8>>(&rt, alloc, r#"M {"x": N "1"}"#, "Expected num")?;
     reads::<HashMap<Event, u8>>(&rt, alloc, r#"M {"Tuple": N "1"}"#, "a message")?;
     reads::<HashMap<Option<u8>, u8>>(&rt, alloc, r#"M {"1": N "1"}"#, "a message")?;
     reads::<HashMap<(), u8>>(&rt, alloc, r#"M {"1": N "1"}"#, "a message")?;

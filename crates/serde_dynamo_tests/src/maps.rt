@@ -60,7 +60,7 @@ fn keys_write_as_texts(rt: HostRuntime) -> Result<(), Fail> {
     key_writes(&rt, alloc, 5_u64, r#"M {"5": N "1"}"#)?;
     key_writes(&rt, alloc, 5_u128, r#"M {"5": N "1"}"#)?;
     key_writes(&rt, alloc, 5_i128, r#"M {"5": N "1"}"#)?;
-    key_writes(&rt, alloc, Count(5), r#"M {"5": N "1"}"#)?;
+    key_writes(&rt, alloc, Count(5_i64), r#"M {"5": N "1"}"#)?;
     key_writes(&rt, alloc, NumberSet(5_u8), r#"M {"5": N "1"}"#)?;
     key_writes(&rt, alloc, 'a', r#"M {"a": N "1"}"#)?;
     key_writes(&rt, alloc, Event::Unit, r#"M {"Unit": N "1"}"#)?;

@@ -1,4 +1,4 @@
-use crate::by_hand::Count;
+use crate::by_hand::{Count, Point};
 use crate::reading::reads;
 use crate::rereading::{gives_back, rereads};
 use crate::shaped_by_hand::Station;
@@ -47,5 +47,13 @@ fn a_missing_reading_is_none_and_a_missing_name_is_refused(rt: HostRuntime) -> R
 
 #[test]
 fn a_newtype_is_reread(rt: HostRuntime) -> Result<(), Fail> {
-    gives_back(&rt, rt.alloc(), Count(-5))
+    gives_back(&rt, rt.alloc(), Count(-5_i64))?;
+    gives_back(&rt, rt.alloc(), Count(255_u8))
+}
+
+#[test]
+fn a_tuple_struct_is_reread(rt: HostRuntime) -> Result<(), Fail> {
+    let written = r#"L [N "1", N "2"]"#;
+    let json = r#"{"L":[{"N":"1"},{"N":"2"}]}"#;
+    rereads(&rt, rt.alloc(), Point(1, 2), (written, json, "Point(1, 2)"))
 }

@@ -1,5 +1,5 @@
 // Structs of each form read from what their form says.
-use crate::by_hand::Count;
+use crate::by_hand::{Count, Point};
 use crate::kinds::{Name, UnitStruct};
 use crate::reading::{reads, reads_back};
 use std::test::Fail;
@@ -17,13 +17,27 @@ fn a_unit_struct_reads_from_null(rt: HostRuntime) -> Result<(), Fail> {
 #[test]
 fn a_newtype_reads_from_what_its_content_reads_from(rt: HostRuntime) -> Result<(), Fail> {
     let alloc = rt.alloc();
-    reads_back(&rt, alloc, Count(5))?;
+    reads_back(&rt, alloc, Count(5_i64))?;
     reads_back(&rt, alloc, Name(String::from_str(alloc, "one")?))?;
-    reads::<Count>(&rt, alloc, r#"N "1""#, "Count(1)")?;
-    reads::<Count>(&rt, alloc, r#"S "1""#, "Expected num")?;
-    reads::<Option<Count>>(&rt, alloc, r#"N "1""#, "Some(Count(1))")?;
-    reads::<Vec<Count>>(&rt, alloc, r#"L [N "1"]"#, "[Count(1)]")?;
+    reads::<Count<i64>>(&rt, alloc, r#"N "1""#, "Count(1)")?;
+    reads::<Count<u8>>(&rt, alloc, r#"N "1""#, "Count(1)")?;
+    let past = "Failed to parse '256' as an integer: ..";
+    reads::<Count<u8>>(&rt, alloc, r#"N "256""#, past)?;
+    reads::<Count<i64>>(&rt, alloc, r#"S "1""#, "Expected num")?;
+    reads::<Option<Count<i64>>>(&rt, alloc, r#"N "1""#, "Some(Count(1))")?;
+    reads::<Vec<Count<i64>>>(&rt, alloc, r#"L [N "1"]"#, "[Count(1)]")?;
     // The elements of a set show no newtype.
-    reads::<Vec<Count>>(&rt, alloc, r#"Ns ["1"]"#, "a message")?;
+    reads::<Vec<Count<i64>>>(&rt, alloc, r#"Ns ["1"]"#, "a message")?;
     reads::<Vec<Name>>(&rt, alloc, "Bs [[97]]", "a message")
+}
+
+#[test]
+fn a_tuple_struct_reads_its_first_elements(rt: HostRuntime) -> Result<(), Fail> {
+    let alloc = rt.alloc();
+    reads_back(&rt, alloc, Point(0, 255))?;
+    reads::<Point>(&rt, alloc, r#"L [N "1", N "2"]"#, "Point(1, 2)")?;
+    reads::<Point>(&rt, alloc, r#"L [N "1"]"#, "a message")?;
+    reads::<Point>(&rt, alloc, r#"L [N "1", N "2", N "3"]"#, "Point(1, 2)")?;
+    reads::<Point>(&rt, alloc, r#"L [N "1", S "2"]"#, "Expected num")?;
+    reads::<Point>(&rt, alloc, r#"N "1""#, "Expected seq")
 }
