@@ -51,6 +51,8 @@ mod plain_json;
 #[cfg(test)]
 mod reading;
 #[cfg(test)]
+mod reading_at_shapes;
+#[cfg(test)]
 mod refusals;
 #[cfg(test)]
 mod refuses;
