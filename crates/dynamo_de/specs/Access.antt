@@ -1,5 +1,5 @@
 -- What the accesses answer, and what they leave.
-use Rattle.std.specs.Prelude.{◌≡◌, ◌⊎◌, ℕ, length, List, [], ◌∷◌, Option, Some, None, Result, Ok, Err}
+use Rattle.std.specs.Prelude.{◌≡◌, ◌⊎◌, ℕ, Bool, true, false, length, List, [], ◌∷◌, Option, Some, None, Result, Ok, Err}
 use Rattle.dynamo_value.specs.Fault.{Fault, out_of_memory, map_value_before_key}
 use Rattle.dynamo_de.specs.Meets.{Meets, IsMessage}
 use Rattle.dynamo_de.specs.Source.{Source, Entry, attribute, key_text, plain_text}
@@ -63,3 +63,8 @@ OfContent reads (Some s) r = reads s r
 abbrev pub Hints : {X : Type 0} → List X → Option ℕ → Type 0
 Hints left None = Unit {0}
 Hints left (Some n) = n ≡ length left
+
+-- the number of what is left where it is counted, and else none
+abbrev pub hint_of : {X : Type 0} → Bool → List X → Option ℕ
+hint_of true left = Some (length left)
+hint_of false left = None
