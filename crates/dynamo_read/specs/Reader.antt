@@ -52,7 +52,7 @@ Counted (of.attribute (av.Ns ts)) e = elements_counted e ≡ false
 Counted (of.attribute (av.Bs ts)) e = elements_counted e ≡ false
 Counted _ e = Unit {0}
 
--- where elements are shown, they are of this kind
+-- where elements are shown, P holds of them
 abbrev pub IfElements : (Elements → Type 0) → Result (Showing Deserializer Elements Entries Choice) ErrorImpl → Type 0
 IfElements P (Ok (showing.Sequence e)) = P e
 IfElements P _ = Unit {0}
