@@ -1,5 +1,5 @@
 -- What the accesses answer, and what they leave.
-use Rattle.std.specs.Prelude.{◌≡◌, ◌⊎◌, ℕ, length, List, [], ◌∷◌, Option, Some, None, Result, Ok, Err}
+use Rattle.std.specs.Prelude.{◌≡◌, ◌⊎◌, ℕ, Bool, true, false, length, List, [], ◌∷◌, Option, Some, None, Result, Ok, Err}
 use Rattle.dynamo_value.specs.Fault.{Fault, out_of_memory, map_value_before_key}
 use Rattle.dynamo_de.specs.Meets.{Meets, IsMessage}
 use Rattle.dynamo_de.specs.Source.{Source, Entry, attribute, key_text, plain_text}
@@ -31,10 +31,21 @@ abbrev pub ReadsPair : {K V : Type 0} → (Source → Result K Fault → Type 0)
 ReadsPair keys values e (Ok p) = keys (key_text e.0) (Ok p.0) × values (attribute e.1) (Ok p.1)
 ReadsPair {K} keys values e (Err f) = keys (key_text e.0) (Err f) ⊎ ((k : K) × keys (key_text e.0) (Ok k) × values (attribute e.1) (Err f))
 
--- The next key with its value. After a failing key its value is pending, after a failing value none is.
+-- the key fails, and its value is pending
+abbrev pub KeyFails : {K E : Type 0} → (E → Fault) → (Source → Result K Fault → Type 0) → Entry → Option Source → E → Type 0
+KeyFails fault keys e waits x = (waits ≡ Some (attribute e.1)) × Meets fault (keys (key_text e.0)) (Err x)
+
+-- a key is read and its value fails, and none is pending
+abbrev pub ValueFails : {K V E : Type 0} → (E → Fault) → (Source → Result K Fault → Type 0) → (Source → Result V Fault → Type 0) → Entry → Option Source → E → Type 0
+ValueFails {K} fault keys values e waits x = (waits ≡ None) × ((k : K) × keys (key_text e.0) (Ok k) × Meets fault (values (attribute e.1)) (Err x))
+
+-- The next key with its value. Where an entry is left, both are read, and none is pending; or its key fails, or its value does.
+-- Where none is left, a pending value stays.
 abbrev pub NextEntry : {K V E : Type 0} → (E → Fault) → (Source → Result K Fault → Type 0) → (Source → Result V Fault → Type 0) → List Entry → Option Source → List Entry → Option Source → Result (Option (K × V)) E → Type 0
 NextEntry fault keys values [] pending new waits r = (new ≡ []) × (waits ≡ pending) × (r ≡ Ok None)
-NextEntry fault keys values (e ∷ es) pending new waits r = (new ≡ es) × ((waits ≡ None) ⊎ (waits ≡ Some (attribute e.1))) × Element fault (ReadsPair keys values e) r
+NextEntry fault keys values (e ∷ es) pending new waits (Ok None) = ⊥
+NextEntry fault keys values (e ∷ es) pending new waits (Ok (Some p)) = (new ≡ es) × (waits ≡ None) × ReadsPair keys values e (Ok p)
+NextEntry fault keys values (e ∷ es) pending new waits (Err x) = (new ≡ es) × (KeyFails fault keys e waits x ⊎ ValueFails fault keys values e waits x)
 
 -- The name is read, and the content is left; or the fault that asking for the variant meets.
 abbrev pub ReadsVariant : {T C E : Type 0} → (E → Fault) → (Source → Result T Fault → Type 0) → (C → Option Source) → Result (List ℕ × Option Source) Fault → Result (T × C) E → Type 0
@@ -52,3 +63,8 @@ OfContent reads (Some s) r = reads s r
 abbrev pub Hints : {X : Type 0} → List X → Option ℕ → Type 0
 Hints left None = Unit {0}
 Hints left (Some n) = n ≡ length left
+
+-- the number of what is left where it is counted, and else none
+abbrev pub hint_of : {X : Type 0} → Bool → List X → Option ℕ
+hint_of true left = Some (length left)
+hint_of false left = None

@@ -62,7 +62,8 @@ pub trait MapAccess: Sized + Drop {
     fn next_value_seed<V: DeserializeSeed>(&mut self, seed: V) -> Result<V::Value, Self::Error>
         ensures { NextValue Self.Error.fault (V.reads seed) (left self.old) (pending self.old) (left self.new) (pending self.new) result };
 
-    /// The next key and its value, each read by a seed; none after the last.
+    /// The next key and its value, each read by a seed; none after the last. Where the key fails its value is pending, where
+    /// the value fails it is gone.
     fn next_entry_seed<K: DeserializeSeed, V: DeserializeSeed>(
         &mut self,
         key_seed: K,

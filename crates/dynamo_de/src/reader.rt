@@ -1,6 +1,6 @@
-ghost use Rattle.std.specs.Prelude.{◌≡◌, ℕ, List, Option, Result};
+ghost use Rattle.std.specs.Prelude.{◌≡◌, ℕ, Bool, List, Option, Result};
 ghost use Rattle.dynamo_value.specs.Fault.{Fault, expected_char, map_value_before_key};
-ghost use Rattle.dynamo_de.specs.Access.{Hints};
+ghost use Rattle.dynamo_de.specs.Access.{Hints, hint_of};
 ghost use Rattle.dynamo_de.specs.Shown.{shown};
 ghost use Rattle.dynamo_de.specs.Shows.{Shows, TakesElement, TakesEntry, Names};
 ghost use Rattle.dynamo_de.specs.Source.{Source, Entry};
@@ -27,6 +27,9 @@ pub trait Reader: Sized + Drop {
 
     ghost elements: { Self.Elements → List Source };
 
+    // Whether the elements that are left are counted.
+    ghost counted: { Self.Elements → Bool };
+
     ghost entries: { Self.Entries → List Entry };
 
     ghost chosen: { Self.Choice → Result (List ℕ × Option Source) Fault };
@@ -41,9 +44,10 @@ pub trait Reader: Sized + Drop {
     ) -> Result<Showing<Self, Self::Elements, Self::Entries, Self::Choice>, Self::Error>
         ensures { Shows Self.Error.fault source elements entries chosen (shown request (source self)) result };
 
-    /// The reader of the next element.
+    /// The reader of the next element. Whether those that are left are counted doesn't change.
     fn next_element(rest: &mut Self::Elements) -> Option<Self>
-        ensures { TakesElement source (elements rest.old) (elements rest.new) result };
+        ensures taken { TakesElement source (elements rest.old) (elements rest.new) result }
+        ensures same { counted rest.new ≡ counted rest.old };
 
     /// The readers of the next entry's key and value.
     fn next_entry(rest: &mut Self::Entries) -> Option<(Self, Self)>
@@ -62,11 +66,9 @@ pub trait Reader: Sized + Drop {
         ensures { Self.Error.fault result ≡ expected_char };
 
     /// How many elements are left, where that is known.
-    fn elements_left(_rest: &Self::Elements) -> Option<usize>
-        ensures { Hints (elements _rest.now) result }
-    {
-        None
-    }
+    fn elements_left(rest: &Self::Elements) -> Option<usize>
+        ensures hint { Hints (elements rest.now) result }
+        ensures exact { result ≡ hint_of (counted rest.now) (elements rest.now) };
 
     /// How many entries are left, where that is known.
     fn entries_left(_rest: &Self::Entries) -> Option<usize>

@@ -1,7 +1,11 @@
 ghost use Rattle.std.specs.Prelude.{◌≡◌, None};
+ghost use Rattle.dynamo_de.specs.Access.{NextElement, Hints, hint_of};
 ghost use Rattle.dynamo_de.specs.Shows.{content_of};
 
-use crate::{DeserializeSeed, EnumAccess, Error, MapAccess, Reader, SeqAccess, VariantAccess};
+use crate::{
+    Deserialize, DeserializeSeed, EnumAccess, Error, MapAccess, Reader, SeqAccess, TypeSeed,
+    VariantAccess,
+};
 use std::alloc::Global;
 
 /// The elements that a reader shows.
@@ -34,14 +38,28 @@ impl<R: Reader> SeqAccess for ReaderSeqAccess<R> {
     fn next_element_seed<T: DeserializeSeed>(
         &mut self,
         seed: T,
-    ) -> Result<Option<T::Value>, R::Error> {
+    ) -> Result<Option<T::Value>, R::Error>
+        ensures next { NextElement R.Error.fault (T.reads seed) (R.elements self.old.elements) (R.elements self.new.elements) result }
+        ensures same { R.counted self.new.elements ≡ R.counted self.old.elements }
+    {
         match R::next_element(&mut self.elements) {
             None => Ok(None),
             Some(element) => Ok(Some(seed.deserialize(element)?)),
         }
     }
 
-    fn size_hint(&self) -> Option<usize> {
+    fn next_element<T: Deserialize>(&mut self, alloc: Global) -> Result<Option<T>, R::Error>
+        ensures next { NextElement R.Error.fault T.reads (R.elements self.old.elements) (R.elements self.new.elements) result }
+        ensures same { R.counted self.new.elements ≡ R.counted self.old.elements }
+    {
+        self.next_element_seed(TypeSeed::<T>::new(alloc))
+    }
+
+    /// How many elements are left, where the reader counts them.
+    fn size_hint(&self) -> Option<usize>
+        ensures hint { Hints (R.elements self.now.elements) result }
+        ensures exact { result ≡ hint_of (R.counted self.now.elements) (R.elements self.now.elements) }
+    {
         R::elements_left(&self.elements)
     }
 }

@@ -1,4 +1,4 @@
-ghost use Rattle.std.specs.Prelude.{◌≡◌, [], Err};
+ghost use Rattle.std.specs.Prelude.{◌≡◌, false, [], Err};
 ghost use Rattle.dynamo_value.specs.Fault.{expected_enum};
 ghost use Rattle.dynamo_value.specs.Kind.{fault_of};
 ghost use Rattle.dynamo_de.specs.Shown.{shown};
@@ -40,6 +40,8 @@ impl Reader for DeserializerBytes {
 
     ghost elements = { λ _. [] };
 
+    ghost counted = { λ _. false };
+
     ghost entries = { λ _. [] };
 
     ghost chosen = { λ _. Err expected_enum };
@@ -74,5 +76,9 @@ impl Reader for DeserializerBytes {
 
     fn more_than_one_char() -> Error {
         Error::from(ErrorImpl::ExpectedChar)
+    }
+
+    fn elements_left(_rest: &NoElements) -> Option<usize> {
+        None
     }
 }

@@ -1,4 +1,4 @@
-ghost use Rattle.std.specs.Prelude.{◌≡◌, [], string_bytes};
+ghost use Rattle.std.specs.Prelude.{◌≡◌, false, [], string_bytes};
 ghost use Rattle.dynamo_value.specs.Kind.{fault_of};
 ghost use Rattle.dynamo_de.specs.Shown.{shown};
 ghost use Rattle.dynamo_de.specs.Source.{key_text};
@@ -64,6 +64,8 @@ impl Reader for DeserializerMapKey {
 
     ghost elements = { λ _. [] };
 
+    ghost counted = { λ _. false };
+
     ghost entries = { λ _. [] };
 
     ghost chosen = { name_chosen };
@@ -105,5 +107,9 @@ impl Reader for DeserializerMapKey {
 
     fn more_than_one_char() -> Error {
         Error::from(ErrorImpl::ExpectedChar)
+    }
+
+    fn elements_left(_rest: &NoElements) -> Option<usize> {
+        None
     }
 }

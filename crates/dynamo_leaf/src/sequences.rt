@@ -1,4 +1,4 @@
-ghost use Rattle.std.specs.Prelude.{◌≡◌, map, string_bytes};
+ghost use Rattle.std.specs.Prelude.{◌≡◌, map, None, string_bytes};
 ghost use Rattle.dynamo_de.specs.Source.{number_text, plain_text, byte_string, each};
 ghost use Rattle.dynamo_leaf.specs.Readers.{strings_left, numbers_left, bytes_left};
 
@@ -41,6 +41,13 @@ impl SeqAccess for DeserializerSeqStrings {
             }
         }
     }
+
+    /// None: the strings of a set aren't counted.
+    fn size_hint(&self) -> Option<usize>
+        ensures { result ≡ None }
+    {
+        None
+    }
 }
 
 /// The elements of a set of numbers, each read by a [`DeserializerNumber`].
@@ -76,6 +83,13 @@ impl SeqAccess for DeserializerSeqNumbers {
             }
         }
     }
+
+    /// None: the numbers of a set aren't counted.
+    fn size_hint(&self) -> Option<usize>
+        ensures { result ≡ None }
+    {
+        None
+    }
 }
 
 /// The elements of a set of byte strings, each read by a [`DeserializerBytes`].
@@ -110,5 +124,12 @@ impl SeqAccess for DeserializerSeqBytes {
                 Ok(Some(seed.deserialize(element)?))
             }
         }
+    }
+
+    /// None: the byte strings of a set aren't counted.
+    fn size_hint(&self) -> Option<usize>
+        ensures { result ≡ None }
+    {
+        None
     }
 }

@@ -1,4 +1,4 @@
--- What stands in a map, a list or a set, and how much of it there is.
+-- What stands in a map or a list, and how much of it there is.
 use Rattle.std.proofs.Common.{◌≡◌, ℕ, List, [], ◌∷◌, length, map, Global, Vec, suc, refl, ap, ◌∙◌}
 use Rattle.dynamo_value.proofs.Views.{view_list, view_map}
 use Rattle.dynamo_value.specs.Av as av
@@ -9,21 +9,17 @@ use Rattle.dynamo_value.specs.View.{view, elements_view}
 use Rattle.dynamo_value.specs.declared.attribute_value.AttributeValue.{AttributeValue, L, M}
 use Rattle.dynamo_de.specs.Answer as answer
 use Rattle.dynamo_de.specs.Contents.{read_elements}
-use Rattle.dynamo_de.specs.Source.{Source, Entry, attribute, entries_of, values_of, each}
+use Rattle.dynamo_de.specs.Source.{Source, Entry, attribute, entries_of, values_of}
 
 -- the entries of the members that entries make
 pub entries_of_members : (es : List Entry) → entries_of (members_of es) ≡ es
 entries_of_members [] = refl
 entries_of_members (e ∷ es) = ap (λ fs. e ∷ fs) (entries_of_members es)
 
--- a list and a set have as many sources as elements
+-- a list has as many sources as elements
 pub length_values : (values : List AttributeValue) → length (values_of (elements_view values)) ≡ length values
 length_values [] = refl
 length_values (v ∷ vs) = ap suc (length_values vs)
-
-pub length_each : {X : Type 0} (source : List ℕ → Source) (bytes : X → List ℕ) (xs : List X) → length (each source (map bytes xs)) ≡ length xs
-length_each source bytes [] = refl
-length_each source bytes (x ∷ xs) = ap suc (length_each source bytes xs)
 
 -- the sources in a list of maps
 maps_in : (tables : List Table) → values_of (elements_view (map M tables)) ≡ map (λ m. attribute (av.M m)) (tables_view tables)

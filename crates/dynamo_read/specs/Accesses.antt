@@ -1,12 +1,13 @@
 -- What the accesses to lists, items and variants have left.
 use Rattle.std.specs.Prelude.{ℕ, List, Option, Some, Result}
+use Rattle.std.specs.Vec.Iter.{into_iter_items}
 use Rattle.dynamo_value.specs.Fault.{Fault}
-use Rattle.dynamo_value.specs.View.{members_view}
+use Rattle.dynamo_value.specs.View.{elements_view, members_view}
 use Rattle.dynamo_de.specs.Shows.{content_of}
 use Rattle.dynamo_de.specs.Sight.{single}
-use Rattle.dynamo_de.specs.Source.{Source, Entry}
+use Rattle.dynamo_de.specs.Source.{Source, Entry, values_of}
 use Rattle.dynamo_read.specs.Reader.{source_of}
-use Rattle.dynamo_read.specs.Unread.{elements_left, entries_left}
+use Rattle.dynamo_read.specs.Unread.{entries_left}
 use Rattle.dynamo_read.specs.declared.deserializer_seq.DeserializerSeq.{DeserializerSeq}
 use Rattle.dynamo_read.specs.declared.deserializer_map.DeserializerMap.{DeserializerMap}
 use Rattle.dynamo_read.specs.declared.deserializer_enum.DeserializerEnum.{DeserializerEnum}
@@ -14,7 +15,7 @@ use Rattle.dynamo_read.specs.declared.deserializer_enum.DeserializerVariant.{Des
 
 -- the sources of the elements of a list that are left
 abbrev pub seq_left : DeserializerSeq → List Source
-seq_left a = elements_left a.access.elements
+seq_left a = values_of (elements_view (into_iter_items a.values))
 
 -- the entries of an item that are left, and the source of a value whose key was read
 abbrev pub map_left : DeserializerMap → List Entry

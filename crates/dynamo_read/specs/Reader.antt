@@ -1,13 +1,17 @@
 -- What the reader of attribute values reads from, and what it shows.
-use Rattle.std.specs.Prelude.{Result, string_bytes}
+use Rattle.std.specs.Prelude.{◌≡◌, Bool, true, false, Result, Ok, string_bytes}
+use Rattle.dynamo_value.specs.Av as av
 use Rattle.dynamo_value.specs.Kind.{fault_of}
 use Rattle.dynamo_value.specs.View.{view}
 use Rattle.dynamo_value.specs.declared.error.ErrorImpl.{ErrorImpl}
 use Rattle.dynamo_de.specs.Shown.{Shown}
 use Rattle.dynamo_de.specs.Shows.{Shows}
 use Rattle.dynamo_de.specs.Source as of
+use Rattle.dynamo_de.specs.declared.request.Request.{Request}
+use Rattle.dynamo_de.specs.declared.request.Request.TheVariants as request
 use Rattle.dynamo_de.specs.declared.showing.Showing.{Showing}
-use Rattle.dynamo_read.specs.Unread.{elements_left, entries_left, chosen_of}
+use Rattle.dynamo_de.specs.declared.showing.Showing.TheVariants as showing
+use Rattle.dynamo_read.specs.Unread.{elements_left, elements_counted, entries_left, chosen_of}
 use Rattle.dynamo_read.specs.declared.deserializer.Deserializer.{Deserializer}
 use Rattle.dynamo_read.specs.declared.deserializer.Source.{Source}
 use Rattle.dynamo_read.specs.declared.deserializer.Source.TheVariants as source
@@ -29,3 +33,26 @@ source_of d = seen_source d.source
 -- it shows exactly this, or refuses by exactly this fault; want of memory is excused
 abbrev pub IsShown : Shown → Result (Showing Deserializer Elements Entries Choice) ErrorImpl → Type 0
 IsShown shown r = Shows fault_of source_of elements_left entries_left chosen_of shown r
+
+-- the requests at which elements are shown
+abbrev pub asks_elements : Request → Bool
+asks_elements request.Any = true
+asks_elements request.IgnoredAny = true
+asks_elements request.Seq = true
+asks_elements request.Tuple = true
+asks_elements request.TupleStruct = true
+asks_elements request.Struct = true
+asks_elements _ = false
+
+-- the elements of a list are counted, those of a set are not
+abbrev pub Counted : of.Source → Elements → Type 0
+Counted (of.attribute (av.L as')) e = elements_counted e ≡ true
+Counted (of.attribute (av.Ss ts)) e = elements_counted e ≡ false
+Counted (of.attribute (av.Ns ts)) e = elements_counted e ≡ false
+Counted (of.attribute (av.Bs ts)) e = elements_counted e ≡ false
+Counted _ e = Unit {0}
+
+-- where elements are shown, P holds of them
+abbrev pub IfElements : (Elements → Type 0) → Result (Showing Deserializer Elements Entries Choice) ErrorImpl → Type 0
+IfElements P (Ok (showing.Sequence e)) = P e
+IfElements P _ = Unit {0}

@@ -1,5 +1,5 @@
 -- What a reader has not read yet: elements, entries and a variant.
-use Rattle.std.specs.Prelude.{ℕ, List, map, Option, None, Result, Ok, string_bytes}
+use Rattle.std.specs.Prelude.{ℕ, Bool, true, false, List, map, Option, None, Result, Ok, string_bytes}
 use Rattle.std.specs.Vec.Iter.{into_iter_items}
 use Rattle.dynamo_value.specs.Fault.{Fault}
 use Rattle.dynamo_value.specs.View.{elements_view, members_view}
@@ -23,6 +23,14 @@ rest_left (rest.ByteStrings i) = each byte_string (map (λ b. b.items) (into_ite
 -- the sources of the elements that are left
 abbrev pub elements_left : Elements → List Source
 elements_left e = rest_left e.rest
+
+abbrev pub is_list : Rest → Bool
+is_list (rest.Values i) = true
+is_list _ = false
+
+-- whether the elements are counted: those of a list are, those of a set are not
+abbrev pub elements_counted : Elements → Bool
+elements_counted e = is_list e.rest
 
 -- the entries that are left
 abbrev pub entries_left : Entries → List Entry

@@ -1,9 +1,10 @@
-ghost use Rattle.std.specs.Prelude.{◌≡◌, length, Some, string_bytes};
+ghost use Rattle.std.specs.Prelude.{◌≡◌, true, length, Some, string_bytes};
 ghost use Rattle.dynamo_value.specs.View.{view};
 ghost use Rattle.dynamo_de.specs.Access.{Hints};
+ghost use Rattle.dynamo_de.specs.Shown.{shown};
 ghost use Rattle.dynamo_de.specs.Source.{attribute, plain_text};
-ghost use Rattle.dynamo_read.specs.Reader.{source_of};
-ghost use Rattle.dynamo_read.specs.Unread.{elements_left, entries_left, chosen_of};
+ghost use Rattle.dynamo_read.specs.Reader.{source_of, IsShown, asks_elements, Counted, IfElements};
+ghost use Rattle.dynamo_read.specs.Unread.{elements_left, elements_counted, entries_left, chosen_of};
 
 use crate::entries::single_entry;
 use crate::show::{self, Shown};
@@ -92,6 +93,8 @@ impl Reader for Deserializer {
 
     ghost elements = { elements_left };
 
+    ghost counted = { elements_counted };
+
     ghost entries = { entries_left };
 
     ghost chosen = { chosen_of };
@@ -100,7 +103,11 @@ impl Reader for Deserializer {
         self.alloc
     }
 
-    fn show(self, request: Request) -> Result<Shown> {
+    /// What the source shows at a request. The elements of a list are counted, those of a set are not.
+    fn show(self, request: Request) -> Result<Shown>
+        ensures shown { IsShown (shown request (source_of self)) result }
+        ensures counted { asks_elements request ≡ true → IfElements (Counted (source_of self)) result }
+    {
         let alloc = self.alloc;
         match self.source {
             Source::AttributeValue(value) => show::attribute_value(alloc, request, value),
@@ -152,17 +159,12 @@ impl Reader for Deserializer {
         Error::from(ErrorImpl::ExpectedChar)
     }
 
-    /// How many elements are left, exactly.
-    #[tactic(auto, using(crate::proofs::Views::length_values, crate::proofs::Views::length_each))]
-    fn elements_left(rest: &Elements) -> Option<usize>
-        ensures hint { Hints (elements_left rest.now) result }
-        ensures exact { result ≡ Some (length (elements_left rest.now)) }
-    {
+    /// How many elements of a list are left, exactly. Those of a set aren't counted.
+    #[tactic(auto, using(crate::proofs::Views::length_values))]
+    fn elements_left(rest: &Elements) -> Option<usize> {
         match &rest.rest {
             Rest::Values(values) => Some(values.len()),
-            Rest::Texts(texts) => Some(texts.len()),
-            Rest::Numbers(numbers) => Some(numbers.len()),
-            Rest::ByteStrings(byte_strings) => Some(byte_strings.len()),
+            Rest::Texts(_) | Rest::Numbers(_) | Rest::ByteStrings(_) => None,
         }
     }
 

@@ -5,15 +5,16 @@ ghost use Rattle.dynamo_de.specs.Source.{values_of};
 ghost use Rattle.dynamo_read.specs.Accesses.{seq_left};
 
 use crate::deserializer::Deserializer;
-use crate::unread::Elements;
-use dynamo_de::{DeserializeSeed, Reader, ReaderSeqAccess, SeqAccess};
+use dynamo_de::{DeserializeSeed, SeqAccess};
 use dynamo_value::{AttributeValue, Error, Result};
 use std::alloc::Global;
+use std::vec::IntoIter;
 
 /// The elements of a list, each read by a [`Deserializer`].
 #[derive(Drop)]
 pub struct DeserializerSeq {
-    access: ReaderSeqAccess<Deserializer>,
+    alloc: Global,
+    values: IntoIter<AttributeValue>,
 }
 
 impl DeserializerSeq {
@@ -22,7 +23,8 @@ impl DeserializerSeq {
         ensures { seq_left result ≡ values_of (elements_view values.items) }
     {
         DeserializerSeq {
-            access: ReaderSeqAccess::new(Elements::values(alloc, values)),
+            alloc,
+            values: values.into_iter(),
         }
     }
 }
@@ -33,14 +35,21 @@ impl SeqAccess for DeserializerSeq {
     ghost left = { seq_left };
 
     fn next_element_seed<T: DeserializeSeed>(&mut self, seed: T) -> Result<Option<T::Value>> {
-        self.access.next_element_seed(seed)
+        match self.values.next() {
+            None => Ok(None),
+            Some(element) => {
+                let element = Deserializer::from_attribute_value(self.alloc, element);
+                Ok(Some(seed.deserialize(element)?))
+            }
+        }
     }
 
     /// How many elements are left, exactly.
+    #[tactic(auto, using(crate::proofs::Views::length_values))]
     fn size_hint(&self) -> Option<usize>
         ensures hint { Hints (seq_left self.now) result }
         ensures exact { result ≡ Some (length (seq_left self.now)) }
     {
-        Deserializer::elements_left(self.access.elements())
+        Some(self.values.len())
     }
 }

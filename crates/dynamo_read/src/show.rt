@@ -1,12 +1,13 @@
-ghost use Rattle.std.specs.Prelude.{◌≡◌, Some, string_bytes};
+ghost use Rattle.std.specs.Prelude.{◌≡◌, true, Some, string_bytes};
 ghost use Rattle.std.specs.Str.{chars};
 ghost use Rattle.dynamo_value.specs.Integer.{IntegerKind};
 ghost use Rattle.dynamo_value.specs.Kind.{fault_of};
 ghost use Rattle.dynamo_value.specs.View.{view};
 ghost use Rattle.dynamo_de.specs.Shown.{any_shown, num_shown, bool_shown, char_shown, chars_shown, text_shown, bytes_shown, option_shown, null_shown, seq_shown, map_shown, struct_shown, enum_shown, attribute_shown, number_text_shown, key_shown, plain_text_shown};
 ghost use Rattle.dynamo_de.specs.Shows.{seen};
+ghost use Rattle.dynamo_de.specs.Source.{attribute};
 ghost use Rattle.dynamo_leaf.specs.Leaf.{leaf_sight, asked};
-ghost use Rattle.dynamo_read.specs.Reader.{source_of, IsShown};
+ghost use Rattle.dynamo_read.specs.Reader.{source_of, IsShown, asks_elements, Counted, IfElements};
 ghost use Rattle.dynamo_read.specs.Unread.{elements_left, entries_left, chosen_of};
 
 use crate::deserializer::Deserializer;
@@ -25,7 +26,8 @@ pub(crate) fn attribute_value(
     request: Request,
     value: AttributeValue,
 ) -> Result<Shown>
-    ensures { IsShown (attribute_shown request (view value)) result }
+    ensures shown { IsShown (attribute_shown request (view value)) result }
+    ensures counted { asks_elements request ≡ true → IfElements (Counted (attribute (view value))) result }
 {
     match request {
         Request::Any | Request::IgnoredAny => any(alloc, value),
@@ -58,7 +60,8 @@ pub(crate) fn attribute_value(
 
 // Whatever is there.
 fn any(alloc: Global, value: AttributeValue) -> Result<Shown>
-    ensures { IsShown (any_shown (view value)) result }
+    ensures shown { IsShown (any_shown (view value)) result }
+    ensures counted { IfElements (Counted (attribute (view value))) result }
 {
     match value {
         AttributeValue::N(text) => number_text(alloc, Request::Any, text),
@@ -68,7 +71,10 @@ fn any(alloc: Global, value: AttributeValue) -> Result<Shown>
         AttributeValue::Null(true) => Ok(Showing::Unit),
         AttributeValue::Null(false) => Err(Error::from(ErrorImpl::ExpectedUnit)),
         AttributeValue::M(map) => Ok(Showing::Map(Entries::of_map(alloc, map)?)),
-        list_or_set => sequence(alloc, list_or_set),
+        list_or_set @ (AttributeValue::L(_)
+        | AttributeValue::Ss(_)
+        | AttributeValue::Ns(_)
+        | AttributeValue::Bs(_)) => sequence(alloc, list_or_set),
     }
 }
 
@@ -159,7 +165,8 @@ fn null(otherwise: ErrorImpl, value: AttributeValue) -> Result<Shown>
 
 // A list, or a set of whatever kind.
 fn sequence(alloc: Global, value: AttributeValue) -> Result<Shown>
-    ensures { IsShown (seq_shown (view value)) result }
+    ensures shown { IsShown (seq_shown (view value)) result }
+    ensures counted { IfElements (Counted (attribute (view value))) result }
 {
     match value {
         AttributeValue::L(values) => Ok(Showing::Sequence(Elements::values(alloc, values))),
@@ -185,7 +192,8 @@ fn map(alloc: Global, value: AttributeValue) -> Result<Shown>
 
 // A map, or a list with the fields in order; no set.
 fn structure(alloc: Global, value: AttributeValue) -> Result<Shown>
-    ensures { IsShown (struct_shown (view value)) result }
+    ensures shown { IsShown (struct_shown (view value)) result }
+    ensures counted { IfElements (Counted (attribute (view value))) result }
 {
     match value {
         AttributeValue::L(values) => Ok(Showing::Sequence(Elements::values(alloc, values))),

@@ -1,10 +1,10 @@
-ghost use Rattle.std.specs.Prelude.{◌≡◌, map, string_bytes, IfOk, IfErr, OnOk, OnErr, [], Ok, None};
+ghost use Rattle.std.specs.Prelude.{◌≡◌, true, false, map, string_bytes, IfOk, IfErr, OnOk, OnErr, [], Ok, None};
 ghost use Rattle.dynamo_value.specs.Fault.{out_of_memory};
 ghost use Rattle.dynamo_value.specs.Kind.{fault_of};
 ghost use Rattle.dynamo_value.specs.View.{elements_view, members_view, entries_view};
 ghost use Rattle.dynamo_de.specs.Sight.{single};
 ghost use Rattle.dynamo_de.specs.Source.{entries_of, values_of, each, plain_text, number_text, byte_string};
-ghost use Rattle.dynamo_read.specs.Unread.{elements_left, entries_left, chosen_of};
+ghost use Rattle.dynamo_read.specs.Unread.{elements_left, elements_counted, entries_left, chosen_of};
 
 use crate::entries::take_sorted;
 use dynamo_value::{AttributeValue, Result};
@@ -31,7 +31,8 @@ pub(crate) enum Rest {
 impl Elements {
     // The elements of a list. It takes no memory.
     pub(crate) fn values(alloc: Global, values: Vec<AttributeValue>) -> Self
-        ensures { elements_left result ≡ values_of (elements_view values.items) }
+        ensures left { elements_left result ≡ values_of (elements_view values.items) }
+        ensures counted { elements_counted result ≡ true }
     {
         Elements {
             alloc,
@@ -41,7 +42,8 @@ impl Elements {
 
     // The elements of a set of strings. It takes no memory.
     pub(crate) fn texts(alloc: Global, texts: Vec<String>) -> Self
-        ensures { elements_left result ≡ each plain_text (map string_bytes texts.items) }
+        ensures left { elements_left result ≡ each plain_text (map string_bytes texts.items) }
+        ensures counted { elements_counted result ≡ false }
     {
         Elements {
             alloc,
@@ -51,7 +53,8 @@ impl Elements {
 
     // The elements of a set of numbers. It takes no memory.
     pub(crate) fn numbers(alloc: Global, numbers: Vec<String>) -> Self
-        ensures { elements_left result ≡ each number_text (map string_bytes numbers.items) }
+        ensures left { elements_left result ≡ each number_text (map string_bytes numbers.items) }
+        ensures counted { elements_counted result ≡ false }
     {
         Elements {
             alloc,
@@ -61,7 +64,8 @@ impl Elements {
 
     // The elements of a set of byte strings. It takes no memory.
     pub(crate) fn byte_strings(alloc: Global, byte_strings: Vec<Vec<u8>>) -> Self
-        ensures { elements_left result ≡ each byte_string (map (λ b. b.items) byte_strings.items) }
+        ensures left { elements_left result ≡ each byte_string (map (λ b. b.items) byte_strings.items) }
+        ensures counted { elements_counted result ≡ false }
     {
         Elements {
             alloc,

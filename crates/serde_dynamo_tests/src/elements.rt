@@ -1,9 +1,11 @@
 // Callers of sequences that ask past the end, take nothing, and go on after a fault.
+ghost use Rattle.dynamo_de.specs.Visitors.{claims_seq};
+
 use crate::careless::or_no_memory;
 use crate::notation;
 use crate::opener::{Manner, Opener};
 use crate::reading::{agrees, told};
-use serde_dynamo::de::{Deserializer, SeqAccess, TypeSeed};
+use serde_dynamo::de::{Deserializer, IgnoredAny, Kind, SeqAccess, TypeSeed, Visitor};
 use serde_dynamo::{
     AttributeValue, DeserializerSeq, DeserializerSeqBytes, DeserializerSeqNumbers,
     DeserializerSeqStrings,
@@ -56,6 +58,59 @@ fn on_access(alloc: Global, value: AttributeValue, times: u8) -> Result<String, 
         _ => return Err(Fail::from("no sequence")),
     };
     Ok(told(alloc, answer)?)
+}
+
+// Answers how many elements its access says are left, once so many are read.
+#[derive(Drop)]
+struct HowMany {
+    alloc: Global,
+    read: usize,
+}
+
+impl Visitor for HowMany {
+    type Value = Option<usize>;
+
+    ghost claimed = { λ _. claims_seq };
+
+    // The tests say what is answered.
+    ghost takes = { λ _ _ _. Unit {0} };
+
+    fn expecting(&self) -> &'static str {
+        "a sequence"
+    }
+
+    fn alloc(&self) -> Global {
+        self.alloc
+    }
+
+    fn claims(&self, kind: Kind) -> bool {
+        matches!(kind, Kind::Seq)
+    }
+
+    fn visit_seq<A: SeqAccess>(self, mut seq: A) -> Result<Option<usize>, A::Error> {
+        for _ in 0..self.read {
+            let _ = seq.next_element::<IgnoredAny>(self.alloc)?;
+        }
+        Ok(seq.size_hint())
+    }
+}
+
+// What a visitor is told of the number of elements, before the first and after each, past the end too.
+fn tells(
+    rt: &impl Abort,
+    alloc: Global,
+    source: &str,
+    expected: &[Option<usize>],
+) -> Result<(), Fail> {
+    let mut read = 0;
+    for expected in expected {
+        let value = notation::value(alloc, source)?;
+        let reader = serde_dynamo::Deserializer::from_attribute_value(alloc, value);
+        let told = reader.deserialize_seq(HowMany { alloc, read })?;
+        assert_eq!(rt; told, *expected, "after {read} of {source}");
+        read = read.saturating_add(1);
+    }
+    Ok(())
 }
 
 // The answers, from the first call on, in a visitor and on the accesses that have a name.
@@ -147,4 +202,19 @@ fn the_elements_of_a_set_are_read_without_a_count(rt: HostRuntime) -> Result<(),
     assert!(rt; matches!(&first, Some(text) if text.as_str() == "ab"));
     assert!(rt; seq.next_element::<String>(alloc)?.is_none());
     Ok(())
+}
+
+#[test]
+fn a_visitor_is_told_how_many_a_list_has_and_not_a_set(rt: HostRuntime) -> Result<(), Fail> {
+    let alloc = rt.alloc();
+    let counted = &[Some(2), Some(1), Some(0), Some(0)];
+    tells(&rt, alloc, r#"L [S "a", N "2"]"#, counted)?;
+    tells(&rt, alloc, "L []", &[Some(0), Some(0)])?;
+    let uncounted = &[None, None, None, None];
+    tells(&rt, alloc, r#"Ss ["a", "b"]"#, uncounted)?;
+    tells(&rt, alloc, r#"Ns ["1", "2"]"#, uncounted)?;
+    tells(&rt, alloc, "Bs [[1], [2]]", uncounted)?;
+    tells(&rt, alloc, "Ss []", &[None, None])?;
+    tells(&rt, alloc, "Ns []", &[None, None])?;
+    tells(&rt, alloc, "Bs []", &[None, None])
 }

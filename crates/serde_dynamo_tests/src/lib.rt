@@ -16,6 +16,7 @@ mod content_rows;
 mod elements;
 #[cfg(test)]
 mod entries;
+pub mod equal;
 #[cfg(test)]
 mod faults;
 #[cfg(test)]

@@ -2,7 +2,7 @@
 
 use crate::reading::{answer, item};
 use serde_dynamo::de::{MapAccess, TypeSeed};
-use serde_dynamo::{DeserializerMap, Result};
+use serde_dynamo::{DeserializerMap, ErrorImpl, Result};
 use std::alloc::Global;
 use std::test::Fail;
 
@@ -51,7 +51,10 @@ fn an_entry_fails_by_its_key_and_then_by_its_value(
     assert_eq!(rt; answer(alloc, &faulty)?.as_str(), "Expected num");
     assert_eq!(rt; map.size_hint(), Some(1));
     // The value is gone.
-    assert!(rt; map.next_value::<String>(alloc).is_err());
+    let Err(gone) = map.next_value::<String>(alloc) else {
+        return Err(Fail::from("a value"));
+    };
+    assert_eq!(rt; *gone.kind(), ErrorImpl::MapValueBeforeKey);
 
     let faulty: Result<Option<(u8, String)>> = map.next_entry(alloc);
     assert_eq!(rt; answer(alloc, &faulty)?.as_str(), "Expected num");

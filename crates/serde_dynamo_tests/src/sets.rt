@@ -46,6 +46,18 @@ fn lists_write_as_sets(rt: HostRuntime) -> Result<(), Fail> {
 }
 
 #[test]
+fn the_sets_stand_beside_the_calls_that_write_them(rt: HostRuntime) -> Result<(), Fail> {
+    let alloc = rt.alloc();
+    let texts = vec![in alloc; String::from_str(alloc, "a")?]?;
+    let set = string_set::StringSet(texts);
+    writes_directly(&rt, alloc, set, r#"Ss ["a"]"#)?;
+    let set = number_set::NumberSet(vec![in alloc; 1_u8]?);
+    writes_directly(&rt, alloc, set, r#"Ns ["1"]"#)?;
+    let set = binary_set::BinarySet(vec![in alloc; ByteBuf::from(b"a".to_vec(alloc)?)]?);
+    writes_directly(&rt, alloc, set, "Bs [[97]]")
+}
+
+#[test]
 fn what_is_no_list_is_no_set(rt: HostRuntime) -> Result<(), Fail> {
     let alloc = rt.alloc();
     let nothing: Vec<String> = Vec::new(alloc);

@@ -18,7 +18,7 @@ returns-in_err-bytes g c =
     let s = g.R.Reader.source c.args.reader in
     let whole = blobs_of g.R.Reader.elements s c.in_ok-elements.elements (search rules) in
     let stop = taken_stops items_of read_blob g.R.Reader.source (λ (v : Vec Blob Global). map items_of v.items) (read_blobs s) c.loop-element.blobs.items
-    (g.R.Reader.elements c.loop-element.elements) (g.R.Reader.elements c.next_element.new.rest) c.in-Some.element _ c.in-Some.ensures (c.loop-element.invariant ∙ whole) c.in_err-bytes.ensures in
+    (g.R.Reader.elements c.loop-element.elements) (g.R.Reader.elements c.next_element.new.rest) c.in-Some.element _ c.in-Some.ensures.taken (c.loop-element.invariant ∙ whole) c.in_err-bytes.ensures in
     search rules
 
 pub loop-element-preserved : goal.loop-element-preserved
@@ -28,10 +28,10 @@ loop-element-preserved g c =
     let bytes = c.in_ok-bytes.bytes in
     let pushed : c.push.new.self.items ≡ blobs ++ bytes ∷ [] = search rules in
     ap (λ vs. EachFrom items_of read_blob vs new) pushed
-    ∙ taken_more items_of read_blob g.R.Reader.source _ blobs bytes (g.R.Reader.elements c.loop-element.elements) new c.in-Some.element c.in-Some.ensures c.loop-element.invariant c.in_ok-bytes.ensures
+    ∙ taken_more items_of read_blob g.R.Reader.source _ blobs bytes (g.R.Reader.elements c.loop-element.elements) new c.in-Some.element c.in-Some.ensures.taken c.loop-element.invariant c.in_ok-bytes.ensures
 
 pub returns : goal.returns
 returns g c =
     let s = g.R.Reader.source c.args.reader in
     let whole = blobs_of g.R.Reader.elements s c.in_ok-elements.elements (search rules) in
-    rw (taken_ends items_of read_blob g.R.Reader.source (read_blobs s) c.loop-element.blobs.items (g.R.Reader.elements c.loop-element.elements) _ c.in_default.ensures (c.loop-element.invariant ∙ whole)) refl
+    rw (taken_ends items_of read_blob g.R.Reader.source (read_blobs s) c.loop-element.blobs.items (g.R.Reader.elements c.loop-element.elements) _ c.in_default.ensures.taken (c.loop-element.invariant ∙ whole)) refl

@@ -64,15 +64,15 @@ read_elements-loop-element-preserved g t c =
     let left = g.R.Reader.elements c.loop-element.elements in
     let new = g.R.Reader.elements c.next_element.new.rest in
     let items = c.loop-element.items.items in
-    let lower = items_lower g.R.Reader.source left new c.in-Some.element c.in-Some.ensures in
+    let lower = items_lower g.R.Reader.source left new c.in-Some.element c.in-Some.ensures.taken in
     let given : Gives view (read_json (g.R.Reader.source c.in-Some.element)) (Ok c.in_ok-item.item) = search rules in
     let pushed : c.push.new.self.items ≡ items ++ c.in_ok-item.item ∷ [] = search rules in (
       omega (arith, lower.1, c.loop-element.invariant.0),
-      ap (λ vs. ItemsFrom vs new) pushed ∙ items_step g.R.Reader.source _ items c.in_ok-item.item left new c.in-Some.element c.in-Some.ensures c.loop-element.invariant.1 given,
+      ap (λ vs. ItemsFrom vs new) pushed ∙ items_step g.R.Reader.source _ items c.in_ok-item.item left new c.in-Some.element c.in-Some.ensures.taken c.loop-element.invariant.1 given,
     )
 
 pub read_elements-returns : goal.read_elements-returns
-read_elements-returns g t c = items_end g.R.Reader.source _ c.loop-element.items (g.R.Reader.elements c.loop-element.elements) _ c.in_default.ensures c.loop-element.invariant.1
+read_elements-returns g t c = items_end g.R.Reader.source _ c.loop-element.items (g.R.Reader.elements c.loop-element.elements) _ c.in_default.ensures.taken c.loop-element.invariant.1
 
 pub read_members-loop-key-preserved : goal.read_members-loop-key-preserved
 read_members-loop-key-preserved g t c =

@@ -1,0 +1,57 @@
+//! Rows of DynamoDB JSON.
+
+use crate::answer::{Answer, Json, Written};
+use crate::stopped::Stopped;
+use crate::values;
+use serde_dynamo::{AttributeValue, DynamoJson, Error};
+
+// An attribute value of all ten kinds.
+const TEN_KINDS: &str =
+    r#"{"M":{"b":{"B":"AQI="},"bool":{"BOOL":true},"bs":{"BS":["AQI="]},"l":{"L":[{"N":"1"},{"S":"a"}]},"n":{"N":"1.5"},"ns":{"NS":["1","2"]},"null":{"NULL":true},"s":{"S":"a"},"ss":{"SS":["a","b"]}}}"#;
+
+// What stands for no attribute value: no key, two keys, a key that is no prefix, no base64, no object, and contents of
+// another kind.
+const REFUSED: [&str; 7] = [
+    "{}",
+    r#"{"S":"1","N":"1"}"#,
+    r#"{"X":"1"}"#,
+    r#"{"B":"X"}"#,
+    "42",
+    r#"{"S":1}"#,
+    r#"{"BS":["X"]}"#,
+];
+
+/// An attribute value of all ten kinds to JSON, from it, and cloned.
+pub fn ten_kinds(rt: &HostRuntime) -> Result<(), Stopped> {
+    let alloc = rt.alloc();
+    let json = values::json(alloc, TEN_KINDS)?;
+    let value = values::value(alloc, TEN_KINDS)?;
+    let written = value.to_json(alloc);
+    let read = AttributeValue::from_json(alloc, &json);
+    let cloned = value.clone().map_err(Error::from);
+    println!(rt;
+        "to_json: {} | from_json: {} | clone: {}",
+        Answer(&written.map(Json)),
+        Answer(&read.map(Written)),
+        Answer(&cloned.map(Written))
+    )?;
+    Ok(())
+}
+
+/// What stands for no attribute value.
+pub fn refused(rt: &HostRuntime) -> Result<(), Stopped> {
+    let alloc = rt.alloc();
+    let mut refused = Vec::with_capacity(alloc, REFUSED.len())?;
+    for text in REFUSED {
+        refused.push((text, values::json(alloc, text)?))?;
+    }
+    for (i, (text, json)) in refused.iter().enumerate() {
+        print!(rt; "{}", if i == 0 { "" } else { " | " })?;
+        print!(rt;
+            "{text}: {}",
+            Answer(&AttributeValue::from_json(alloc, json).map(Written))
+        )?;
+    }
+    println!(rt; "")?;
+    Ok(())
+}

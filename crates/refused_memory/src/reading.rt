@@ -1,0 +1,68 @@
+//! Rows that read.
+
+use crate::account::Account;
+use crate::answer::Answer;
+use crate::stopped::Stopped;
+use crate::values;
+use serde_dynamo::de::Deserialize;
+use serde_dynamo::{
+    Items, Result, from_attribute_value, from_item, from_items, to_attribute_value, to_item,
+};
+use std::alloc::Global;
+use std::fmt::Debug;
+
+/// What an account was written as, by each call that reads.
+pub fn account(rt: &HostRuntime) -> Result<(), Stopped> {
+    let alloc = rt.alloc();
+    let account = Account::new(alloc)?;
+    let value = to_attribute_value(alloc, &account)?;
+    let item = to_item(alloc, &account)?;
+    let items = two_items(alloc, &account)?;
+    let of_value: Result<Account> = from_attribute_value(alloc, value);
+    let of_item: Result<Account> = from_item(alloc, item);
+    let of_items: Result<Vec<Account>> = from_items(alloc, items);
+    println!(rt;
+        "from_attribute_value: {} | from_item: {} | from_items: {}",
+        Answer(&of_value.map(|read| told(read == account))),
+        Answer(&of_item.map(|read| told(read == account))),
+        Answer(&of_items.map(|read| told(are_two(&read, &account))))
+    )?;
+    Ok(())
+}
+
+fn two_items(alloc: Global, account: &Account) -> Result<Items> {
+    let mut maps = Vec::with_capacity(alloc, 2)?;
+    for _ in 0..2_u8 {
+        maps.push(to_item(alloc, account)?.into_inner())?;
+    }
+    Ok(Items::from(maps))
+}
+
+fn are_two(read: &Vec<Account>, account: &Account) -> bool {
+    read.len() == 2 && read.iter().all(|read| read == account)
+}
+
+fn told(same: bool) -> &'static str {
+    if same {
+        "what was written"
+    } else {
+        "something else"
+    }
+}
+
+/// A number that is too large for its type.
+pub fn too_large(rt: &HostRuntime) -> Result<(), Stopped> {
+    print_read::<u8>(rt, r#"{"N":"256"}"#)
+}
+
+/// A list that is too short for a pair.
+pub fn too_short(rt: &HostRuntime) -> Result<(), Stopped> {
+    print_read::<(u8, u8)>(rt, r#"{"L":[{"N":"1"}]}"#)
+}
+
+fn print_read<T: Deserialize + Debug>(rt: &HostRuntime, text: &str) -> Result<(), Stopped> {
+    let value = values::value(rt.alloc(), text)?;
+    let read: Result<T> = from_attribute_value(rt.alloc(), value);
+    println!(rt; "from_attribute_value: {}", Answer(&read))?;
+    Ok(())
+}
