@@ -1,0 +1,3 @@
+pub mod About
+pub mod Keys
+pub mod Missing
