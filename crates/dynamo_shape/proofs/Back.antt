@@ -156,7 +156,7 @@ mutual
 
   back_fields : (fs : FieldShapes) (gs : Fields) → NearlyClearFields fs → conform_fields fs gs → FieldsBack fs gs
   back_fields no_field_shapes gs n c = subst (FieldsBack no_field_shapes) (sym c) no_fields_back
-  back_fields (field_shape name s fs) gs n c = subst (FieldsBack (field_shape name s fs)) (sym c.2) (field_back name s fs c.0 c.1 (back s c.0 n.1 c.3) (back_fields fs c.1 n.2 c.4))
+  back_fields (field_shape name s default fs) gs n c = subst (FieldsBack (field_shape name s default fs)) (sym c.2) (field_back name s default fs c.0 c.1 (back s c.0 n.1 c.3) (back_fields fs c.1 n.2 c.4))
 
   back_content : (c : Content) (v : Variant) (d : Datum) → NearlyClearContent c → conforms_content c v d → ContentBack c v d
   back_content nothing v d n c = moved_content nothing v _ _ c (datum.unit_variant v, refl, inl (refl, refl))

@@ -19,7 +19,7 @@ use Rattle.dynamo_shape.proofs.Found.{Unseen, unseen_none, unseen_more, or_false
 -- no two fields have one name
 abbrev pub NamesDiffer : FieldShapes → Type 0
 NamesDiffer no_field_shapes = ⊤
-NamesDiffer (field_shape name s fs) = (is_field fs name ≡ false) × NamesDiffer fs
+NamesDiffer (field_shape name s default fs) = (is_field fs name ≡ false) × NamesDiffer fs
 
 -- ---- what was read of each field so far, in the order of the fields
 
@@ -48,17 +48,17 @@ fill_slot i d os = behind i (fill d) os
 -- the slot of the first field of this name
 abbrev pub fill_named : FieldShapes → Text → Datum → Slots → Slots
 fill_named no_field_shapes t d os = os
-fill_named (field_shape own s fs) t d os = if bytes_eq t own then fill d os else behind 1 (fill_named fs t d) os
+fill_named (field_shape own s default fs) t d os = if bytes_eq t own then fill d os else behind 1 (fill_named fs t d) os
 
 abbrev pub empty : FieldShapes → Slots
 empty no_field_shapes = []
-empty (field_shape name s fs) = None ∷ empty fs
+empty (field_shape name s default fs) = None ∷ empty fs
 
--- where nothing was read for a field, an option is none, and any other field is missed
+-- where nothing was read for a field, its default stands, or else an option is none, and any other field is missed
 abbrev pub close : FieldShapes → Slots → Answer Fields
 close no_field_shapes os = answer.value datum.no_fields
-close (field_shape name s fs) os = do
-  d ← value_or (first_slot os) (missing s)
+close (field_shape name s default fs) os = do
+  d ← value_or (first_slot os) (missing s default)
   gs ← close fs (other_slots os)
   answer.value (datum.field name d gs)
 
@@ -74,9 +74,9 @@ module _ {F S : Type 0} (entry : F → S → Av → Answer S) (slots : S → Slo
   Reads i fs named = (t : Text) (u : S) (a : Av) → Both (λ new d. slots new ≡ behind i (fill_named fs t d) (slots u)) (entry (named t) u a) (read_field fs t a)
 
   -- a field: what is read of it is kept in its slot
-  pub known : {A : Type 0} (i : ℕ) (own : Text) (s : Shape) (fs : FieldShapes) (f : F) (others : Text → F) (reads : Source → Answer A) (make : A → Datum) (keep : A → S → S) → IsReadAs s reads make → ((u : S) (a : Av) → entry f u a ≡ into (λ x. keep x u) (reads (attribute a))) → ((x : A) (u : S) → slots (keep x u) ≡ fill_slot i (make x) (slots u)) → Reads (suc i) fs others → Reads i (field_shape own s fs) (λ t. if bytes_eq t own then f else others t)
+  pub known : {A : Type 0} (i : ℕ) (own : Text) (s : Shape) (default : Option Datum) (fs : FieldShapes) (f : F) (others : Text → F) (reads : Source → Answer A) (make : A → Datum) (keep : A → S → S) → IsReadAs s reads make → ((u : S) (a : Av) → entry f u a ≡ into (λ x. keep x u) (reads (attribute a))) → ((x : A) (u : S) → slots (keep x u) ≡ fill_slot i (make x) (slots u)) → Reads (suc i) fs others → Reads i (field_shape own s default fs) (λ t. if bytes_eq t own then f else others t)
   unfolding Reads
-  known i own s fs f others reads make keep same takes fills more t u a =
+  known i own s default fs f others reads make keep same takes fills more t u a =
       elim (bytes_eq t own) as (λ b. Both (λ new d. slots new ≡ behind i (λ os. if b then fill d os else behind 1 (fill_named fs t d) os) (slots u)) (entry (if b then f else others t) u a) (if b then read s (attribute a) else read_field fs t a)) [
         | true ↦ rw (takes u a, same (attribute a)) (both_made (λ new d. slots new ≡ fill_slot i d (slots u)) (λ x. keep x u) make (reads (attribute a)) (λ x. fills x u))
         | false ↦
@@ -94,7 +94,7 @@ module _ {F S : Type 0} (entry : F → S → Av → Answer S) (slots : S → Slo
 
 abbrev after : FieldShapes → List (Text × Datum) → Slots → Slots
 after no_field_shapes l os = []
-after (field_shape name s fs) l os = last_of name l (first_slot os) ∷ after fs l (other_slots os)
+after (field_shape name s default fs) l os = last_of name l (first_slot os) ∷ after fs l (other_slots os)
 
 turned : (t u : Text) → bytes_eq t u ≡ true → bytes_eq u t ≡ true
 turned t u e = (bytes_eq-Decides u t).1 (sym ((bytes_eq-Decides t u).0 e))
@@ -107,7 +107,7 @@ not_turned t u e = elim (bytes_eq u t) as (λ b. bytes_eq u t ≡ b → b ≡ fa
 
 after_other : (fs : FieldShapes) (t : Text) (d : Datum) (l : List (Text × Datum)) (os : Slots) → is_field fs t ≡ false → after fs ((t, d) ∷ l) os ≡ after fs l os
 after_other no_field_shapes t d l os h = refl
-after_other (field_shape own s fs) t d l os h =
+after_other (field_shape own s default fs) t d l os h =
     let p = or_false (bytes_eq t own) (is_field fs t) h in
     let q = not_turned t own p.0 in
     let r = after_other fs t d l (other_slots os) p.1 in
@@ -115,8 +115,8 @@ after_other (field_shape own s fs) t d l os h =
 
 after_filled : (fs : FieldShapes) (t : Text) (d : Datum) (l : List (Text × Datum)) (os : Slots) → NamesDiffer fs → after fs l (fill_named fs t d os) ≡ after fs ((t, d) ∷ l) os
 after_filled no_field_shapes t d l os n = refl
-after_filled (field_shape own s fs) t d l os n =
-    elim (bytes_eq t own) as (λ b. bytes_eq t own ≡ b → after (field_shape own s fs) l (if b then fill d os else behind 1 (fill_named fs t d) os) ≡ after (field_shape own s fs) ((t, d) ∷ l) os) [
+after_filled (field_shape own s default fs) t d l os n =
+    elim (bytes_eq t own) as (λ b. bytes_eq t own ≡ b → after (field_shape own s default fs) l (if b then fill d os else behind 1 (fill_named fs t d) os) ≡ after (field_shape own s default fs) ((t, d) ∷ l) os) [
       | true ↦ λ q.
           let here = sym (turned t own q) in
           let others = sym (after_other fs t d l (other_slots os) (ap (is_field fs) ((bytes_eq-Decides t own).0 q) ∙ n.0)) in
@@ -129,13 +129,13 @@ after_filled (field_shape own s fs) t d l os n =
 
 close_none : (fs : FieldShapes) (os : Slots) → close fs (after fs [] os) ≡ close fs os
 close_none no_field_shapes os = refl
-close_none (field_shape name s fs) os = ap (λ more. value_or (first_slot os) (missing s) >>= λ d. more >>= λ gs. answer.value (datum.field name d gs)) (close_none fs (other_slots os))
+close_none (field_shape name s default fs) os = ap (λ more. value_or (first_slot os) (missing s default) >>= λ d. more >>= λ gs. answer.value (datum.field name d gs)) (close_none fs (other_slots os))
 
 -- the slots hold the last entry of each name
 close_among : (fs : FieldShapes) (taken : List Text) (l : List (Text × Datum)) → NamesDiffer fs → Unseen fs taken → close fs (after fs l (empty fs)) ≡ fields_among fs taken l
 close_among no_field_shapes taken l n u = refl
-close_among (field_shape name s fs) taken l n u =
-    rw u.0 (ap (λ more. value_or (last_of name l None) (missing s) >>= λ d. more >>= λ gs. answer.value (datum.field name d gs)) (close_among fs (name ∷ taken) l n.1 (unseen_more fs taken name n.0 u.1)))
+close_among (field_shape name s default fs) taken l n u =
+    rw u.0 (ap (λ more. value_or (last_of name l None) (missing s default) >>= λ d. more >>= λ gs. answer.value (datum.field name d gs)) (close_among fs (name ∷ taken) l n.1 (unseen_more fs taken name n.0 u.1)))
 
 module _ {F S B : Type 0} (entry : F → S → Av → Answer S) (slots : S → Slots) (named : Text → F) (fs : FieldShapes) (finish : S → Answer B) (make : Fields → B) (differ : NamesDiffer fs) (reads : Reads entry slots 0 fs named) (finishes : (u : S) → finish u ≡ into make (close fs (slots u))) where
   abbrev closed : List (Text × Datum) → Slots → Answer B

@@ -1,5 +1,5 @@
 -- Structs, sets and newtypes that tell the same data are the same by value, part by part, and the other way round.
-use Rattle.std.proofs.Common.{refl, sym, ap, subst}
+use Rattle.std.proofs.Common.{Option, refl, sym, ap, subst}
 use Rattle.std.specs.declared.alloc.Global.{Global}
 use Rattle.std.specs.declared.vec.Vec.{Vec}
 use Rattle.dynamo_ser.specs.Datum as datum
@@ -35,24 +35,24 @@ AreTold {V} fs tells same = (v w : V) → conform_fields fs (tells v) → confor
 first_same : (name : Text) (d e : Datum) (fs gs : Fields) → SameFields (datum.field name d fs) (datum.field name e gs) → Same d e × SameFields fs gs
 first_same name d e fs gs h = (subst (Same d) (sym (ap first_in h.2)) h.3, subst (SameFields fs) (sym (ap others_in h.2)) h.4)
 
-first_conforms : (name : Text) (s : Shape) (fs : FieldShapes) (d : Datum) (gs : Fields) → conform_fields (field_shape name s fs) (datum.field name d gs) → conforms s d × conform_fields fs gs
-first_conforms name s fs d gs c = (subst (conforms s) (sym (ap first_in c.2)) c.3, subst (conform_fields fs) (sym (ap others_in c.2)) c.4)
+first_conforms : (name : Text) (s : Shape) (default : Option Datum) (fs : FieldShapes) (d : Datum) (gs : Fields) → conform_fields (field_shape name s default fs) (datum.field name d gs) → conforms s d × conform_fields fs gs
+first_conforms name s default fs d gs c = (subst (conforms s) (sym (ap first_in c.2)) c.3, subst (conform_fields fs) (sym (ap others_in c.2)) c.4)
 
 -- the first field, and then the others
-pub first_told : {V A : Type 0} (name : Text) (s : Shape) (fs : FieldShapes) (part : V → A) (tells : A → Datum) (same : A → A → Type 0) (others : V → Fields) (same_others : V → V → Type 0) → IsToldByValue s tells same → AreTold fs others same_others → AreTold (field_shape name s fs) (λ v. datum.field name (tells (part v)) (others v)) (λ v w. same (part v) (part w) × same_others v w)
+pub first_told : {V A : Type 0} (name : Text) (s : Shape) (default : Option Datum) (fs : FieldShapes) (part : V → A) (tells : A → Datum) (same : A → A → Type 0) (others : V → Fields) (same_others : V → V → Type 0) → IsToldByValue s tells same → AreTold fs others same_others → AreTold (field_shape name s default fs) (λ v. datum.field name (tells (part v)) (others v)) (λ v w. same (part v) (part w) × same_others v w)
 unfolding AreTold
-first_told name s fs part tells same others same_others here more v w c d h =
-    let p = first_conforms name s fs (tells (part v)) (others v) c in
-    let q = first_conforms name s fs (tells (part w)) (others w) d in
+first_told name s default fs part tells same others same_others here more v w c d h =
+    let p = first_conforms name s default fs (tells (part v)) (others v) c in
+    let q = first_conforms name s default fs (tells (part w)) (others w) d in
     let r = first_same name (tells (part v)) (tells (part w)) (others v) (others w) h in
     (here (part v) (part w) p.0 q.0 r.0, more v w p.1 q.1 r.1)
 
 -- the last field
-pub last_told : {V A : Type 0} (name : Text) (s : Shape) (part : V → A) (tells : A → Datum) (same : A → A → Type 0) → IsToldByValue s tells same → AreTold (field_shape name s no_field_shapes) (λ v. datum.field name (tells (part v)) datum.no_fields) (λ v w. same (part v) (part w))
+pub last_told : {V A : Type 0} (name : Text) (s : Shape) (default : Option Datum) (part : V → A) (tells : A → Datum) (same : A → A → Type 0) → IsToldByValue s tells same → AreTold (field_shape name s default no_field_shapes) (λ v. datum.field name (tells (part v)) datum.no_fields) (λ v w. same (part v) (part w))
 unfolding AreTold
-last_told name s part tells same here v w c d h =
-    let p = first_conforms name s no_field_shapes (tells (part v)) datum.no_fields c in
-    let q = first_conforms name s no_field_shapes (tells (part w)) datum.no_fields d in
+last_told name s default part tells same here v w c d h =
+    let p = first_conforms name s default no_field_shapes (tells (part v)) datum.no_fields c in
+    let q = first_conforms name s default no_field_shapes (tells (part w)) datum.no_fields d in
     here (part v) (part w) p.0 q.0 (first_same name (tells (part v)) (tells (part w)) datum.no_fields datum.no_fields h).0
 
 pub struct_told : {V : Type 0} (name : Text) (fs : FieldShapes) (fields : V → Fields) (same : V → V → Type 0) → AreTold fs fields same → IsToldByValue (shape.struct name fs) (λ v. datum.struct name (fields v)) same
@@ -67,19 +67,19 @@ pub AreToldAlike : {V : Type 0} → FieldShapes → (V → Fields) → (V → V 
 AreToldAlike {V} fs tells same = (v w : V) → conform_fields fs (tells v) → conform_fields fs (tells w) → same v w → SameFields (tells v) (tells w)
 
 -- the first field, and then the others
-pub first_alike : {V A : Type 0} (name : Text) (s : Shape) (fs : FieldShapes) (part : V → A) (tells : A → Datum) (same : A → A → Type 0) (others : V → Fields) (same_others : V → V → Type 0) → ToldAlike s tells same → AreToldAlike fs others same_others → AreToldAlike (field_shape name s fs) (λ v. datum.field name (tells (part v)) (others v)) (λ v w. same (part v) (part w) × same_others v w)
+pub first_alike : {V A : Type 0} (name : Text) (s : Shape) (default : Option Datum) (fs : FieldShapes) (part : V → A) (tells : A → Datum) (same : A → A → Type 0) (others : V → Fields) (same_others : V → V → Type 0) → ToldAlike s tells same → AreToldAlike fs others same_others → AreToldAlike (field_shape name s default fs) (λ v. datum.field name (tells (part v)) (others v)) (λ v w. same (part v) (part w) × same_others v w)
 unfolding AreToldAlike
-first_alike name s fs part tells same others same_others here more v w c d h =
-    let p = first_conforms name s fs (tells (part v)) (others v) c in
-    let q = first_conforms name s fs (tells (part w)) (others w) d in
+first_alike name s default fs part tells same others same_others here more v w c d h =
+    let p = first_conforms name s default fs (tells (part v)) (others v) c in
+    let q = first_conforms name s default fs (tells (part w)) (others w) d in
     (tells (part w), others w, refl, here (part v) (part w) p.0 q.0 h.0, more v w p.1 q.1 h.1)
 
 -- the last field
-pub last_alike : {V A : Type 0} (name : Text) (s : Shape) (part : V → A) (tells : A → Datum) (same : A → A → Type 0) → ToldAlike s tells same → AreToldAlike (field_shape name s no_field_shapes) (λ v. datum.field name (tells (part v)) datum.no_fields) (λ v w. same (part v) (part w))
+pub last_alike : {V A : Type 0} (name : Text) (s : Shape) (default : Option Datum) (part : V → A) (tells : A → Datum) (same : A → A → Type 0) → ToldAlike s tells same → AreToldAlike (field_shape name s default no_field_shapes) (λ v. datum.field name (tells (part v)) datum.no_fields) (λ v w. same (part v) (part w))
 unfolding AreToldAlike
-last_alike name s part tells same here v w c d h =
-    let p = first_conforms name s no_field_shapes (tells (part v)) datum.no_fields c in
-    let q = first_conforms name s no_field_shapes (tells (part w)) datum.no_fields d in
+last_alike name s default part tells same here v w c d h =
+    let p = first_conforms name s default no_field_shapes (tells (part v)) datum.no_fields c in
+    let q = first_conforms name s default no_field_shapes (tells (part w)) datum.no_fields d in
     (tells (part w), datum.no_fields, refl, here (part v) (part w) p.0 q.0 h, refl)
 
 pub struct_alike : {V : Type 0} (name : Text) (fs : FieldShapes) (fields : V → Fields) (same : V → V → Type 0) → AreToldAlike fs fields same → ToldAlike (shape.struct name fs) (λ v. datum.struct name (fields v)) same

@@ -108,7 +108,7 @@ mutual
 
   flat_named : (fs : FieldShapes) (gs : Fields) → NearlyClearFields fs → NoneNestedFields fs → conform_fields fs gs → kept_fields gs ≡ gs
   flat_named no_field_shapes gs n m c = rw c refl
-  flat_named (field_shape name s fs) gs n m c = let p = flat_at s c.0 n.1 m.0 c.3 in let q = flat_named fs c.1 n.2 m.1 c.4 in ap kept_fields c.2 ∙ (λ i. field name (p i) (q i)) ∙ sym c.2
+  flat_named (field_shape name s default fs) gs n m c = let p = flat_at s c.0 n.1 m.0 c.3 in let q = flat_named fs c.1 n.2 m.1 c.4 in ap kept_fields c.2 ∙ (λ i. field name (p i) (q i)) ∙ sym c.2
 
   flat_content : (k : Content) (v : Variant) (d : Datum) → NearlyClearContent k → NoneNestedContent k → conforms_content k v d → kept d ≡ d
   flat_content nothing v d n m c = moved _ _ c refl

@@ -25,22 +25,22 @@ same_bytes t = (bytes_eq-Decides t t).1 refl
 -- the entries have the fields' names, in order
 abbrev pub HasNames : FieldShapes → List (Text × Av) → Type 0
 HasNames no_field_shapes [] = ⊤
-HasNames (field_shape name s fs) (e ∷ es) = (e.0 ≡ name) × HasNames fs es
+HasNames (field_shape name s default fs) (e ∷ es) = (e.0 ≡ name) × HasNames fs es
 HasNames _ _ = ⊥
 
 missing : (fs : FieldShapes) (es ms : List (Text × Av)) (q : Text) → HasNames fs es → is_field fs q ≡ false → find text_cmp q (collect_onto ms es) ≡ find text_cmp q ms
 missing no_field_shapes [] ms q h f = refl
 missing no_field_shapes (e ∷ es) ms q h f = absurd h
-missing (field_shape name s fs) [] ms q h f = absurd h
-missing (field_shape name s fs) (e ∷ es) ms q h f =
+missing (field_shape name s default fs) [] ms q h f = absurd h
+missing (field_shape name s default fs) (e ∷ es) ms q h f =
     let (a, b) = or_false (bytes_eq q name) (is_field fs q) f in
     missing fs es (put text_cmp e.0 e.1 ms) q h.1 b ∙ find-put text_cmp nat_list_cmp_total q e.0 e.1 ms ∙ ap (λ t. cond t (Some e.1) (find text_cmp q ms)) (is_eq-slice_cmp q e.0 ∙ ap (bytes_eq q) h.0 ∙ a)
 
 found_in : (fs : FieldShapes) (es ms : List (Text × Av)) → NearlyClearFields fs → HasNames fs es → AllByRecursion (λ e. find text_cmp e.0 (collect_onto ms es) ≡ Some e.1) es
 found_in no_field_shapes [] ms n h = tt
 found_in no_field_shapes (e ∷ es) ms n h = absurd h
-found_in (field_shape name s fs) [] ms n h = absurd h
-found_in (field_shape name s fs) (e ∷ es) ms n h = (
+found_in (field_shape name s default fs) [] ms n h = absurd h
+found_in (field_shape name s default fs) (e ∷ es) ms n h = (
   missing fs es (put text_cmp e.0 e.1 ms) e.0 h.1 (ap (is_field fs) h.0 ∙ n.0) ∙ find-put text_cmp nat_list_cmp_total e.0 e.0 e.1 ms ∙ ap (λ t. cond t (Some e.1) (find text_cmp e.0 ms)) (is_eq-slice_cmp e.0 e.0 ∙ same_bytes e.0),
   found_in fs es (put text_cmp e.0 e.1 ms) n.2 h.1,
 )
@@ -84,19 +84,19 @@ or_true false b h = h
 pub names_keys : (fs : FieldShapes) (es : List (Text × Av)) → HasNames fs es → KeysIn (λ t. is_field fs t ≡ true) es
 names_keys no_field_shapes [] h = tt
 names_keys no_field_shapes (e ∷ es) h = absurd h
-names_keys (field_shape name s fs) [] h = absurd h
-names_keys (field_shape name s fs) (e ∷ es) h =
-    (ap (λ b. b || is_field fs e.0) (ap (bytes_eq e.0) (sym h.0) ∙ same_bytes e.0), keys_weaker _ (λ t. is_field (field_shape name s fs) t ≡ true) (λ t k. or_true (bytes_eq t name) (is_field fs t) k) es (names_keys fs es h.1))
+names_keys (field_shape name s default fs) [] h = absurd h
+names_keys (field_shape name s default fs) (e ∷ es) h =
+    (ap (λ b. b || is_field fs e.0) (ap (bytes_eq e.0) (sym h.0) ∙ same_bytes e.0), keys_weaker _ (λ t. is_field (field_shape name s default fs) t ≡ true) (λ t k. or_true (bytes_eq t name) (is_field fs t) k) es (names_keys fs es h.1))
 
 -- ---- names that have been seen
 
 abbrev pub Unseen : FieldShapes → List Text → Type 0
 Unseen no_field_shapes seen = ⊤
-Unseen (field_shape name s fs) seen = (list_any (λ u. bytes_eq u name) seen ≡ false) × Unseen fs seen
+Unseen (field_shape name s default fs) seen = (list_any (λ u. bytes_eq u name) seen ≡ false) × Unseen fs seen
 
 pub unseen_none : (fs : FieldShapes) → Unseen fs []
 unseen_none no_field_shapes = tt
-unseen_none (field_shape name s fs) = (refl, unseen_none fs)
+unseen_none (field_shape name s default fs) = (refl, unseen_none fs)
 
 neither : (a b : Bool) → a ≡ false → b ≡ false → (a || b) ≡ false
 neither true b p q = p
@@ -104,6 +104,6 @@ neither false b p q = q
 
 pub unseen_more : (fs : FieldShapes) (seen : List Text) (u : Text) → is_field fs u ≡ false → Unseen fs seen → Unseen fs (u ∷ seen)
 unseen_more no_field_shapes seen u f h = tt
-unseen_more (field_shape name s fs) seen u f h =
+unseen_more (field_shape name s default fs) seen u f h =
     let (a, b) = or_false (bytes_eq u name) (is_field fs u) f in
     (neither _ _ a h.0, unseen_more fs seen u b h.1)

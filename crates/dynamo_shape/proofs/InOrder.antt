@@ -1,5 +1,5 @@
 -- Fields and elements that are read by hand, one after another, read as their shapes say.
-use Rattle.std.proofs.Common.{◌≡◌, List, [], ◌∷◌, refl, sym, ap, ◌∙◌}
+use Rattle.std.proofs.Common.{◌≡◌, List, [], ◌∷◌, Option, refl, sym, ap, ◌∙◌}
 use Rattle.dynamo_ser.specs.Datum as datum
 use Rattle.dynamo_ser.specs.Datum.{Datum, Elements, Fields, elements_of}
 use Rattle.dynamo_ser.specs.Symbols.{SetKind, symbol}
@@ -9,7 +9,7 @@ use Rattle.dynamo_de.specs.Contents.{read_elements}
 use Rattle.dynamo_de.specs.Fields.{read_first, read_all}
 use Rattle.dynamo_de.specs.Source.{Source, Text}
 use Rattle.dynamo_shape.specs.Read.{read, into, read_each, read_list, fields_in_order}
-use Rattle.dynamo_shape.specs.Shape.{Shape, list, set, Shapes, no_shapes, shape, FieldShapes, no_field_shapes, field_shape}
+use Rattle.dynamo_shape.specs.Shape.{Shape, set, Shapes, no_shapes, shape, FieldShapes, no_field_shapes, field_shape}
 use Rattle.dynamo_shape.proofs.ByHand.{IsReadAs, into_into}
 
 made_next : {A B C D E : Type 0} (make : A → B) (r : Answer A) (next : A → Answer E) (rest : Answer C) (join : B → C → D) (f : D → E) → ((x : A) → next x ≡ into (λ y. f (join (make x) y)) rest) → r >>= next ≡ into f (into make r >>= λ d. rest >>= λ y. answer.value (join d y))
@@ -22,10 +22,10 @@ unfoldable pub ListsFields : {B : Type 0} → FieldShapes → (List Source → A
 ListsFields fs listed f = (ss : List Source) → listed ss ≡ into f (fields_in_order fs ss)
 
 -- a field, and then the others
-pub first_field : {A B : Type 0} (name : Text) (s : Shape) (fs : FieldShapes) (reads : Source → Answer A) (make : A → Datum) (next : A → List Source → Answer B) (f : Fields → B) → IsReadAs s reads make → ((x : A) → ListsFields fs (next x) (λ gs. f (datum.field name (make x) gs))) → ListsFields (field_shape name s fs) (λ ss. read_first reads ss next) f
+pub first_field : {A B : Type 0} (name : Text) (s : Shape) (default : Option Datum) (fs : FieldShapes) (reads : Source → Answer A) (make : A → Datum) (next : A → List Source → Answer B) (f : Fields → B) → IsReadAs s reads make → ((x : A) → ListsFields fs (next x) (λ gs. f (datum.field name (make x) gs))) → ListsFields (field_shape name s default fs) (λ ss. read_first reads ss next) f
 unfolding read_first ListsFields
-first_field name s fs reads make next f same h [] = refl
-first_field name s fs reads make next f same h (x ∷ ss) = rw (same x) (made_next make (reads x) (λ y. next y ss) (fields_in_order fs ss) (datum.field name) f (λ y. h y ss))
+first_field name s default fs reads make next f same h [] = refl
+first_field name s default fs reads make next f same h (x ∷ ss) = rw (same x) (made_next make (reads x) (λ y. next y ss) (fields_in_order fs ss) (datum.field name) f (λ y. h y ss))
 
 pub no_more_fields : {B : Type 0} (f : Fields → B) → ListsFields no_field_shapes (λ ss. answer.value (f datum.no_fields)) f
 unfolding ListsFields
@@ -62,9 +62,6 @@ made_all make t (answer.value ss) = ap (into make) (all_listed (read t) ss) ∙ 
 made_all make t (answer.fault e) = refl
 made_all make t answer.refused = refl
 
--- lists, and those that are written as sets, of which each element is read
-pub list_read : (t : Shape) → IsReadAs (list t) (λ s. read_elements s >>= read_all (read t)) (λ ds. datum.seq (elements_of ds))
-list_read t s = made_all datum.seq t (read_elements s)
-
+-- lists that are written as sets, of which each element is read
 pub set_read : (k : SetKind) (t : Shape) → IsReadAs (set k t) (λ s. read_elements s >>= read_all (read t)) (λ ds. datum.newtype_struct (symbol k) (datum.seq (elements_of ds)))
 set_read k t s = made_all (λ ds. datum.newtype_struct (symbol k) (datum.seq ds)) t (read_elements s)

@@ -1,5 +1,5 @@
 -- Worked rows of reading, by computation.
-use Rattle.std.proofs.Common.{◌≡◌, ℕ, pos, ◌-◌, ◌^◌, true, false, [], ◌∷◌, refl}
+use Rattle.std.proofs.Common.{◌≡◌, ℕ, pos, ◌-◌, ◌^◌, true, false, [], ◌∷◌, Some, None, refl}
 use Rattle.std.specs.Prelude.{codes}
 use Rattle.std.specs.Str.{chars}
 use Rattle.dynamo_value.specs.Av as av
@@ -40,7 +40,7 @@ a_key_of_letters : read bytes_map (attribute (M (member (codes "x") (N (codes "5
 a_key_of_letters = refl
 
 abbrev event : Shape
-event = enum (codes "Event") (variant (codes "Unit") nothing (variant (codes "Newtype") (one (integer u8)) (variant (codes "Tuple") (several (shape (integer u8) (shape (integer u8) no_shapes))) (variant (codes "Structy") (named (field_shape (codes "one") (integer u8) (field_shape (codes "two") (integer u8) no_field_shapes))) no_variants))))
+event = enum (codes "Event") (variant (codes "Unit") nothing (variant (codes "Newtype") (one (integer u8)) (variant (codes "Tuple") (several (shape (integer u8) (shape (integer u8) no_shapes))) (variant (codes "Structy") (named (field_shape (codes "one") (integer u8) None (field_shape (codes "two") (integer u8) None no_field_shapes))) no_variants))))
 
 abbrev event_variant : ℕ → Text → Variant
 event_variant i name = record { enum = codes "Event"; index = i; name = name }
@@ -66,7 +66,7 @@ two_elements_at_least : (read two_bytes (attribute (L (av.element (N (codes "1")
 two_elements_at_least = (refl, refl)
 
 abbrev record_shape : Shape
-record_shape = struct (codes "Struct") (field_shape (codes "id") string (field_shape (codes "value") (integer u64) no_field_shapes))
+record_shape = struct (codes "Struct") (field_shape (codes "id") string None (field_shape (codes "value") (integer u64) None no_field_shapes))
 
 abbrev old_item : Av → Av
 old_item a = M (member (codes "aws:rep:updatetime") a (member (codes "id") (S (codes "test-4")) (member (codes "value") (N (codes "42")) no_members)))
@@ -96,7 +96,7 @@ no_newtype_in_a_set : read (list (newtype (codes "Name") string)) (attribute (Ss
 no_newtype_in_a_set = refl
 
 abbrev user : Shape
-user = struct (codes "User") (field_shape (codes "id") string (field_shape (codes "name") string (field_shape (codes "age") (integer u8) no_field_shapes)))
+user = struct (codes "User") (field_shape (codes "id") string None (field_shape (codes "name") string None (field_shape (codes "age") (integer u8) None no_field_shapes)))
 
 forms_of_a_struct : (read (option (integer u8)) (attribute (Null false)) ≡ fault expected_num)
     × (read user (attribute (L (av.element (S (codes "a")) (av.element (S (codes "b")) (av.element (N (codes "7")) av.no_elements))))) ≡ value (datum.struct (codes "User") (field (codes "id") (datum.string (codes "a")) (field (codes "name") (datum.string (codes "b")) (field (codes "age") (byte 7) no_fields)))))
@@ -109,6 +109,19 @@ what_is_missing_or_wrong : (read user (attribute (M (member (codes "id") (S (cod
     × (read (list (integer u8)) (attribute (Ns (codes "1" ∷ codes "256" ∷ []))) ≡ fault (failed_to_parse_int (codes "256")))
     × (read (list (option string)) (attribute (Ss (codes "a" ∷ []))) ≡ refused)
 what_is_missing_or_wrong = (refl, refl, refl, refl)
+
+abbrev visitor : Shape
+visitor = struct (codes "Visitor") (field_shape (codes "id") string None (field_shape (codes "age") (integer u8) (Some (byte 30)) (field_shape (codes "note") (option string) (Some (datum.some (datum.string (codes "new")))) no_field_shapes)))
+
+abbrev visitor_of : Datum → Datum → Datum
+visitor_of age note = datum.struct (codes "Visitor") (field (codes "id") (datum.string (codes "x")) (field (codes "age") age (field (codes "note") note no_fields)))
+
+-- a default is read where an entry is missing, for an option, too; what is there, in its place; in order nothing may be missing
+defaults : (read visitor (attribute (M (member (codes "id") (S (codes "x")) no_members))) ≡ value (visitor_of (byte 30) (datum.some (datum.string (codes "new")))))
+    × (read visitor (attribute (M (member (codes "age") (N (codes "7")) (member (codes "id") (S (codes "x")) (member (codes "note") (Null true) no_members))))) ≡ value (visitor_of (byte 7) datum.none))
+    × (read visitor (attribute (M (member (codes "age") (N (codes "7")) no_members))) ≡ refused)
+    × (read visitor (attribute (L (av.element (S (codes "x")) av.no_elements))) ≡ refused)
+defaults = (refl, refl, refl, refl)
 
 -- maps read in order
 three_texts_of_a_key : read bytes_map (attribute (M (member (codes "+1") (N (codes "7")) (member (codes "01") (N (codes "5")) (member (codes "1") (N (codes "6")) no_members))))) ≡ value (datum.map (pair (byte 1) (byte 6) no_pairs))

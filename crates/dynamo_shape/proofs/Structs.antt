@@ -28,7 +28,7 @@ use Rattle.dynamo_write.specs.Written.{written_fields}
 -- the entries read as the fields, by the shapes in order
 abbrev pub ReadAs : FieldShapes → List (Text × Av) → Fields → Type 0
 ReadAs no_field_shapes [] no_fields = ⊤
-ReadAs (field_shape name s fs) (e ∷ es) (field n y hs) = (e.0 ≡ name) × (n ≡ name) × (read s (attribute e.1) ≡ value y) × ReadAs fs es hs
+ReadAs (field_shape name s default fs) (e ∷ es) (field n y hs) = (e.0 ≡ name) × (n ≡ name) × (read s (attribute e.1) ≡ value y) × ReadAs fs es hs
 ReadAs _ _ _ = ⊥
 
 -- the same by R
@@ -39,32 +39,32 @@ EachRead R _ _ = ⊥
 
 has_names : (fs : FieldShapes) (es : List (Text × Av)) (hs : Fields) → ReadAs fs es hs → HasNames fs es
 has_names no_field_shapes [] no_fields h = tt
-has_names (field_shape name s fs) (e ∷ es) (field n y hs) h = (h.0, has_names fs es hs h.3)
+has_names (field_shape name s default fs) (e ∷ es) (field n y hs) h = (h.0, has_names fs es hs h.3)
 has_names no_field_shapes [] (field n y hs) h = absurd h
 has_names no_field_shapes (e ∷ es) hs h = absurd h
-has_names (field_shape name s fs) [] hs h = absurd h
-has_names (field_shape name s fs) (e ∷ es) no_fields h = absurd h
+has_names (field_shape name s default fs) [] hs h = absurd h
+has_names (field_shape name s default fs) (e ∷ es) no_fields h = absurd h
 
 -- a field in front changes nothing for the others
-in_front : (name : Text) (s : Shape) (fs : FieldShapes) (es : List (Text × Av)) (hs : Fields) → is_field fs name ≡ false → KeysIn (λ t. is_field fs t ≡ true) es → EachRead (read_field fs) es hs → EachRead (read_field (field_shape name s fs)) es hs
-in_front name s fs [] no_fields n k h = tt
-in_front name s fs [] (field m y hs) n k h = absurd h
-in_front name s fs (e ∷ es) no_fields n k h = absurd h
-in_front name s fs (e ∷ es) (field m y hs) n k h =
+in_front : (name : Text) (s : Shape) (default : Option Datum) (fs : FieldShapes) (es : List (Text × Av)) (hs : Fields) → is_field fs name ≡ false → KeysIn (λ t. is_field fs t ≡ true) es → EachRead (read_field fs) es hs → EachRead (read_field (field_shape name s default fs)) es hs
+in_front name s default fs [] no_fields n k h = tt
+in_front name s default fs [] (field m y hs) n k h = absurd h
+in_front name s default fs (e ∷ es) no_fields n k h = absurd h
+in_front name s default fs (e ∷ es) (field m y hs) n k h =
     let other : bytes_eq e.0 name ≡ false = elim (cases_Bool (bytes_eq e.0 name)) [
       | inl p ↦ absurd (true≢false (sym k.0 ∙ ap (is_field fs) ((bytes_eq-Decides e.0 name).0 p) ∙ n))
       | inr p ↦ p
     ] in
-    (rw other h.0, in_front name s fs es hs n k.1 h.1)
+    (rw other h.0, in_front name s default fs es hs n k.1 h.1)
 
 each_read : (fs : FieldShapes) (es : List (Text × Av)) (hs : Fields) → NearlyClearFields fs → ReadAs fs es hs → EachRead (read_field fs) es hs
 each_read no_field_shapes [] no_fields n h = tt
 each_read no_field_shapes [] (field m y hs) n h = absurd h
 each_read no_field_shapes (e ∷ es) hs n h = absurd h
-each_read (field_shape name s fs) [] hs n h = absurd h
-each_read (field_shape name s fs) (e ∷ es) no_fields n h = absurd h
-each_read (field_shape name s fs) (e ∷ es) (field m y hs) n h =
-    (rw (ap (bytes_eq e.0) (sym h.0) ∙ same_bytes e.0) h.2, in_front name s fs es hs n.0 (names_keys fs es (has_names fs es hs h.3)) (each_read fs es hs n.2 h.3))
+each_read (field_shape name s default fs) [] hs n h = absurd h
+each_read (field_shape name s default fs) (e ∷ es) no_fields n h = absurd h
+each_read (field_shape name s default fs) (e ∷ es) (field m y hs) n h =
+    (rw (ap (bytes_eq e.0) (sym h.0) ∙ same_bytes e.0) h.2, in_front name s default fs es hs n.0 (names_keys fs es (has_names fs es hs h.3)) (each_read fs es hs n.2 h.3))
 
 -- ---- the entries that are read
 
@@ -123,9 +123,9 @@ fields_read : (R : Text → Av → Answer Datum) (fs : FieldShapes) (es : List (
 fields_read R no_field_shapes [] no_fields seen ms rs h k f n u look = refl
 fields_read R no_field_shapes [] (field m y hs) seen ms rs h k f n u look = absurd h
 fields_read R no_field_shapes (e ∷ es) hs seen ms rs h k f n u look = absurd h
-fields_read R (field_shape name s fs) [] hs seen ms rs h k f n u look = absurd h
-fields_read R (field_shape name s fs) (e ∷ es) no_fields seen ms rs h k f n u look = absurd h
-fields_read R (field_shape name s fs) (e ∷ es) (field m y hs) seen ms rs h k f n u look =
+fields_read R (field_shape name s default fs) [] hs seen ms rs h k f n u look = absurd h
+fields_read R (field_shape name s default fs) (e ∷ es) no_fields seen ms rs h k f n u look = absurd h
+fields_read R (field_shape name s default fs) (e ∷ es) (field m y hs) seen ms rs h k f n u look =
     let there : last_of name rs None ≡ Some y = subst (λ t. last_of t rs None ≡ Some y) h.0 (look e.0 e.1 y f.0 k.0) in
     let rest = fields_read R fs es hs (name ∷ seen) ms rs h.3 k.1 f.1 n.2 (unseen_more fs seen name n.0 u.1) look in
     rw (u.0, there, rest) (ap (λ t. value (field t y hs)) (sym h.1))
@@ -144,9 +144,9 @@ pub no_fields_back : FieldsBack no_field_shapes no_fields
 unfolding FieldsBack
 no_fields_back = ([], no_fields, refl, tt, refl)
 
-pub field_back : (name : Text) (s : Shape) (fs : FieldShapes) (e : Datum) (gs : Fields) → ReadsBack s e → FieldsBack fs gs → FieldsBack (field_shape name s fs) (field name e gs)
+pub field_back : (name : Text) (s : Shape) (default : Option Datum) (fs : FieldShapes) (e : Datum) (gs : Fields) → ReadsBack s e → FieldsBack fs gs → FieldsBack (field_shape name s default fs) (field name e gs)
 unfolding FieldsBack
-field_back name s fs e gs h t = ((name, h.0) ∷ t.0, field name h.1 t.1, rw (h.2, t.2) refl, (refl, refl, h.3, t.3), (h.1, t.1, refl, h.4, t.4))
+field_back name s default fs e gs h t = ((name, h.0) ∷ t.0, field name h.1 t.1, rw (h.2, t.2) refl, (refl, refl, h.3, t.3), (h.1, t.1, refl, h.4, t.4))
 
 pub all_named : (fs : FieldShapes) (gs : Fields) → NearlyClearFields fs → FieldsBack fs gs → (es : List (Text × Av)) × (hs : Fields) × (written_fields gs ≡ Ok es) × (fields_by_name fs (read_field fs) (entries_of (members_of (collect es))) ≡ value hs) × SameFields (kept_fields gs) hs
 unfolding FieldsBack

@@ -88,7 +88,7 @@ mutual
 
   fields_keyed : (fs : FieldShapes) (gs : Fields) → NearlyClearFields fs → conform_fields fs gs → WellKeyedFields (kept_fields gs)
   fields_keyed no_field_shapes gs n c = subst (λ x. WellKeyedFields (kept_fields x)) (sym c) tt
-  fields_keyed (field_shape name s fs) gs n c = subst (λ x. WellKeyedFields (kept_fields x)) (sym c.2) (well_keyed s c.0 n.1 c.3, fields_keyed fs c.1 n.2 c.4)
+  fields_keyed (field_shape name s default fs) gs n c = subst (λ x. WellKeyedFields (kept_fields x)) (sym c.2) (well_keyed s c.0 n.1 c.3, fields_keyed fs c.1 n.2 c.4)
 
   content_keyed : (k : Content) (v : Variant) (d : Datum) → NearlyClearContent k → conforms_content k v d → WellKeyed (kept d)
   content_keyed nothing v d n c = moved _ _ c tt

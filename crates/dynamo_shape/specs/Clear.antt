@@ -26,7 +26,7 @@ is_variant (shape.variant v c vs) t = bytes_eq v t || is_variant vs t
 
 abbrev pub is_field : FieldShapes → Text → Bool
 is_field shape.no_field_shapes t = false
-is_field (shape.field_shape name s fs) t = bytes_eq t name || is_field fs t
+is_field (shape.field_shape name s default fs) t = bytes_eq t name || is_field fs t
 
 -- unit variants of distinct names
 abbrev pub AreUnits : Variants → Type 0
@@ -70,7 +70,7 @@ abbrev mutual
 
   pub NearlyClearFields : FieldShapes → Type 0
   NearlyClearFields shape.no_field_shapes = ⊤
-  NearlyClearFields (shape.field_shape name s fs) = (is_field fs name ≡ false) × NearlyClear s × NearlyClearFields fs
+  NearlyClearFields (shape.field_shape name s default fs) = (is_field fs name ≡ false) × NearlyClear s × NearlyClearFields fs
 
   pub NearlyClearContent : Content → Type 0
   NearlyClearContent shape.nothing = ⊤
@@ -102,7 +102,7 @@ abbrev mutual
 
   pub NoneNestedFields : FieldShapes → Type 0
   NoneNestedFields shape.no_field_shapes = ⊤
-  NoneNestedFields (shape.field_shape name s fs) = NoneNested s × NoneNestedFields fs
+  NoneNestedFields (shape.field_shape name s default fs) = NoneNested s × NoneNestedFields fs
 
   pub NoneNestedContent : Content → Type 0
   NoneNestedContent shape.nothing = ⊤

@@ -50,7 +50,7 @@ abbrev mutual
 
   pub conform_fields : FieldShapes → Fields → Type 0
   conform_fields no_field_shapes gs = gs ≡ datum.no_fields
-  conform_fields (field_shape name s fs) gs = (e : Datum) × (hs : Fields) × (gs ≡ datum.field name e hs) × conforms s e × conform_fields fs hs
+  conform_fields (field_shape name s default fs) gs = (e : Datum) × (hs : Fields) × (gs ≡ datum.field name e hs) × conforms s e × conform_fields fs hs
 
   pub conforms_content : Content → Variant → Datum → Type 0
   conforms_content nothing v d = d ≡ datum.unit_variant v

@@ -58,15 +58,17 @@ last_of t (e ∷ es) before = last_of t es (if bytes_eq t e.0 then Some e.1 else
 abbrev pub entry_for : {A : Type 0} → List Text → Text → List (Text × A) → Option A
 entry_for taken t es = if list_any (λ u. bytes_eq u t) taken then None else last_of t es None
 
--- where no entry is left for a field, an option is none, and any other field is missed by a message
-abbrev pub missing : Shape → Answer Datum
-missing (option s) = value datum.none
-missing _ = refused
+-- where no entry is left for a field, its default is read; without one an option is none, and any other field is missed by a
+-- message
+abbrev pub missing : Shape → Option Datum → Answer Datum
+missing s (Some d) = value d
+missing (option s) None = value datum.none
+missing _ None = refused
 
 abbrev pub fields_among : FieldShapes → List Text → List (Text × Datum) → Answer Fields
 fields_among no_field_shapes taken es = value datum.no_fields
-fields_among (field_shape name s fs) taken es = do
-  d ← value_or (entry_for taken name es) (missing s)
+fields_among (field_shape name s default fs) taken es = do
+  d ← value_or (entry_for taken name es) (missing s default)
   gs ← fields_among fs (name ∷ taken) es
   value (datum.field name d gs)
 
@@ -108,10 +110,11 @@ abbrev mutual
     ds ← read_each ts ss
     value (datum.element d ds)
 
+  -- no default stands in for an element that is not there
   pub fields_in_order : FieldShapes → List Source → Answer Fields
   fields_in_order no_field_shapes ss = value datum.no_fields
-  fields_in_order (field_shape name t fs) [] = refused
-  fields_in_order (field_shape name t fs) (s ∷ ss) = do
+  fields_in_order (field_shape name t default fs) [] = refused
+  fields_in_order (field_shape name t default fs) (s ∷ ss) = do
     d ← read t s
     gs ← fields_in_order fs ss
     value (datum.field name d gs)
@@ -119,7 +122,7 @@ abbrev mutual
   -- An entry is read by the first field of its name. Any other is ignored, which may meet a fault.
   pub read_field : FieldShapes → Text → Av → Answer Datum
   read_field no_field_shapes name a = into (λ _. datum.unit) (ignore a)
-  read_field (field_shape own t fs) name a = if bytes_eq name own then read t (attribute a) else read_field fs name a
+  read_field (field_shape own t default fs) name a = if bytes_eq name own then read t (attribute a) else read_field fs name a
 
   -- by the first variant of that name, where the first one has this place; an unknown name is refused
   pub read_one_of : Variants → Text → ℕ → Text → Option Source → Answer Datum

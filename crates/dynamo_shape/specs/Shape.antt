@@ -1,6 +1,7 @@
 -- The shape of a type: what the data look like that its values tell, and by which it reads.
-use Rattle.std.specs.Prelude.{ℕ, List}
+use Rattle.std.specs.Prelude.{ℕ, List, Option}
 use Rattle.dynamo_value.specs.Integer.{IntegerKind}
+use Rattle.dynamo_ser.specs.Datum.{Datum}
 use Rattle.dynamo_ser.specs.Symbols.{SetKind}
 
 -- One constructor for each form of data; a list's elements, a map's keys and values and an option's content have one shape
@@ -24,9 +25,10 @@ mutual
     no_shapes : Shapes
     shape : Shape → Shapes → Shapes
 
+  -- a field's name, its shape, and its default: the datum that it reads as where no entry is left for it, if any
   pub data FieldShapes : Type 0 where
     no_field_shapes : FieldShapes
-    field_shape : List ℕ → Shape → FieldShapes → FieldShapes
+    field_shape : List ℕ → Shape → Option Datum → FieldShapes → FieldShapes
 
   -- what a variant holds: nothing, as a newtype one content, as a tuple several, as a struct named ones
   pub data Content : Type 0 where

@@ -1,5 +1,5 @@
 -- The shapes of the samples, and when two of them are the same by value: part by part.
-use Rattle.std.specs.Prelude.{◌≡◌, codes, string_bytes}
+use Rattle.std.specs.Prelude.{◌≡◌, None, codes, string_bytes}
 use Rattle.dynamo_value.specs.Bytes.{octets_of}
 use Rattle.dynamo_value.specs.Integer.{u8, u64}
 use Rattle.dynamo_ser.specs.Symbols.{strings, numbers, blobs}
@@ -13,9 +13,9 @@ byte_shape = integer u8
 
 abbrev pub user_fields : FieldShapes
 user_fields =
-    field_shape (codes "id") string
-    (field_shape (codes "name") string
-    (field_shape (codes "age") byte_shape no_field_shapes))
+    field_shape (codes "id") string None
+    (field_shape (codes "name") string None
+    (field_shape (codes "age") byte_shape None no_field_shapes))
 
 abbrev pub user_shape : Shape
 user_shape = struct (codes "User") user_fields
@@ -28,8 +28,8 @@ two_bytes = shape byte_shape (shape byte_shape no_shapes)
 
 abbrev pub structy_fields : FieldShapes
 structy_fields =
-    field_shape (codes "one") byte_shape
-    (field_shape (codes "two") byte_shape no_field_shapes)
+    field_shape (codes "one") byte_shape None
+    (field_shape (codes "two") byte_shape None no_field_shapes)
 
 abbrev pub event_variants : Variants
 event_variants =
@@ -43,9 +43,9 @@ event_shape = enum (codes "Event") event_variants
 
 abbrev pub sets_fields : FieldShapes
 sets_fields =
-    field_shape (codes "names") (set strings string)
-    (field_shape (codes "numbers") (set numbers (integer u64))
-    (field_shape (codes "blobs") (set blobs bytes) no_field_shapes))
+    field_shape (codes "names") (set strings string) None
+    (field_shape (codes "numbers") (set numbers (integer u64)) None
+    (field_shape (codes "blobs") (set blobs bytes) None no_field_shapes))
 
 abbrev pub sets_shape : Shape
 sets_shape = struct (codes "Sets") sets_fields

@@ -48,11 +48,11 @@ user_whole u = whole u.id u.name u.age
 
 user_reads : fields.Reads samples.user_entry user_slots 0 user_fields samples.user_field
 user_reads =
-    fields.known samples.user_entry user_slots 0 (codes "id") shape.string _ user.Field.Id _ read_string datum.string
+    fields.known samples.user_entry user_slots 0 (codes "id") shape.string None _ user.Field.Id _ read_string datum.string
     (λ t u. record { id = Some t; name = u.name; age = u.age }) (λ s. refl) (λ u a. refl) (λ x u. refl)
-    (fields.known samples.user_entry user_slots 1 (codes "name") shape.string _ user.Field.Name _ read_string datum.string
+    (fields.known samples.user_entry user_slots 1 (codes "name") shape.string None _ user.Field.Name _ read_string datum.string
     (λ t u. record { id = u.id; name = Some t; age = u.age }) (λ s. refl) (λ u a. refl) (λ x u. refl)
-    (fields.known samples.user_entry user_slots 2 (codes "age") byte_shape _ user.Field.Age _ (read_integer u8) (datum.integer u8)
+    (fields.known samples.user_entry user_slots 2 (codes "age") byte_shape None _ user.Field.Age _ (read_integer u8) (datum.integer u8)
     (λ n u. record { id = u.id; name = u.name; age = Some n }) (λ s. refl) (λ u a. refl) (λ x u. refl)
     (fields.unknown samples.user_entry user_slots 3 user.Field.Other (λ u a. refl) (λ u. refl))))
 
@@ -61,24 +61,24 @@ user_named = fields.all_named samples.user_entry user_slots samples.user_field u
 
 pub user_listed : ListsFields user_fields samples.user_in_order (datum.struct (codes "User"))
 user_listed =
-    first_field (codes "id") shape.string _ read_string datum.string _ (datum.struct (codes "User")) (λ s. refl) (λ id.
-    first_field (codes "name") shape.string _ read_string datum.string _ _ (λ s. refl) (λ name.
-    first_field (codes "age") byte_shape _ (read_integer u8) (datum.integer u8) _ _ (λ s. refl) (λ age.
+    first_field (codes "id") shape.string None _ read_string datum.string _ (datum.struct (codes "User")) (λ s. refl) (λ id.
+    first_field (codes "name") shape.string None _ read_string datum.string _ _ (λ s. refl) (λ name.
+    first_field (codes "age") byte_shape None _ (read_integer u8) (datum.integer u8) _ _ (λ s. refl) (λ age.
     no_more_fields _)))
 
 pub user_by_value : IsToldByValue user_shape user_told same_user
 user_by_value =
     struct_told (codes "User") user_fields _ same_user
-    (first_told (codes "id") _ _ (λ (u : User). u.id) _ _ _ _ (text_told string_bytes)
-    (first_told (codes "name") _ _ (λ (u : User). u.name) _ _ _ _ (text_told string_bytes)
-    (last_told (codes "age") _ (λ (u : User). u.age) _ _ (unsigned_told u8))))
+    (first_told (codes "id") _ _ _ (λ (u : User). u.id) _ _ _ _ (text_told string_bytes)
+    (first_told (codes "name") _ _ _ (λ (u : User). u.name) _ _ _ _ (text_told string_bytes)
+    (last_told (codes "age") _ _ (λ (u : User). u.age) _ _ (unsigned_told u8))))
 
 pub user_alike : ToldAlike user_shape user_told same_user
 user_alike =
     struct_alike (codes "User") user_fields _ same_user
-    (first_alike (codes "id") _ _ (λ (u : User). u.id) _ _ _ _ (text_alike string_bytes)
-    (first_alike (codes "name") _ _ (λ (u : User). u.name) _ _ _ _ (text_alike string_bytes)
-    (last_alike (codes "age") _ (λ (u : User). u.age) _ _ (unsigned_alike u8))))
+    (first_alike (codes "id") _ _ _ (λ (u : User). u.id) _ _ _ _ (text_alike string_bytes)
+    (first_alike (codes "name") _ _ _ (λ (u : User). u.name) _ _ _ _ (text_alike string_bytes)
+    (last_alike (codes "age") _ _ (λ (u : User). u.age) _ _ (unsigned_alike u8))))
 
 -- ---- an event
 
@@ -98,9 +98,9 @@ structy_whole u = whole u.one u.two
 
 structy_reads : fields.Reads samples.structy_entry structy_slots 0 structy_fields samples.structy_field
 structy_reads =
-    fields.known samples.structy_entry structy_slots 0 (codes "one") byte_shape _ structy.Field.One _ (read_integer u8) (datum.integer u8)
+    fields.known samples.structy_entry structy_slots 0 (codes "one") byte_shape None _ structy.Field.One _ (read_integer u8) (datum.integer u8)
     (λ n u. record { one = Some n; two = u.two }) (λ s. refl) (λ u a. refl) (λ x u. refl)
-    (fields.known samples.structy_entry structy_slots 1 (codes "two") byte_shape _ structy.Field.Two _ (read_integer u8) (datum.integer u8)
+    (fields.known samples.structy_entry structy_slots 1 (codes "two") byte_shape None _ structy.Field.Two _ (read_integer u8) (datum.integer u8)
     (λ n u. record { one = u.one; two = Some n }) (λ s. refl) (λ u a. refl) (λ x u. refl)
     (fields.unknown samples.structy_entry structy_slots 2 structy.Field.Other (λ u a. refl) (λ u. refl)))
 
@@ -167,11 +167,11 @@ sets_whole u = whole u.names u.numbers u.blobs
 
 sets_reads : fields.Reads samples.sets_entry sets_slots 0 sets_fields samples.sets_field
 sets_reads =
-    fields.known samples.sets_entry sets_slots 0 (codes "names") (shape.set strings shape.string) _ sets.Field.Names _ samples.read_names (set_told strings)
+    fields.known samples.sets_entry sets_slots 0 (codes "names") (shape.set strings shape.string) None _ sets.Field.Names _ samples.read_names (set_told strings)
     (λ ds u. record { names = Some ds; numbers = u.numbers; blobs = u.blobs }) (set_read strings shape.string) (λ u a. refl) (λ x u. refl)
-    (fields.known samples.sets_entry sets_slots 1 (codes "numbers") (shape.set numbers (shape.integer u64)) _ sets.Field.Numbers _ samples.read_numbers (set_told numbers)
+    (fields.known samples.sets_entry sets_slots 1 (codes "numbers") (shape.set numbers (shape.integer u64)) None _ sets.Field.Numbers _ samples.read_numbers (set_told numbers)
     (λ ds u. record { names = u.names; numbers = Some ds; blobs = u.blobs }) (set_read numbers (shape.integer u64)) (λ u a. refl) (λ x u. refl)
-    (fields.known samples.sets_entry sets_slots 2 (codes "blobs") (shape.set blobs shape.bytes) _ sets.Field.Blobs _ samples.read_blobs (set_told blobs)
+    (fields.known samples.sets_entry sets_slots 2 (codes "blobs") (shape.set blobs shape.bytes) None _ sets.Field.Blobs _ samples.read_blobs (set_told blobs)
     (λ ds u. record { names = u.names; numbers = u.numbers; blobs = Some ds }) (set_read blobs shape.bytes) (λ u a. refl) (λ x u. refl)
     (fields.unknown samples.sets_entry sets_slots 3 sets.Field.Other (λ u a. refl) (λ u. refl))))
 
@@ -180,21 +180,21 @@ sets_named = fields.all_named samples.sets_entry sets_slots samples.sets_field s
 
 pub sets_listed : ListsFields sets_fields samples.sets_in_order (datum.struct (codes "Sets"))
 sets_listed =
-    first_field (codes "names") (shape.set strings shape.string) _ samples.read_names (set_told strings) _ (datum.struct (codes "Sets")) (set_read strings shape.string) (λ names.
-    first_field (codes "numbers") (shape.set numbers (shape.integer u64)) _ samples.read_numbers (set_told numbers) _ _ (set_read numbers (shape.integer u64)) (λ the_numbers.
-    first_field (codes "blobs") (shape.set blobs shape.bytes) _ samples.read_blobs (set_told blobs) _ _ (set_read blobs shape.bytes) (λ the_blobs.
+    first_field (codes "names") (shape.set strings shape.string) None _ samples.read_names (set_told strings) _ (datum.struct (codes "Sets")) (set_read strings shape.string) (λ names.
+    first_field (codes "numbers") (shape.set numbers (shape.integer u64)) None _ samples.read_numbers (set_told numbers) _ _ (set_read numbers (shape.integer u64)) (λ the_numbers.
+    first_field (codes "blobs") (shape.set blobs shape.bytes) None _ samples.read_blobs (set_told blobs) _ _ (set_read blobs shape.bytes) (λ the_blobs.
     no_more_fields _)))
 
 pub sets_by_value : IsToldByValue sets_shape sets_told same_sets
 sets_by_value =
     struct_told (codes "Sets") sets_fields _ same_sets
-    (first_told (codes "names") _ _ (λ (s : Sets). s.names) _ _ _ _ (told.set_told strings shape.string _ _ (text_told string_bytes))
-    (first_told (codes "numbers") _ _ (λ (s : Sets). s.numbers) _ _ _ _ (told.set_told numbers (shape.integer u64) _ _ (unsigned_told u64))
-    (last_told (codes "blobs") _ (λ (s : Sets). s.blobs) _ _ (told.set_told blobs shape.bytes _ _ (bytes_told octets_of)))))
+    (first_told (codes "names") _ _ _ (λ (s : Sets). s.names) _ _ _ _ (told.set_told strings shape.string _ _ (text_told string_bytes))
+    (first_told (codes "numbers") _ _ _ (λ (s : Sets). s.numbers) _ _ _ _ (told.set_told numbers (shape.integer u64) _ _ (unsigned_told u64))
+    (last_told (codes "blobs") _ _ (λ (s : Sets). s.blobs) _ _ (told.set_told blobs shape.bytes _ _ (bytes_told octets_of)))))
 
 pub sets_alike : ToldAlike sets_shape sets_told same_sets
 sets_alike =
     struct_alike (codes "Sets") sets_fields _ same_sets
-    (first_alike (codes "names") _ _ (λ (s : Sets). s.names) _ _ _ _ (told.set_alike strings shape.string _ _ (text_alike string_bytes))
-    (first_alike (codes "numbers") _ _ (λ (s : Sets). s.numbers) _ _ _ _ (told.set_alike numbers (shape.integer u64) _ _ (unsigned_alike u64))
-    (last_alike (codes "blobs") _ (λ (s : Sets). s.blobs) _ _ (told.set_alike blobs shape.bytes _ _ (bytes_alike octets_of)))))
+    (first_alike (codes "names") _ _ _ (λ (s : Sets). s.names) _ _ _ _ (told.set_alike strings shape.string _ _ (text_alike string_bytes))
+    (first_alike (codes "numbers") _ _ _ (λ (s : Sets). s.numbers) _ _ _ _ (told.set_alike numbers (shape.integer u64) _ _ (unsigned_alike u64))
+    (last_alike (codes "blobs") _ _ (λ (s : Sets). s.blobs) _ _ (told.set_alike blobs shape.bytes _ _ (bytes_alike octets_of)))))

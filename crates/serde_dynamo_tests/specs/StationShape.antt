@@ -33,7 +33,7 @@ abbrev pub reading_shape : Shape
 reading_shape = shape.option (shape.integer u8)
 
 abbrev pub station_fields : FieldShapes
-station_fields = field_shape (codes "id") shape.string (field_shape (codes "reading") reading_shape no_field_shapes)
+station_fields = field_shape (codes "id") shape.string None (field_shape (codes "reading") reading_shape None no_field_shapes)
 
 abbrev pub told_id : String Global → Datum
 told_id id = datum.string (string_bytes id)
@@ -86,9 +86,9 @@ station_from_parts p r = Gives station_told (station_parts p) r
 
 reads : fields.Reads station_entry slots 0 station_fields station_field
 reads =
-    fields.known station_entry slots 0 (codes "id") shape.string _ Field.Id _ (read shape.string) (λ d. d)
+    fields.known station_entry slots 0 (codes "id") shape.string None _ Field.Id _ (read shape.string) (λ d. d)
     (λ d u. record { id = Some d; reading = u.reading }) (read_itself shape.string) (λ u a. refl) (λ d u. refl)
-    (fields.known station_entry slots 1 (codes "reading") reading_shape _ Field.Reading _ (read reading_shape) (λ d. d)
+    (fields.known station_entry slots 1 (codes "reading") reading_shape None _ Field.Reading _ (read reading_shape) (λ d. d)
     (λ d u. record { id = u.id; reading = Some d }) (read_itself reading_shape) (λ u a. refl) (λ d u. refl)
     (fields.unknown station_entry slots 2 Field.Other (λ u a. refl) (λ u. refl)))
 
@@ -97,18 +97,18 @@ station_named = fields.all_named station_entry slots station_field station_field
 
 pub station_listed : ListsFields station_fields (λ ss. station_parts (in_order ss)) (datum.struct (codes "Station"))
 station_listed =
-    first_field (codes "id") shape.string _ (read shape.string) (λ d. d) _ (datum.struct (codes "Station")) (read_itself shape.string) (λ id.
-    first_field (codes "reading") reading_shape _ (read reading_shape) (λ d. d) _ _ (read_itself reading_shape) (λ reading.
+    first_field (codes "id") shape.string None _ (read shape.string) (λ d. d) _ (datum.struct (codes "Station")) (read_itself shape.string) (λ id.
+    first_field (codes "reading") reading_shape None _ (read reading_shape) (λ d. d) _ _ (read_itself reading_shape) (λ reading.
     no_more_fields _))
 
 pub station_by_value : IsToldByValue (shape.struct (codes "Station") station_fields) station_told same_station
 station_by_value =
     struct_told (codes "Station") station_fields _ same_station
-    (first_told (codes "id") _ _ (λ (s : Station). s.id) _ _ _ _ (text_told string_bytes)
-    (last_told (codes "reading") _ (λ (s : Station). s.reading) _ _ (option_told (shape.integer u8) _ _ (unsigned_told u8))))
+    (first_told (codes "id") _ _ _ (λ (s : Station). s.id) _ _ _ _ (text_told string_bytes)
+    (last_told (codes "reading") _ _ (λ (s : Station). s.reading) _ _ (option_told (shape.integer u8) _ _ (unsigned_told u8))))
 
 pub station_alike : ToldAlike (shape.struct (codes "Station") station_fields) station_told same_station
 station_alike =
     struct_alike (codes "Station") station_fields _ same_station
-    (first_alike (codes "id") _ _ (λ (s : Station). s.id) _ _ _ _ (text_alike string_bytes)
-    (last_alike (codes "reading") _ (λ (s : Station). s.reading) _ _ (option_alike (shape.integer u8) _ _ (unsigned_alike u8))))
+    (first_alike (codes "id") _ _ _ (λ (s : Station). s.id) _ _ _ _ (text_alike string_bytes)
+    (last_alike (codes "reading") _ _ (λ (s : Station). s.reading) _ _ (option_alike (shape.integer u8) _ _ (unsigned_alike u8))))
