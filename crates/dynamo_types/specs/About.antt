@@ -1,5 +1,5 @@
 -- What is known of the values of a type: data, the proofs among them, so that what is made of several types is known too.
-use Rattle.std.specs.Prelude.{◌≡◌, ℕ, ℤ, pos, Bool, List, [], ◌∷◌, Option, Some, None, Result, Ok, Err, ⊤}
+use Rattle.std.specs.Prelude.{◌≡◌, ℕ, ℤ, pos, Bool, List, [], ◌∷◌, Option, Some, None, Result, Ok, Err, ⊤, map}
 use Rattle.std.specs.declared.alloc.Global.{Global}
 use Rattle.std.specs.declared.vec.Vec.{Vec}
 use Rattle.dynamo_value.specs.Fault.{Fault, out_of_memory}
@@ -10,17 +10,17 @@ use Rattle.dynamo_ser.specs.Options.{option_tells}
 use Rattle.dynamo_de.specs.Answer as answer
 use Rattle.dynamo_shape.specs.ByValue.{SameEach, SameOption}
 use Rattle.dynamo_shape.specs.Laws.{IsToldByValue, ToldAlike}
-use Rattle.dynamo_types.specs.Missing.{missing}
+use Rattle.dynamo_shape.specs.Read.{missing}
 use Rattle.dynamo_shape.specs.Shape as shape
 use Rattle.dynamo_shape.specs.Shape.{Shape}
 use Rattle.dynamo_shape.proofs.ByValue.{list_told, list_alike, option_told, option_alike, two_told, two_alike, three_told, three_alike, four_told, four_alike}
-use Rattle.dynamo_shape.proofs.Lists.{told_each}
 use Rattle.dynamo_shape.proofs.Scalars.{bool_told, bool_alike, signed_told, signed_alike, unsigned_told, unsigned_alike, char_told, char_alike, text_told, text_alike, bytes_told, bytes_alike, unit_told, unit_alike}
 
--- The shape; when two values are the same by value: hashed maps as finite maps, all else part by part; and that they are so
--- exactly where they tell the same data, up to the order of map entries.
-pub record About {T : Type 0} (tells : T → Datum) : Type 1 where
+-- The shape; the datum that a value tells; when two values are the same by value: hashed maps as finite maps, all else part by
+-- part; and that they are so exactly where they tell the same data, up to the order of map entries.
+pub record About (T : Type 0) : Type 1 where
   pub shape : Shape
+  pub tells : T → Datum
   pub same : T → T → Type 0
   pub told_by_value : IsToldByValue shape tells same
   pub told_alike : ToldAlike shape tells same
@@ -33,59 +33,65 @@ IsAbsent fault s default tells (Err e) = fault e ≡ out_of_memory
 
 -- ---- one value
 
-abbrev pub about_bool : About datum.boolean
-about_bool = record { shape = shape.boolean; same = λ a b. a ≡ b; told_by_value = bool_told; told_alike = bool_alike }
+abbrev pub about_bool : About Bool
+about_bool = record { shape = shape.boolean; tells = datum.boolean; same = λ a b. a ≡ b; told_by_value = bool_told; told_alike = bool_alike }
 
-abbrev pub about_signed : (k : IntegerKind) → About (datum.integer k)
-about_signed k = record { shape = shape.integer k; same = λ a b. a ≡ b; told_by_value = signed_told k; told_alike = signed_alike k }
+abbrev pub about_signed : IntegerKind → About ℤ
+about_signed k = record { shape = shape.integer k; tells = datum.integer k; same = λ a b. a ≡ b; told_by_value = signed_told k; told_alike = signed_alike k }
 
-abbrev pub about_unsigned : (k : IntegerKind) → About (λ n. datum.integer k (pos n))
-about_unsigned k = record { shape = shape.integer k; same = λ a b. a ≡ b; told_by_value = unsigned_told k; told_alike = unsigned_alike k }
+abbrev pub about_unsigned : IntegerKind → About ℕ
+about_unsigned k = record { shape = shape.integer k; tells = λ n. datum.integer k (pos n); same = λ a b. a ≡ b; told_by_value = unsigned_told k; told_alike = unsigned_alike k }
 
-abbrev pub about_char : About datum.char
-about_char = record { shape = shape.char; same = λ a b. a ≡ b; told_by_value = char_told; told_alike = char_alike }
+abbrev pub about_char : About ℕ
+about_char = record { shape = shape.char; tells = datum.char; same = λ a b. a ≡ b; told_by_value = char_told; told_alike = char_alike }
 
-abbrev pub about_text : {T : Type 0} (seen : T → List ℕ) → About (λ t. datum.string (seen t))
-about_text seen = record { shape = shape.string; same = λ a b. seen a ≡ seen b; told_by_value = text_told seen; told_alike = text_alike seen }
+abbrev pub about_text : {T : Type 0} → (T → List ℕ) → About T
+about_text seen = record { shape = shape.string; tells = λ t. datum.string (seen t); same = λ a b. seen a ≡ seen b; told_by_value = text_told seen; told_alike = text_alike seen }
 
-abbrev pub about_bytes : {T : Type 0} (seen : T → List ℕ) → About (λ t. datum.bytes (seen t))
-about_bytes seen = record { shape = shape.bytes; same = λ a b. seen a ≡ seen b; told_by_value = bytes_told seen; told_alike = bytes_alike seen }
+abbrev pub about_bytes : {T : Type 0} → (T → List ℕ) → About T
+about_bytes seen = record { shape = shape.bytes; tells = λ t. datum.bytes (seen t); same = λ a b. seen a ≡ seen b; told_by_value = bytes_told seen; told_alike = bytes_alike seen }
 
-abbrev pub about_unit : About {T = ⊤} (λ _. datum.unit)
-about_unit = record { shape = shape.unit; same = λ a b. a ≡ b; told_by_value = unit_told; told_alike = unit_alike }
+abbrev pub about_unit : About ⊤
+about_unit = record { shape = shape.unit; tells = λ _. datum.unit; same = λ a b. a ≡ b; told_by_value = unit_told; told_alike = unit_alike }
 
 -- ---- values of other types
 
-abbrev pub about_option : {T : Type 0} {tells : T → Datum} → About tells → About (option_tells tells)
-about_option {T} {tells} a = record { shape = shape.option a.shape; same = SameOption a.same; told_by_value = option_told a.shape tells a.same a.told_by_value; told_alike = option_alike a.shape tells a.same a.told_alike }
+abbrev pub about_option : {T : Type 0} → About T → About (Option T)
+about_option a = record { shape = shape.option a.shape; tells = option_tells a.tells; same = SameOption a.same; told_by_value = option_told a.shape a.tells a.same a.told_by_value; told_alike = option_alike a.shape a.tells a.same a.told_alike }
 
 -- as the part of it that is told
-abbrev pub about_part : {B T : Type 0} {tells : T → Datum} (part : B → T) → About tells → About (λ b. tells (part b))
-about_part part a = record { shape = a.shape; same = λ b c. a.same (part b) (part c); told_by_value = λ b c. a.told_by_value (part b) (part c); told_alike = λ b c. a.told_alike (part b) (part c) }
+abbrev pub about_part : {B T : Type 0} → (B → T) → About T → About B
+about_part part a = record { shape = a.shape; tells = λ b. a.tells (part b); same = λ b c. a.same (part b) (part c); told_by_value = λ b c. a.told_by_value (part b) (part c); told_alike = λ b c. a.told_alike (part b) (part c) }
 
-abbrev pub about_list : {T : Type 0} {tells : T → Datum} → About tells → About {T = Vec T Global} (λ v. datum.seq (told_each tells v.items))
-about_list {T} {tells} a = record { shape = shape.list a.shape; same = λ v w. SameEach a.same v.items w.items; told_by_value = list_told a.shape tells a.same a.told_by_value; told_alike = list_alike a.shape tells a.same a.told_alike }
+abbrev pub list_tells : {T : Type 0} → (T → Datum) → Vec T Global → Datum
+list_tells tells v = datum.seq (elements_of (map tells v.items))
 
-abbrev pub about_two : {A B : Type 0} {ta : A → Datum} {tb : B → Datum} → About ta → About tb → About {T = A × B} (λ t. datum.tuple (elements_of (ta t.0 ∷ tb t.1 ∷ [])))
-about_two {A} {B} {ta} {tb} a b = record {
+abbrev pub about_list : {T : Type 0} → About T → About (Vec T Global)
+about_list a = record { shape = shape.list a.shape; tells = list_tells a.tells; same = λ v w. SameEach a.same v.items w.items; told_by_value = list_told a.shape a.tells a.same a.told_by_value; told_alike = list_alike a.shape a.tells a.same a.told_alike }
+
+abbrev pub about_two : {A B : Type 0} → About A → About B → About (A × B)
+about_two a b = record {
   shape = shape.tuple (shape.shape a.shape (shape.shape b.shape shape.no_shapes));
+  tells = λ t. datum.tuple (elements_of (a.tells t.0 ∷ b.tells t.1 ∷ []));
   same = λ t u. a.same t.0 u.0 × b.same t.1 u.1;
-  told_by_value = two_told a.shape b.shape ta tb a.same b.same a.told_by_value b.told_by_value;
-  told_alike = two_alike a.shape b.shape ta tb a.same b.same a.told_alike b.told_alike
+  told_by_value = two_told a.shape b.shape a.tells b.tells a.same b.same a.told_by_value b.told_by_value;
+  told_alike = two_alike a.shape b.shape a.tells b.tells a.same b.same a.told_alike b.told_alike;
 }
 
-abbrev pub about_three : {A B C : Type 0} {ta : A → Datum} {tb : B → Datum} {tc : C → Datum} → About ta → About tb → About tc → About {T = A × B × C} (λ t. datum.tuple (elements_of (ta t.0 ∷ tb t.1 ∷ tc t.2 ∷ [])))
-about_three {A} {B} {C} {ta} {tb} {tc} a b c = record {
+abbrev pub about_three : {A B C : Type 0} → About A → About B → About C → About (A × B × C)
+about_three a b c = record {
   shape = shape.tuple (shape.shape a.shape (shape.shape b.shape (shape.shape c.shape shape.no_shapes)));
+  tells = λ t. datum.tuple (elements_of (a.tells t.0 ∷ b.tells t.1 ∷ c.tells t.2 ∷ []));
   same = λ t u. a.same t.0 u.0 × b.same t.1 u.1 × c.same t.2 u.2;
-  told_by_value = three_told a.shape b.shape c.shape ta tb tc a.same b.same c.same a.told_by_value b.told_by_value c.told_by_value;
-  told_alike = three_alike a.shape b.shape c.shape ta tb tc a.same b.same c.same a.told_alike b.told_alike c.told_alike
+  told_by_value = three_told a.shape b.shape c.shape a.tells b.tells c.tells a.same b.same c.same a.told_by_value b.told_by_value c.told_by_value;
+  told_alike = three_alike a.shape b.shape c.shape a.tells b.tells c.tells a.same b.same c.same a.told_alike b.told_alike c.told_alike;
 }
 
-abbrev pub about_four : {A B C D : Type 0} {ta : A → Datum} {tb : B → Datum} {tc : C → Datum} {td : D → Datum} → About ta → About tb → About tc → About td → About {T = A × B × C × D} (λ t. datum.tuple (elements_of (ta t.0 ∷ tb t.1 ∷ tc t.2 ∷ td t.3 ∷ [])))
-about_four {A} {B} {C} {D} {ta} {tb} {tc} {td} a b c d = record {
+abbrev pub about_four : {A B C D : Type 0} → About A → About B → About C → About D → About (A × B × C × D)
+about_four a b c d = record {
   shape = shape.tuple (shape.shape a.shape (shape.shape b.shape (shape.shape c.shape (shape.shape d.shape shape.no_shapes))));
+  tells = λ t. datum.tuple (elements_of (a.tells t.0 ∷ b.tells t.1 ∷ c.tells t.2 ∷ d.tells t.3 ∷ []));
   same = λ t u. a.same t.0 u.0 × b.same t.1 u.1 × c.same t.2 u.2 × d.same t.3 u.3;
-  told_by_value = four_told a.shape b.shape c.shape d.shape ta tb tc td a.same b.same c.same d.same a.told_by_value b.told_by_value c.told_by_value d.told_by_value;
-  told_alike = four_alike a.shape b.shape c.shape d.shape ta tb tc td a.same b.same c.same d.same a.told_alike b.told_alike c.told_alike d.told_alike
+  told_by_value = four_told a.shape b.shape c.shape d.shape a.tells b.tells c.tells d.tells a.same b.same c.same d.same a.told_by_value b.told_by_value c.told_by_value d.told_by_value;
+  told_alike = four_alike a.shape b.shape c.shape d.shape a.tells b.tells c.tells d.tells a.same b.same c.same d.same a.told_alike b.told_alike c.told_alike d.told_alike;
 }

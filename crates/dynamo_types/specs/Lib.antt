@@ -1,3 +1,2 @@
 pub mod About
 pub mod Keys
-pub mod Missing

@@ -1,7 +1,8 @@
+ghost use Rattle.std.proofs.Common.{refl};
 ghost use Rattle.dynamo_value.specs.Integer as integers;
 ghost use Rattle.dynamo_shape.proofs.Scalars.{bool_permitted, signed_permitted, unsigned_permitted};
 ghost use Rattle.dynamo_types.specs.About.{about_bool, about_signed, about_unsigned};
-ghost use Rattle.dynamo_types.specs.Keys.{key_bool, key_signed, key_unsigned};
+ghost use Rattle.dynamo_types.specs.Keys.{own_key, key_bool, key_signed, key_unsigned};
 
 use crate::{Shaped, ShapedKey};
 use dynamo_de::Error;
@@ -9,6 +10,8 @@ use std::alloc::Global;
 
 impl Shaped for bool {
     ghost about = { about_bool };
+
+    ghost as_told = { refl };
 
     ghost reads_by_shape = { bool_permitted };
 
@@ -21,10 +24,14 @@ impl Shaped for bool {
 
 impl ShapedKey for bool {
     ghost about_key = { key_bool };
+
+    ghost is_key = { own_key key_bool };
 }
 
 impl Shaped for i8 {
     ghost about = { about_signed integers.i8 };
+
+    ghost as_told = { refl };
 
     ghost reads_by_shape = { signed_permitted integers.i8 };
 
@@ -39,10 +46,14 @@ impl Shaped for i8 {
 
 impl ShapedKey for i8 {
     ghost about_key = { key_signed integers.i8 };
+
+    ghost is_key = { own_key (key_signed integers.i8) };
 }
 
 impl Shaped for i16 {
     ghost about = { about_signed integers.i16 };
+
+    ghost as_told = { refl };
 
     ghost reads_by_shape = { signed_permitted integers.i16 };
 
@@ -57,10 +68,14 @@ impl Shaped for i16 {
 
 impl ShapedKey for i16 {
     ghost about_key = { key_signed integers.i16 };
+
+    ghost is_key = { own_key (key_signed integers.i16) };
 }
 
 impl Shaped for i32 {
     ghost about = { about_signed integers.i32 };
+
+    ghost as_told = { refl };
 
     ghost reads_by_shape = { signed_permitted integers.i32 };
 
@@ -75,10 +90,14 @@ impl Shaped for i32 {
 
 impl ShapedKey for i32 {
     ghost about_key = { key_signed integers.i32 };
+
+    ghost is_key = { own_key (key_signed integers.i32) };
 }
 
 impl Shaped for i64 {
     ghost about = { about_signed integers.i64 };
+
+    ghost as_told = { refl };
 
     ghost reads_by_shape = { signed_permitted integers.i64 };
 
@@ -93,10 +112,14 @@ impl Shaped for i64 {
 
 impl ShapedKey for i64 {
     ghost about_key = { key_signed integers.i64 };
+
+    ghost is_key = { own_key (key_signed integers.i64) };
 }
 
 impl Shaped for i128 {
     ghost about = { about_signed integers.i128 };
+
+    ghost as_told = { refl };
 
     ghost reads_by_shape = { signed_permitted integers.i128 };
 
@@ -111,10 +134,14 @@ impl Shaped for i128 {
 
 impl ShapedKey for i128 {
     ghost about_key = { key_signed integers.i128 };
+
+    ghost is_key = { own_key (key_signed integers.i128) };
 }
 
 impl Shaped for u8 {
     ghost about = { about_unsigned integers.u8 };
+
+    ghost as_told = { refl };
 
     ghost reads_by_shape = { unsigned_permitted integers.u8 };
 
@@ -129,10 +156,14 @@ impl Shaped for u8 {
 
 impl ShapedKey for u8 {
     ghost about_key = { key_unsigned integers.u8 };
+
+    ghost is_key = { own_key (key_unsigned integers.u8) };
 }
 
 impl Shaped for u16 {
     ghost about = { about_unsigned integers.u16 };
+
+    ghost as_told = { refl };
 
     ghost reads_by_shape = { unsigned_permitted integers.u16 };
 
@@ -147,10 +178,14 @@ impl Shaped for u16 {
 
 impl ShapedKey for u16 {
     ghost about_key = { key_unsigned integers.u16 };
+
+    ghost is_key = { own_key (key_unsigned integers.u16) };
 }
 
 impl Shaped for u32 {
     ghost about = { about_unsigned integers.u32 };
+
+    ghost as_told = { refl };
 
     ghost reads_by_shape = { unsigned_permitted integers.u32 };
 
@@ -165,10 +200,14 @@ impl Shaped for u32 {
 
 impl ShapedKey for u32 {
     ghost about_key = { key_unsigned integers.u32 };
+
+    ghost is_key = { own_key (key_unsigned integers.u32) };
 }
 
 impl Shaped for u64 {
     ghost about = { about_unsigned integers.u64 };
+
+    ghost as_told = { refl };
 
     ghost reads_by_shape = { unsigned_permitted integers.u64 };
 
@@ -183,10 +222,14 @@ impl Shaped for u64 {
 
 impl ShapedKey for u64 {
     ghost about_key = { key_unsigned integers.u64 };
+
+    ghost is_key = { own_key (key_unsigned integers.u64) };
 }
 
 impl Shaped for u128 {
     ghost about = { about_unsigned integers.u128 };
+
+    ghost as_told = { refl };
 
     ghost reads_by_shape = { unsigned_permitted integers.u128 };
 
@@ -201,4 +244,6 @@ impl Shaped for u128 {
 
 impl ShapedKey for u128 {
     ghost about_key = { key_unsigned integers.u128 };
+
+    ghost is_key = { own_key (key_unsigned integers.u128) };
 }

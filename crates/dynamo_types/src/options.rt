@@ -1,3 +1,5 @@
+ghost use Rattle.std.proofs.Common.{ap};
+ghost use Rattle.dynamo_ser.specs.Options.{option_tells};
 ghost use Rattle.dynamo_shape.proofs.Lists.{option_permitted, through_permitted};
 ghost use Rattle.dynamo_types.specs.About.{about_option, about_part};
 
@@ -8,7 +10,9 @@ use std::alloc::Global;
 impl<T: Shaped> Shaped for Option<T> {
     ghost about = { about_option T.about };
 
-    ghost reads_by_shape = { option_permitted T.about.shape T.tells T.reads T.reads_by_shape };
+    ghost as_told = { ap option_tells T.as_told };
+
+    ghost reads_by_shape = { option_permitted T.about.shape T.about.tells T.reads T.reads_by_shape };
 
     fn absent<E: Error>(_alloc: Global) -> Result<Option<Option<T>>, E> {
         Ok(Some(None))
@@ -25,7 +29,9 @@ impl<T: Shaped> Shaped for Option<T> {
 impl<T: Shaped> Shaped for Box<T> {
     ghost about = { about_part (λ b. b.value) T.about };
 
-    ghost reads_by_shape = { through_permitted T.about.shape T.tells T.reads (λ b. b.value) T.reads_by_shape };
+    ghost as_told = { λ i b. T.as_told i b.value };
+
+    ghost reads_by_shape = { through_permitted T.about.shape T.about.tells T.reads (λ b. b.value) T.reads_by_shape };
 
     fn absent<E: Error>(alloc: Global) -> Result<Option<Box<T>>, E> {
         match T::absent(alloc)? {

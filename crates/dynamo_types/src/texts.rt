@@ -1,8 +1,9 @@
 ghost use Rattle.std.specs.Prelude.{string_bytes};
+ghost use Rattle.std.proofs.Common.{refl};
 ghost use Rattle.dynamo_value.specs.Bytes.{octets_of};
 ghost use Rattle.dynamo_shape.proofs.Scalars.{char_permitted, text_permitted, bytes_permitted, unit_permitted};
 ghost use Rattle.dynamo_types.specs.About.{about_char, about_text, about_bytes, about_unit};
-ghost use Rattle.dynamo_types.specs.Keys.{key_char, key_text};
+ghost use Rattle.dynamo_types.specs.Keys.{own_key, key_char, key_text};
 
 use crate::{Shaped, ShapedKey};
 use dynamo_de::Error;
@@ -11,6 +12,8 @@ use std::alloc::Global;
 
 impl Shaped for char {
     ghost about = { about_char };
+
+    ghost as_told = { refl };
 
     ghost reads_by_shape = { char_permitted };
 
@@ -25,10 +28,14 @@ impl Shaped for char {
 
 impl ShapedKey for char {
     ghost about_key = { key_char };
+
+    ghost is_key = { own_key key_char };
 }
 
 impl Shaped for String {
     ghost about = { about_text string_bytes };
+
+    ghost as_told = { refl };
 
     ghost reads_by_shape = { text_permitted string_bytes };
 
@@ -43,10 +50,14 @@ impl Shaped for String {
 
 impl ShapedKey for String {
     ghost about_key = { key_text };
+
+    ghost is_key = { own_key key_text };
 }
 
 impl Shaped for ByteBuf {
     ghost about = { about_bytes octets_of };
+
+    ghost as_told = { refl };
 
     ghost reads_by_shape = { bytes_permitted octets_of };
 
@@ -59,6 +70,8 @@ impl Shaped for ByteBuf {
 
 impl Shaped for () {
     ghost about = { about_unit };
+
+    ghost as_told = { refl };
 
     ghost reads_by_shape = { unit_permitted };
 
