@@ -1,0 +1,32 @@
+-- What stands behind a list of fields.
+use Rattle.std.proofs.Common.{◌≡◌, ℕ, suc, ◌+◌, length, ◌∷◌, refl, sym, ap, subst, ◌∙◌, arith}
+use Rattle.dynamo_ser.specs.Datum.{Datum}
+use Rattle.dynamo_shape.specs.Shape.{Shape}
+use Rattle.dynamo_shape.proofs.FieldsByName.{fill_slot}
+use Rattle.dynamo_record.specs.Fields.{read_nth}
+use Rattle.dynamo_record.specs.Listed.{Shapes, Holds, HoldsField, HoldsBoth, HoldsBehind, ReadBehind, Counts}
+
+next : (i : ℕ) → suc i ≡ 1 + i
+next i = omega arith
+
+pub field_behind : {T : Type 0} (s : Shape) (tells : T → Datum) → HoldsBehind 1 (HoldsField s tells)
+field_behind s tells x os more i d h = subst (λ n. HoldsField s tells x (fill_slot n d os) (fill_slot i d more)) (next i) (h.0, ap (fill_slot i d) h.1)
+
+pub field_read : (s : Shape) → ReadBehind 1 (λ ss. s ∷ ss)
+field_read s ss i source = subst (λ n. read_nth n (s ∷ ss) source ≡ read_nth i ss source) (next i) refl
+
+pub field_counted : (s : Shape) → Counts 1 (λ ss. s ∷ ss)
+field_counted s ss = next (length ss)
+
+grouped : (a b i : ℕ) → a + (b + i) ≡ (a + b) + i
+grouped a b i = omega arith
+
+pub both_behind : {X Y : Type 0} (a b : ℕ) (left : Holds X) (right : Holds Y) → HoldsBehind a left → HoldsBehind b right → HoldsBehind (a + b) (HoldsBoth left right)
+both_behind a b left right behind behind_right x os more i d h =
+    (fill_slot (b + i) d h.0, subst (λ n. left x.0 (fill_slot n d os) (fill_slot (b + i) d h.0)) (grouped a b i) (behind x.0 os h.0 (b + i) d h.1), behind_right x.1 h.0 more i d h.2)
+
+pub both_read : (a b : ℕ) (left right : Shapes → Shapes) → ReadBehind a left → ReadBehind b right → ReadBehind (a + b) (λ ss. left (right ss))
+both_read a b left right first second ss i source = ap (λ n. read_nth n (left (right ss)) source) (sym (grouped a b i)) ∙ (first (right ss) (b + i) source ∙ second ss i source)
+
+pub both_counted : (a b : ℕ) (left right : Shapes → Shapes) → Counts a left → Counts b right → Counts (a + b) (λ ss. left (right ss))
+both_counted a b left right first second ss = first (right ss) ∙ (ap (λ n. a + n) (second ss) ∙ grouped a b (length ss))

@@ -1,0 +1,4 @@
+pub mod Behind
+pub mod Fields
+pub mod Listed
+pub mod Names

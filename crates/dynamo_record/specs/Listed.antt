@@ -1,0 +1,140 @@
+-- Lists of fields by their types, each put in front of whatever follows, so that two lists are one list by going on with the
+-- second behind the first.
+use Rattle.std.specs.Prelude.{◌≡◌, ◌⊎◌, ◌+◌, ℕ, List, ◌∷◌, Option, Some, None, Result, Ok, Err, length, ⊤}
+use Rattle.dynamo_value.specs.Fault.{Fault, out_of_memory}
+use Rattle.dynamo_ser.specs.Datum.{Datum}
+use Rattle.dynamo_de.specs.Answer.{Answer, refused, After}
+use Rattle.dynamo_de.specs.Source.{Source}
+use Rattle.dynamo_shape.specs.Conforms.{conforms}
+use Rattle.dynamo_shape.specs.Permits.{Permits}
+use Rattle.dynamo_shape.specs.Read.{into}
+use Rattle.dynamo_shape.specs.Same.{Same}
+use Rattle.dynamo_shape.specs.Shape.{Shape}
+use Rattle.dynamo_shape.proofs.FieldsByName.{Slots, first_slot, other_slots, fill_slot}
+use Rattle.dynamo_types.specs.About.{About}
+use Rattle.dynamo_record.specs.Fields.{ConformEach, SameData, Defaults, read_nth}
+
+abbrev pub Shapes : Type 0
+Shapes = List Shape
+
+abbrev pub Data : Type 0
+Data = List Datum
+
+-- values whose data are the same, in front of others, are the same by value, and what follows is the same
+abbrev pub FrontTold : {L : Type 0} → (Shapes → Shapes) → (L → Data → Data) → (L → L → Type 0) → Type 0
+FrontTold {L} shapes told same = (v w : L) (ss : Shapes) (ds es : Data) → ConformEach (shapes ss) (told v ds) → ConformEach (shapes ss) (told w es) → SameData (told v ds) (told w es)
+    → same v w × ConformEach ss ds × ConformEach ss es × SameData ds es
+
+-- values that are the same by value tell the same data, where what follows is the same
+abbrev pub FrontAlike : {L : Type 0} → (Shapes → Shapes) → (L → Data → Data) → (L → L → Type 0) → Type 0
+FrontAlike {L} shapes told same = (v w : L) (ss : Shapes) (ds es : Data) → ConformEach (shapes ss) (told v ds) → ConformEach (shapes ss) (told w es) → same v w
+    → (ConformEach ss ds → ConformEach ss es → SameData ds es) → SameData (told v ds) (told w es)
+
+-- What is known of a list of fields: how many they are; their shapes, defaults and data in front of others; when two values are
+-- the same, field by field; and that they are so exactly where they tell the same data.
+pub record AboutList (L : Type 0) : Type 1 where
+  pub count : ℕ
+  pub shapes : Shapes → Shapes
+  pub defaults : Defaults → Defaults
+  pub told : L → Data → Data
+  pub same : L → L → Type 0
+  pub told_by_value : FrontTold shapes told same
+  pub told_alike : FrontAlike shapes told same
+
+abbrev pub about_field : {V L : Type 0} → (L → V) → About V → Option Datum → AboutList L
+about_field value a default = record {
+  count = 1;
+  shapes = λ ss. a.shape ∷ ss;
+  defaults = λ gs. default ∷ gs;
+  told = λ f ds. a.tells (value f) ∷ ds;
+  same = λ f g. a.same (value f) (value g);
+  told_by_value = λ f g ss ds es c d h. (a.told_by_value (value f) (value g) c.0 d.0 h.0, c.1, d.1, h.1);
+  told_alike = λ f g ss ds es c d h others. (a.told_alike (value f) (value g) c.0 d.0 h, others c.1 d.1);
+}
+
+module _ {L R : Type 0} (l : AboutList L) (r : AboutList R) where
+  abbrev pub both_shapes : Shapes → Shapes
+  both_shapes ss = l.shapes (r.shapes ss)
+
+  abbrev pub both_told : L × R → Data → Data
+  both_told p ds = l.told p.0 (r.told p.1 ds)
+
+  abbrev pub both_same : L × R → L × R → Type 0
+  both_same p q = l.same p.0 q.0 × r.same p.1 q.1
+
+  pub both_by_value : FrontTold both_shapes both_told both_same
+  both_by_value p q ss ds es c d h =
+      let left = l.told_by_value p.0 q.0 (r.shapes ss) (r.told p.1 ds) (r.told q.1 es) c d h in
+      let right = r.told_by_value p.1 q.1 ss ds es left.1 left.2 left.3 in
+      ((left.0, right.0), right.1, right.2, right.3)
+
+  pub both_alike : FrontAlike both_shapes both_told both_same
+  both_alike p q ss ds es c d h others = l.told_alike p.0 q.0 (r.shapes ss) (r.told p.1 ds) (r.told q.1 es) c d h.0 (λ x y. r.told_alike p.1 q.1 ss ds es x y h.1 others)
+
+  abbrev pub about_both : AboutList (L × R)
+  about_both = record {
+    count = l.count + r.count;
+    shapes = both_shapes;
+    defaults = λ gs. l.defaults (r.defaults gs);
+    told = both_told;
+    same = both_same;
+    told_by_value = both_by_value;
+    told_alike = both_alike;
+  }
+
+-- ---- what is read
+
+-- The slots of data in front of others are those that were read so far.
+abbrev pub Holds : Type 0 → Type 1
+Holds X = X → Slots → Slots → Type 0
+
+-- the value that was read tells the datum, so far as it conforms
+abbrev pub IsRead : {T : Type 0} → Shape → (T → Datum) → Option T → Option Datum → Type 0
+IsRead s tells None None = ⊤
+IsRead s tells (Some v) (Some d) = conforms s (tells v) → Same d (tells v)
+IsRead s tells _ _ = ⊥
+
+abbrev pub HoldsField : {T : Type 0} → Shape → (T → Datum) → Holds (Option T)
+HoldsField s tells x os more = IsRead s tells x (first_slot os) × (more ≡ other_slots os)
+
+abbrev pub HoldsBoth : {X Y : Type 0} → Holds X → Holds Y → Holds (X × Y)
+HoldsBoth left right x os more = (rest : Slots) × left x.0 os rest × right x.1 rest more
+
+-- a slot behind these may be filled
+abbrev pub HoldsBehind : {X : Type 0} → ℕ → Holds X → Type 0
+HoldsBehind {X} count holds = (x : X) (os more : Slots) (i : ℕ) (d : Datum) → holds x os more → holds x (fill_slot (count + i) d os) (fill_slot i d more)
+
+-- the fields behind these are those that follow
+abbrev pub ReadBehind : ℕ → (Shapes → Shapes) → Type 0
+ReadBehind count shapes = (ss : Shapes) (i : ℕ) (source : Source) → read_nth (count + i) (shapes ss) source ≡ read_nth i ss source
+
+abbrev pub Counts : ℕ → (Shapes → Shapes) → Type 0
+Counts count shapes = (ss : Shapes) → length (shapes ss) ≡ count + length ss
+
+-- so for a value, and not for a fault
+abbrev pub IfRead : {X : Type 0} → (X → Type 0) → Result X Fault → Type 0
+IfRead P (Ok x) = P x
+IfRead P (Err f) = ⊥
+
+-- a source is read by the field of a number, which is then held
+abbrev pub Fills : {X : Type 0} → Holds X → Shapes → ℕ → Slots → Slots → X → Source → Result (Unit {0}) Fault → Type 0
+Fills holds ss i os more new source r = After (read_nth i ss source) (λ d. IfRead (λ _. holds new (fill_slot i d os) more)) r
+
+-- what is told is the data in front, so far as it conforms
+abbrev pub AlikeFront : {L : Type 0} → (Shapes → Shapes) → (L → Data → Data) → (Data → Data) → L → Type 0
+AlikeFront shapes told front v = (ss : Shapes) (ds es : Data) → ConformEach (shapes ss) (told v es) → (ConformEach ss es → SameData ds es) → SameData (front ds) (told v es)
+
+-- the fields are made of what is read first, and the others are what is read then; where a field is missed all is refused
+abbrev pub Makes : {L : Type 0} → (Shapes → Shapes) → (L → Data → Data) → Answer Data → Answer Data → Option L → Type 0
+Makes shapes told all others None = all ≡ refused
+Makes shapes told all others (Some v) = (front : Data → Data) × (all ≡ into front others) × AlikeFront shapes told front v
+
+-- the same of a call that may want memory
+abbrev pub MakesOrLacks : {L E : Type 0} → (E → Fault) → (Shapes → Shapes) → (L → Data → Data) → Answer Data → Answer Data → Result (Option L) E → Type 0
+MakesOrLacks fault shapes told all others (Ok o) = Makes shapes told all others o
+MakesOrLacks fault shapes told all others (Err e) = fault e ≡ out_of_memory
+
+-- the same of a call that reads, and so may meet a fault
+abbrev pub MakesOrFails : {L E : Type 0} → (E → Fault) → (Shapes → Shapes) → (L → Data → Data) → Answer Data → Answer Data → Result (Option L) E → Type 0
+MakesOrFails fault shapes told all others (Ok o) = Makes shapes told all others o
+MakesOrFails fault shapes told all others (Err e) = (fault e ≡ out_of_memory) ⊎ Permits SameData all (Err (fault e))

@@ -1,0 +1,238 @@
+ghost use Rattle.std.specs.Prelude.{◌≡◌, ◌<◌, ◌≤◌, ◌+◌, ◌^◌};
+ghost use Rattle.dynamo_de.specs.Access.{NextValue};
+ghost use Rattle.dynamo_shape.proofs.FieldsByName.{Slots};
+ghost use Rattle.dynamo_record.specs.Fields.{Defaults, unread, complete, read_fields};
+ghost use Rattle.dynamo_record.specs.Listed.{AboutList, about_field, about_both, Shapes, Holds, HoldsField, HoldsBoth, HoldsBehind, ReadBehind, Counts, Fills, MakesOrLacks, MakesOrFails};
+ghost use Rattle.dynamo_record.specs.Behind.{both_behind, both_read, both_counted, field_behind, field_read, field_counted};
+
+use crate::{Field, FieldType};
+use dynamo_de::{Error, MapAccess, SeqAccess};
+use std::alloc::Global;
+
+/// The fields of a struct, a tuple struct or a variant, by their types: one [`Field`], or a pair of lists.
+///
+/// Lists of many fields are pairs of pairs, as `((Field<A>, Field<B>), (Field<C>, Field<D>))`: the flatter the pairs, the
+/// faster they are checked and read.
+pub trait FieldList: Sized {
+    /// What was read of each field so far.
+    type Slots;
+
+    // The shapes of the fields, what they tell, and when they are the same by value.
+    ghost about: { AboutList Self };
+
+    // What was read so far, as data.
+    ghost holds: { Holds Self.Slots };
+
+    /// How many they are, so far as that can be told.
+    fn count() -> usize
+        ensures at_most { result ≤ about.count }
+        ensures exact { result + 1 < 2 ^ 64 → result ≡ about.count };
+
+    /// Nothing yet.
+    fn unread() -> Self::Slots
+        ensures { (ss : Shapes) → holds result (unread (about.shapes ss)) (unread ss) };
+
+    /// Reads the value that is pending as the field of this number.
+    fn read_value<A: MapAccess>(
+        slots: &mut Self::Slots,
+        place: usize,
+        map: &mut A,
+        alloc: Global,
+    ) -> Result<(), A::Error>
+        ensures { place < about.count → place + 1 < 2 ^ 64 → (ss : Shapes) (os more : Slots) → holds slots.old os more → NextValue A.Error.fault (Fills holds (about.shapes ss) place os more slots.new) (A.left map.old) (A.pending map.old) (A.left map.new) (A.pending map.new) result };
+
+    /// The fields, where none is missed.
+    fn complete<E: Error>(slots: Self::Slots, alloc: Global) -> Result<Option<Self>, E>
+        ensures { (ss : Shapes) (gs : Defaults) (os more : Slots) → holds slots os more → MakesOrLacks E.fault about.shapes about.told (complete (about.shapes ss) (about.defaults gs) os) (complete ss gs more) result };
+
+    /// Reads the fields in order; none where the elements end before.
+    fn read_in_order<A: SeqAccess>(seq: &mut A, alloc: Global) -> Result<Option<Self>, A::Error>
+        ensures { (ss : Shapes) → MakesOrFails A.Error.fault about.shapes about.told (read_fields (about.shapes ss) (A.left seq.old)) (read_fields ss (A.left seq.new)) result };
+
+    /// The number of the first field that is missed.
+    fn missed(slots: &Self::Slots) -> Option<usize>;
+
+    /// Lets go of what was read.
+    fn discard_slots(slots: Self::Slots);
+
+    /// Lets go of the fields.
+    fn discard(self);
+
+    // A slot behind these may be filled.
+    ghost behind: { HoldsBehind about.count holds };
+
+    // The fields behind these are those that follow.
+    ghost read_behind: { ReadBehind about.count about.shapes };
+
+    // There are so many shapes.
+    ghost counted: { Counts about.count about.shapes };
+}
+
+impl<F: FieldType> FieldList for Field<F> {
+    type Slots = Option<F::Value>;
+
+    ghost about = { about_field (λ f. f.0) F.about F.default };
+
+    ghost holds = { HoldsField F.about.shape F.about.tells };
+
+    ghost behind = { field_behind F.about.shape F.about.tells };
+
+    ghost read_behind = { field_read F.about.shape };
+
+    ghost counted = { field_counted F.about.shape };
+
+    fn count() -> usize {
+        1
+    }
+
+    fn unread() -> Option<F::Value> {
+        None
+    }
+
+    fn read_value<A: MapAccess>(
+        slots: &mut Option<F::Value>,
+        _place: usize,
+        map: &mut A,
+        alloc: Global,
+    ) -> Result<(), A::Error> {
+        let value = map.next_value::<F::Value>(alloc)?;
+        *slots = Some(value);
+        Ok(())
+    }
+
+    fn complete<E: Error>(slots: Option<F::Value>, alloc: Global) -> Result<Option<Field<F>>, E> {
+        match slots {
+            Some(value) => Ok(Some(Field(value))),
+            None => match F::absent::<E>(alloc) {
+                Ok(Some(value)) => Ok(Some(Field(value))),
+                Ok(None) => Ok(None),
+                Err(error) => Err(error),
+            },
+        }
+    }
+
+    fn read_in_order<A: SeqAccess>(
+        seq: &mut A,
+        alloc: Global,
+    ) -> Result<Option<Field<F>>, A::Error> {
+        match seq.next_element::<F::Value>(alloc) {
+            Ok(Some(value)) => Ok(Some(Field(value))),
+            Ok(None) => Ok(None),
+            Err(error) => Err(error),
+        }
+    }
+
+    fn missed(slots: &Option<F::Value>) -> Option<usize> {
+        if slots.is_some() { None } else { Some(0) }
+    }
+
+    fn discard_slots(slots: Option<F::Value>) {
+        drop(slots);
+    }
+
+    fn discard(self) {
+        let Field(value) = self;
+        drop(value);
+    }
+}
+
+impl<L: FieldList, R: FieldList> FieldList for (L, R) {
+    type Slots = (L::Slots, R::Slots);
+
+    ghost about = { about_both L.about R.about };
+
+    ghost holds = { HoldsBoth L.holds R.holds };
+
+    ghost behind = { both_behind L.about.count R.about.count L.holds R.holds L.behind R.behind };
+
+    ghost read_behind = { both_read L.about.count R.about.count L.about.shapes R.about.shapes L.read_behind R.read_behind };
+
+    ghost counted = { both_counted L.about.count R.about.count L.about.shapes R.about.shapes L.counted R.counted };
+
+    fn count() -> usize {
+        L::count().saturating_add(R::count())
+    }
+
+    fn unread() -> (L::Slots, R::Slots) {
+        (L::unread(), R::unread())
+    }
+
+    fn read_value<A: MapAccess>(
+        slots: &mut (L::Slots, R::Slots),
+        place: usize,
+        map: &mut A,
+        alloc: Global,
+    ) -> Result<(), A::Error> {
+        let first = L::count();
+        if place < first {
+            L::read_value(&mut slots.0, place, map, alloc)
+        } else {
+            R::read_value(&mut slots.1, place - first, map, alloc)
+        }
+    }
+
+    fn complete<E: Error>(slots: (L::Slots, R::Slots), alloc: Global) -> Result<Option<(L, R)>, E> {
+        let (left, right) = slots;
+        match L::complete::<E>(left, alloc) {
+            Ok(Some(left)) => match R::complete::<E>(right, alloc) {
+                Ok(Some(right)) => Ok(Some((left, right))),
+                Ok(None) => {
+                    left.discard();
+                    Ok(None)
+                }
+                Err(error) => {
+                    left.discard();
+                    Err(error)
+                }
+            },
+            Ok(None) => {
+                R::discard_slots(right);
+                Ok(None)
+            }
+            Err(error) => {
+                R::discard_slots(right);
+                Err(error)
+            }
+        }
+    }
+
+    fn read_in_order<A: SeqAccess>(seq: &mut A, alloc: Global) -> Result<Option<(L, R)>, A::Error> {
+        match L::read_in_order(seq, alloc) {
+            Ok(Some(left)) => match R::read_in_order(seq, alloc) {
+                Ok(Some(right)) => Ok(Some((left, right))),
+                Ok(None) => {
+                    left.discard();
+                    Ok(None)
+                }
+                Err(error) => {
+                    left.discard();
+                    Err(error)
+                }
+            },
+            Ok(None) => Ok(None),
+            Err(error) => Err(error),
+        }
+    }
+
+    fn missed(slots: &(L::Slots, R::Slots)) -> Option<usize> {
+        match L::missed(&slots.0) {
+            Some(place) => Some(place),
+            None => match R::missed(&slots.1) {
+                Some(place) => Some(L::count().saturating_add(place)),
+                None => None,
+            },
+        }
+    }
+
+    fn discard_slots(slots: (L::Slots, R::Slots)) {
+        let (left, right) = slots;
+        L::discard_slots(left);
+        R::discard_slots(right);
+    }
+
+    fn discard(self) {
+        let (left, right) = self;
+        left.discard();
+        right.discard();
+    }
+}

@@ -1,0 +1,9 @@
+//! Structs and enums that are written and read by a description: what a user's own type has to state, so that it keeps the
+//! promises of [`Shaped`](dynamo_types::Shaped) without a proof.
+#![tactic(auto)]
+
+mod field;
+mod field_list;
+
+pub use field::{Field, FieldType};
+pub use field_list::FieldList;
