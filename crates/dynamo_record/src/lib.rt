@@ -4,6 +4,9 @@
 
 mod field;
 mod field_list;
+mod names;
+mod ref_list;
 
 pub use field::{Field, FieldType};
 pub use field_list::FieldList;
+pub use ref_list::RefList;
