@@ -1,3 +1,9 @@
 pub mod Answering
 pub mod BothLists
+pub mod Described
+pub mod Entries
+pub mod OneEntry
 pub mod OneField
+pub mod Passing
+pub mod Places
+pub mod Structs

@@ -5,8 +5,10 @@
 mod field;
 mod field_list;
 mod names;
+mod record;
 mod ref_list;
 
 pub use field::{Field, FieldType};
 pub use field_list::FieldList;
+pub use record::{Record, read_record, record_conforms, write_record};
 pub use ref_list::RefList;
