@@ -1,6 +1,7 @@
 pub mod Behind
 pub mod Entries
 pub mod Fields
+pub mod Flat
 pub mod Listed
 pub mod Names
 pub mod Records

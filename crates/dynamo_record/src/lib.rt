@@ -4,6 +4,8 @@
 
 mod field;
 mod field_list;
+mod flat_lists;
+mod flat_refs;
 mod names;
 mod record;
 mod ref_list;
