@@ -4,6 +4,9 @@
 
 mod field;
 mod field_list;
+mod unit_enum;
+mod variant_names;
 
 pub use field::{Field, FieldType};
 pub use field_list::FieldList;
+pub use unit_enum::{UnitEnum, conform_unit_enum, read_unit_enum, variant_at, write_unit_enum};
