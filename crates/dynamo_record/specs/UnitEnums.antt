@@ -45,6 +45,11 @@ abbrev pub name_at : Names → ℕ → Text
 name_at ns zero = first_name ns
 name_at ns (suc n) = name_at (other_names ns) n
 
+-- the value of this number among so many, or none behind the last
+unfoldable pub IsNumber : {T : Type 0} → (T → ℕ) → ℕ → ℕ → Option T → Type 0
+IsNumber numbers count n None = count ≤ n
+IsNumber numbers count n (Some v) = numbers v ≡ n
+
 abbrev pub unit_variants : Names → Variants
 unit_variants [] = shape.no_variants
 unit_variants (n ∷ ns) = shape.variant n shape.nothing (unit_variants ns)
@@ -84,11 +89,6 @@ module _ {T : Type 0} (a : AboutUnits T) where
   -- what may be answered on the name of a variant and its content
   abbrev pub FromVariant : Text × Option Source → Result T Fault → Type 0
   FromVariant v r = Answers (conforms unit_enum_shape) Same unit_enum_tells (read_one_of (unit_variants a.names) a.name 0 v.0 v.1) r
-
-  -- the value of this number, or none behind the last
-  abbrev pub IsVariant : ℕ → Option T → Type 0
-  IsVariant n None = length a.names ≤ n
-  IsVariant n (Some v) = a.number v ≡ n
 
   pub unit_enum_equal : EqualAsTold unit_enum_tells a.eq
   unit_enum_equal v w = (λ t. ap unit_enum_tells (a.one v w ((a.equal v w).0 t)), λ e. (a.equal v w).1 (ap number_in e))

@@ -1,11 +1,11 @@
-ghost use Rattle.std.specs.Prelude.{◌≡◌, map, length};
+ghost use Rattle.std.specs.Prelude.{◌≡◌, ℕ, map, length};
 ghost use Rattle.std.specs.List.{range_with_len};
 ghost use Rattle.dynamo_de.specs.Answer.{After};
 ghost use Rattle.dynamo_de.specs.Meets.{Meets};
 ghost use Rattle.dynamo_de.specs.Scalars.{read_identifier};
 ghost use Rattle.dynamo_de.specs.Visitors.{claims_str, take_identifier, claims_enum, take_variant};
 ghost use Rattle.dynamo_shape.specs.Conforms as shapes;
-ghost use Rattle.dynamo_record.specs.UnitEnums.{AboutUnits, IsVariant, FromName, FromVariant, unit_enum_shape, unit_enum_tells, unit_enum_reads};
+ghost use Rattle.dynamo_record.specs.UnitEnums.{AboutUnits, IsNumber, FromName, FromVariant, unit_enum_shape, unit_enum_tells, unit_enum_reads};
 
 use crate::variant_names::{name_at, place_of, unknown_variant};
 use dynamo_de::{DeserializeSeed, Deserializer, EnumAccess, Error, Kind, VariantAccess, Visitor};
@@ -32,13 +32,12 @@ pub trait UnitEnum: Copy {
 
     /// The variant of this number, where there is one: [`variant_at`] of all of them.
     fn variant(number: usize) -> Option<Self>
-        ensures { IsVariant about number result };
+        ensures { IsNumber about.number (length about.names) number result };
 }
 
 /// The variant of this number, where these are all of them, in order.
-pub fn variant_at<T: UnitEnum>(variants: &[T], number: usize) -> Option<T>
-    requires { map T.about.number variants.now ≡ range_with_len 0 (length T.about.names) }
-    ensures { IsVariant T.about number result }
+pub fn variant_at<T: Copy>(variants: &[T], number: usize) -> Option<T>
+    ensures { (numbers : T → ℕ) (count : ℕ) → map numbers variants.now ≡ range_with_len 0 count → IsNumber numbers count number result }
 {
     if number < variants.len() {
         Some(variants[number])
