@@ -4,9 +4,13 @@
 
 mod field;
 mod field_list;
+mod newtype;
 mod unit_enum;
+mod unit_struct;
 mod variant_names;
 
 pub use field::{Field, FieldType};
 pub use field_list::FieldList;
+pub use newtype::{read_newtype, write_newtype};
 pub use unit_enum::{UnitEnum, conform_unit_enum, read_unit_enum, variant_at, write_unit_enum};
+pub use unit_struct::read_unit_struct;
