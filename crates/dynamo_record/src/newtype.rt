@@ -3,7 +3,7 @@ ghost use Rattle.dynamo_de.specs.Answer.{After};
 ghost use Rattle.dynamo_de.specs.Meets.{Meets};
 ghost use Rattle.dynamo_de.specs.Source.{Text};
 ghost use Rattle.dynamo_de.specs.Visitors.{claims_newtype, take_newtype};
-ghost use Rattle.dynamo_record.specs.Newtypes.{named_newtype, reads_as};
+ghost use Rattle.dynamo_record.specs.Newtypes.{named_newtype, ReadsAs};
 
 use dynamo_de::{Deserializer, Kind, Visitor};
 use dynamo_ser::Serializer;
@@ -47,7 +47,7 @@ pub fn read_newtype<T: Shaped, D: Deserializer>(
     deserializer: D,
     name: &'static str,
 ) -> Result<T, D::Error>
-    ensures { (own : Text) → Meets D.Error.fault (reads_as (named_newtype own T.about) (D.source deserializer)) result }
+    ensures { (own : Text) → Meets D.Error.fault (ReadsAs (named_newtype own T.about) (D.source deserializer)) result }
 {
     deserializer.deserialize_newtype_struct(
         name,

@@ -1,9 +1,8 @@
-ghost use Rattle.std.proofs.Common.{refl};
 ghost use Rattle.dynamo_de.specs.Answer.{Gives};
 ghost use Rattle.dynamo_de.specs.Meets.{Meets};
 ghost use Rattle.dynamo_de.specs.Source.{Text};
 ghost use Rattle.dynamo_de.specs.Visitors.{claims_unit, take_unit};
-ghost use Rattle.dynamo_record.specs.Newtypes.{about_unit_struct, reads_as};
+ghost use Rattle.dynamo_record.specs.Newtypes.{ReadsUnitStruct};
 
 use dynamo_de::{Deserializer, Error, Kind, Visitor};
 use std::alloc::Global;
@@ -43,7 +42,7 @@ pub fn read_unit_struct<D: Deserializer>(
     deserializer: D,
     name: &'static str,
 ) -> Result<(), D::Error>
-    ensures { (own : Text) → Meets D.Error.fault (reads_as (about_unit_struct own (λ _ _. refl)) (D.source deserializer)) result }
+    ensures { (own : Text) → Meets D.Error.fault (ReadsUnitStruct own (D.source deserializer)) result }
 {
     deserializer.deserialize_unit_struct(name, UnitStructVisitor { alloc })
 }
