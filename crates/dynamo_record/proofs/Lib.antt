@@ -7,3 +7,4 @@ pub mod OneField
 pub mod Passing
 pub mod Places
 pub mod Structs
+pub mod Variants

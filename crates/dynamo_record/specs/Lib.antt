@@ -4,6 +4,8 @@ pub mod Fields
 pub mod Flat
 pub mod Listed
 pub mod Names
+pub mod Newtypes
 pub mod Records
 pub mod Refs
 pub mod Told
+pub mod UnitEnums

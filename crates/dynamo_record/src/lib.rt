@@ -7,10 +7,17 @@ mod field_list;
 mod flat_lists;
 mod flat_refs;
 mod names;
+mod newtype;
 mod record;
 mod ref_list;
+mod unit_enum;
+mod unit_struct;
+mod variant_names;
 
 pub use field::{Field, FieldType};
 pub use field_list::FieldList;
+pub use newtype::{read_newtype, write_newtype};
 pub use record::{Record, read_record, record_conforms, write_record};
 pub use ref_list::RefList;
+pub use unit_enum::{UnitEnum, conform_unit_enum, read_unit_enum, variant_at, write_unit_enum};
+pub use unit_struct::read_unit_struct;

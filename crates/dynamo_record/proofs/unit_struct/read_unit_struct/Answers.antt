@@ -1,0 +1,20 @@
+use Rattle.std.specs.Prelude.{⊤}
+use Rattle.dynamo_ser.specs.Datum as datum
+use Rattle.dynamo_de.specs.Answer.{Gives, Is}
+use Rattle.dynamo_de.specs.Scalars.{read_unit_struct}
+use Rattle.dynamo_de.proofs.ByHand.{unit_struct_read}
+use Rattle.dynamo_de.proofs.Meets.{meets_more}
+use Rattle.dynamo_shape.specs.Conforms.{conforms}
+use Rattle.dynamo_shape.specs.Shape as shape
+use Rattle.dynamo_shape.proofs.Scalars.{given}
+use Rattle.dynamo_record.specs.Newtypes.{ReadsUnitStruct}
+use Rattle.dynamo_record.proofs.unit_struct.read_unit_struct.Goals as goal
+
+pub returns : goal.returns
+unfolding ReadsUnitStruct
+returns g c = λ own.
+    let source = g.D.Reader.source c.args.deserializer in
+    let call = c.deserialize_unit_struct in
+    meets_more g.D.Error.Error.fault (Gives {V = ⊤} (λ u. u) (read_unit_struct source)) (ReadsUnitStruct own source)
+    (λ r h. given (conforms (shape.unit_struct own)) (λ u. u) (λ _. datum.unit_struct own) (read_unit_struct source) r h)
+    call.result (unit_struct_read (Is {V = ⊤} (λ u. u)) g.D.Error.Error.fault source call.result call.ensures)
