@@ -1,3 +1,4 @@
 pub mod Answering
 pub mod BothLists
+pub mod Choosing
 pub mod OneField

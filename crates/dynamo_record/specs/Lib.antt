@@ -1,4 +1,6 @@
 pub mod Behind
 pub mod Fields
+pub mod Indices
 pub mod Listed
 pub mod Names
+pub mod Variants

@@ -4,6 +4,8 @@
 
 mod field;
 mod field_list;
+mod variant_list;
 
 pub use field::{Field, FieldType};
 pub use field_list::FieldList;
+pub use variant_list::{Choice, VariantList};
