@@ -1,6 +1,10 @@
 pub mod Behind
+pub mod Contents
+pub mod Enums
 pub mod Fields
 pub mod Indices
+pub mod InOrder
 pub mod Listed
 pub mod Names
+pub mod Refs
 pub mod Variants

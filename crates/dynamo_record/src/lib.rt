@@ -2,10 +2,17 @@
 //! promises of [`Shaped`](dynamo_types::Shaped) without a proof.
 #![tactic(auto)]
 
+mod content;
+mod enumeration;
 mod field;
 mod field_list;
+mod names;
+mod ref_list;
 mod variant_list;
 
+pub use content::{Nothing, One, Several};
+pub use enumeration::{Enumeration, read_enum};
 pub use field::{Field, FieldType};
 pub use field_list::FieldList;
+pub use ref_list::RefList;
 pub use variant_list::{Choice, VariantList};

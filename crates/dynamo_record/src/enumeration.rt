@@ -1,0 +1,184 @@
+ghost use Rattle.std.specs.Prelude.{◌≡◌, ◌⊎◌, map};
+ghost use Rattle.dynamo_value.specs.Fault.{out_of_memory};
+ghost use Rattle.dynamo_de.specs.Answer.{After};
+ghost use Rattle.dynamo_de.specs.Meets.{Meets};
+ghost use Rattle.dynamo_de.specs.Scalars.{read_identifier};
+ghost use Rattle.dynamo_de.specs.Visitors.{claims_str, take_identifier, claims_enum, take_variant};
+ghost use Rattle.dynamo_shape.specs.Permits.{IsMessageFault};
+ghost use Rattle.dynamo_record.specs.Enums.{AboutEnum, of_variants, enum_reads, NamesVariant, FromVariant, VariantsNamed};
+
+use crate::VariantList;
+use crate::names::place_of;
+use dynamo_de::{DeserializeSeed, Deserializer, EnumAccess, Error, Kind, Visitor};
+use std::alloc::Global;
+use std::marker::PhantomData;
+
+/// An enum, described by the list of its variants.
+pub trait Enumeration: Sized + Drop {
+    /// What the variants hold, as `Choice<Nothing, One<u8>>`.
+    type Variants: VariantList;
+
+    // The name of the enum, those of its variants, and the variant of a value.
+    ghost about: { AboutEnum Self Self.Variants };
+
+    /// The name of the enum.
+    fn name() -> &'static str
+        ensures { result.now ≡ about.name };
+
+    /// The names of the variants, as they are stored.
+    fn names() -> &'static [&'static str]
+        ensures { map (λ n. n.now) result.now ≡ about.names };
+
+    /// The value of this variant.
+    fn make(variant: Self::Variants) -> Self
+        ensures { about.parts result ≡ variant };
+
+    // No two variants have one name, and each has one.
+    ghost named: { VariantsNamed (of_variants about Self.Variants.about) };
+}
+
+/// The variants that there are, as a message says it: ``expected `A` or `B` ``.
+fn expected(alloc: Global, names: &'static [&'static str]) -> Result<String, std::alloc::AllocError> {
+    match names.len() {
+        0 => String::from_str(alloc, "there are no variants"),
+        1 => format!(in alloc; "expected `{}`", names[0]),
+        2 => format!(in alloc; "expected `{}` or `{}`", names[0], names[1]),
+        _ => {
+            let mut text = String::from_str(alloc, "expected one of ")?;
+            let mut between = "`";
+            for name in names {
+                text.push_str(between)?;
+                text.push_str(*name)?;
+                between = "`, `";
+            }
+            text.push_str("`")?;
+            Ok(text)
+        }
+    }
+}
+
+/// The refusal of a text that names no variant.
+fn unknown_variant<E: Error>(alloc: Global, name: &str, names: &'static [&'static str]) -> E
+    ensures { IsMessageFault (E.fault result) ⊎ (E.fault result ≡ out_of_memory) }
+{
+    let Ok(expected) = expected(alloc, names) else {
+        return E::out_of_memory();
+    };
+    match format!(in alloc; "unknown variant `{name}`, {expected}") {
+        Ok(text) => E::custom(alloc, &text),
+        Err(_) => E::out_of_memory(),
+    }
+}
+
+#[derive(Drop)]
+struct TagVisitor<T> {
+    alloc: Global,
+    of: PhantomData<T>,
+}
+
+impl<T: Enumeration> Visitor for TagVisitor<T> {
+    type Value = usize;
+
+    ghost claimed = { λ _. claims_str };
+
+    ghost takes = { λ _ s. After (take_identifier s) (NamesVariant T.about.names) };
+
+    fn expecting(&self) -> &'static str {
+        "variant identifier"
+    }
+
+    fn alloc(&self) -> Global {
+        self.alloc
+    }
+
+    fn claims(&self, kind: Kind) -> bool {
+        matches!(kind, Kind::Str)
+    }
+
+    fn visit_str<E: Error>(self, v: &str) -> Result<usize, E> {
+        let names = T::names();
+        let place = place_of(names, v);
+        if place < names.len() {
+            Ok(place)
+        } else {
+            Err(unknown_variant(self.alloc, v, names))
+        }
+    }
+}
+
+#[derive(Drop)]
+struct TagSeed<T> {
+    alloc: Global,
+    of: PhantomData<T>,
+}
+
+impl<T: Enumeration> DeserializeSeed for TagSeed<T> {
+    type Value = usize;
+
+    ghost reads = { λ _ s r. After (read_identifier s) (NamesVariant T.about.names) r };
+
+    fn deserialize<D: Deserializer>(self, deserializer: D) -> Result<usize, D::Error> {
+        deserializer.deserialize_identifier(TagVisitor::<T> {
+            alloc: self.alloc,
+            of: PhantomData,
+        })
+    }
+}
+
+#[derive(Drop)]
+struct EnumVisitor<T> {
+    alloc: Global,
+    of: PhantomData<T>,
+}
+
+impl<T: Enumeration> Visitor for EnumVisitor<T> {
+    type Value = T;
+
+    ghost claimed = { λ _. claims_enum };
+
+    ghost takes = { λ _ s. After (take_variant s) (FromVariant (of_variants T.about T.Variants.about)) };
+
+    fn expecting(&self) -> &'static str {
+        "enum"
+    }
+
+    fn alloc(&self) -> Global {
+        self.alloc
+    }
+
+    fn claims(&self, kind: Kind) -> bool {
+        matches!(kind, Kind::Enum)
+    }
+
+    fn visit_enum<A: EnumAccess>(self, variant: A) -> Result<T, A::Error> {
+        let (place, content) = variant.variant_seed(TagSeed::<T> {
+            alloc: self.alloc,
+            of: PhantomData,
+        })?;
+        match <T::Variants as VariantList>::read(place, content, self.alloc) {
+            Ok(variant) => Ok(T::make(variant)),
+            Err(error) => Err(error),
+        }
+    }
+}
+
+/// Reads an enum by its description: the body of `deserialize`.
+///
+/// # Errors
+///
+/// What the variant's content refuses, and by a message a text that names no variant.
+pub fn read_enum<T: Enumeration, D: Deserializer>(
+    alloc: Global,
+    deserializer: D,
+) -> Result<T, D::Error>
+    ensures { Meets D.Error.fault (enum_reads (of_variants T.about T.Variants.about) (D.source deserializer)) result }
+{
+    deserializer.deserialize_enum(
+        T::name(),
+        T::names(),
+        EnumVisitor::<T> {
+            alloc,
+            of: PhantomData,
+        },
+    )
+}

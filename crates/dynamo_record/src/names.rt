@@ -1,0 +1,25 @@
+ghost use Rattle.std.specs.Prelude.{◌≡◌, map};
+ghost use Rattle.dynamo_record.specs.Names.{first_name, other_names, place_of};
+
+/// The first of some names and the others. Behind the last there is no name: it is empty.
+pub(crate) fn first_of(names: &'static [&'static str]) -> (&'static str, &'static [&'static str])
+    ensures first { result.0.now ≡ first_name (map (λ n. n.now) names.now) }
+    ensures others { map (λ n. n.now) result.1.now ≡ other_names (map (λ n. n.now) names.now) }
+{
+    match names.split_first() {
+        Some((first, others)) => (*first, others),
+        None => ("", names),
+    }
+}
+
+/// The place of a name among some names; of another text their number.
+pub(crate) fn place_of(names: &'static [&'static str], key: &str) -> usize
+    ensures { result ≡ place_of 0 (map (λ n. n.now) names.now) key.now }
+{
+    for (place, name) in names.iter().enumerate() {
+        if *name == key {
+            return place;
+        }
+    }
+    names.len()
+}

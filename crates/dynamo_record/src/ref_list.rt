@@ -1,0 +1,98 @@
+ghost use Rattle.std.specs.Prelude.{◌∷◌, map};
+ghost use Rattle.dynamo_record.specs.Listed.{Shapes, Data};
+ghost use Rattle.dynamo_record.specs.Refs.{PutsFields, PutsElements, ConformFront};
+
+use crate::names::first_of;
+use dynamo_ser::{ListBuilder, Serializer, StructBuilder};
+use dynamo_types::Shaped;
+
+/// The fields of a value by reference, in the order of its [`FieldList`](crate::FieldList): one reference, or a pair of lists.
+pub trait RefList: Sized {
+    // The shapes of the fields, in front of others.
+    ghost shapes: { Shapes → Shapes };
+
+    // The data that they tell, in front of others.
+    ghost told: { Self → Data → Data };
+
+    /// Writes the fields under the first of these names, and gives the other names.
+    ///
+    /// # Errors
+    ///
+    /// The first field that is at fault is the fault.
+    fn write_fields<S: Serializer, B: StructBuilder<S, Ok = S::Ok, Error = S::Error>>(
+        &self,
+        names: &'static [&'static str],
+        builder: &mut B,
+    ) -> Result<&'static [&'static str], S::Error>
+        ensures { PutsFields B.gives (λ ns. map (λ n. n.now) ns.now) builder.old builder.new (map (λ n. n.now) names.now) (told self.now) result };
+
+    /// Writes the fields one after another.
+    ///
+    /// # Errors
+    ///
+    /// The first field that is at fault is the fault.
+    fn write_elements<S: Serializer, B: ListBuilder<S, Ok = S::Ok, Error = S::Error>>(
+        &self,
+        builder: &mut B,
+    ) -> Result<(), S::Error>
+        ensures { PutsElements B.gives builder.old builder.new (told self.now) result };
+
+    /// Each field conforms to its shape.
+    fn conform(&self)
+        ensures { ConformFront shapes (told self.now) };
+}
+
+impl<'a, T: Shaped> RefList for &'a T {
+    ghost shapes = { λ ss. T.about.shape ∷ ss };
+
+    ghost told = { λ value ds. T.about.tells value.now ∷ ds };
+
+    fn write_fields<S: Serializer, B: StructBuilder<S, Ok = S::Ok, Error = S::Error>>(
+        &self,
+        names: &'static [&'static str],
+        builder: &mut B,
+    ) -> Result<&'static [&'static str], S::Error> {
+        let (name, others) = first_of(names);
+        builder.add_field::<T>(name, *self)?;
+        Ok(others)
+    }
+
+    fn write_elements<S: Serializer, B: ListBuilder<S, Ok = S::Ok, Error = S::Error>>(
+        &self,
+        builder: &mut B,
+    ) -> Result<(), S::Error> {
+        builder.add_element::<T>(*self)
+    }
+
+    fn conform(&self) {
+        (**self).conforms();
+    }
+}
+
+impl<L: RefList, R: RefList> RefList for (L, R) {
+    ghost shapes = { λ ss. L.shapes (R.shapes ss) };
+
+    ghost told = { λ p ds. L.told p.0 (R.told p.1 ds) };
+
+    fn write_fields<S: Serializer, B: StructBuilder<S, Ok = S::Ok, Error = S::Error>>(
+        &self,
+        names: &'static [&'static str],
+        builder: &mut B,
+    ) -> Result<&'static [&'static str], S::Error> {
+        let others = self.0.write_fields::<S, B>(names, builder)?;
+        self.1.write_fields::<S, B>(others, builder)
+    }
+
+    fn write_elements<S: Serializer, B: ListBuilder<S, Ok = S::Ok, Error = S::Error>>(
+        &self,
+        builder: &mut B,
+    ) -> Result<(), S::Error> {
+        self.0.write_elements::<S, B>(builder)?;
+        self.1.write_elements::<S, B>(builder)
+    }
+
+    fn conform(&self) {
+        self.0.conform();
+        self.1.conform();
+    }
+}
