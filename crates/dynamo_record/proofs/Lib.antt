@@ -1,4 +1,7 @@
 pub mod Answering
 pub mod BothLists
 pub mod Choosing
+pub mod Chosen
+pub mod Inside
 pub mod OneField
+pub mod Passing

@@ -106,10 +106,10 @@ next : (i : ℕ) → suc i ≡ i + 1
 next i = omega arith
 
 module _ {C : Type 0} (a : AboutContent C) where
-  abbrev one_contents : Contents → Contents
+  abbrev pub one_contents : Contents → Contents
   one_contents cs = a.shape ∷ cs
 
-  abbrev one_told : Told C
+  abbrev pub one_told : Told C
   one_told name ns i x = a.told (tag name ns i) x
 
   pub first_conforms : (name : Text) (ns : Names) (i : ℕ) (cs : Contents) (x : C) → ConformsToOne name ns i (one_contents cs) (one_told name ns i x) → conforms_content a.shape (tag name ns i) (one_told name ns i x)

@@ -17,7 +17,7 @@ pub(crate) fn place_of(names: &'static [&'static str], key: &str) -> usize
     ensures { result ≡ place_of 0 (map (λ n. n.now) names.now) key.now }
 {
     for (place, name) in names.iter().enumerate() {
-        if *name == key {
+        if key == *name {
             return place;
         }
     }
