@@ -4,4 +4,5 @@ pub mod Choosing
 pub mod Chosen
 pub mod Inside
 pub mod OneField
+pub mod OneVariant
 pub mod Passing

@@ -39,6 +39,11 @@ read_at name ns i [] place s = answer.refused
 read_at name ns i (c ∷ cs) zero s = read_inside c (tag name ns i) s
 read_at name ns i (c ∷ cs) (suc place) s = read_at name ns (suc i) cs place s
 
+abbrev pub content_at : ℕ → Contents → Option Content
+content_at i [] = None
+content_at zero (c ∷ cs) = Some c
+content_at (suc i) (c ∷ cs) = content_at i cs
+
 -- ---- what one variant holds
 
 -- What is known of it: its shape, what a variant tells that holds it, and when two are the same.

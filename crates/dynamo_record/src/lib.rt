@@ -9,6 +9,7 @@ mod field_list;
 mod names;
 mod ref_list;
 mod variant_list;
+mod write_enum;
 
 pub use content::{Nothing, One, Several};
 pub use enumeration::{Enumeration, read_enum};
@@ -16,3 +17,6 @@ pub use field::{Field, FieldType};
 pub use field_list::FieldList;
 pub use ref_list::RefList;
 pub use variant_list::{Choice, VariantList};
+pub use write_enum::{
+    one_conforms, several_conform, unit_conforms, write_one, write_several, write_unit,
+};
