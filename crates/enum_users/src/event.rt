@@ -1,0 +1,94 @@
+ghost use Rattle.std.specs.Prelude.{[], ◌∷◌, codes, refl};
+ghost use Rattle.dynamo_record.specs.Enums.{enum_of, enum_tells, enum_reads, about_enum};
+ghost use Rattle.dynamo_record.specs.declared.content.Nothing.{Nothing as nothing};
+ghost use Rattle.dynamo_record.specs.declared.variant_list.Choice.TheVariants.{Left, Right};
+ghost use Rattle.enum_users.specs.declared.event.Event.TheVariants.{Unit as IsUnit, Newtype as IsNewtype, Tuple as IsTuple};
+
+use dynamo_de::{Deserialize, Deserializer, Error};
+use dynamo_record::{
+    Choice, Enumeration, Field, Nothing, One, Several, VariantList, one_conforms, read_enum,
+    several_conform, unit_conforms, write_one, write_several, write_unit,
+};
+use dynamo_ser::{Serialize, Serializer};
+use dynamo_types::Shaped;
+use std::alloc::Global;
+
+/// Something that happened, in each form that a variant can have.
+#[derive(Debug, Drop)]
+pub enum Event {
+    Unit,
+    Newtype(u8),
+    Tuple(u8, u8),
+}
+
+type EventVariants = Choice<Nothing, Choice<One<u8>, Several<(Field<u8>, Field<u8>)>>>;
+
+impl Enumeration for Event {
+    type Variants = EventVariants;
+
+    ghost about = { enum_of (codes "Event") (codes "Unit" ∷ codes "Newtype" ∷ codes "Tuple" ∷ []) (elim [
+        | IsUnit ↦ Left _
+        | IsNewtype n ↦ Right (Left (record { 0 = n }))
+        | IsTuple a b ↦ Right (Right (record { 0 = (record { 0 = a }, record { 0 = b }) }))
+    ]) ⟦<EventVariants as VariantList>⟧.about };
+
+    ghost named = { (refl, refl) };
+
+    fn name() -> &'static str {
+        "Event"
+    }
+
+    fn names() -> &'static [&'static str] {
+        &["Unit", "Newtype", "Tuple"]
+    }
+
+    fn make(variant: EventVariants) -> Event {
+        match variant {
+            Choice::Left(Nothing) => Event::Unit,
+            Choice::Right(Choice::Left(One(n))) => Event::Newtype(n),
+            Choice::Right(Choice::Right(Several((Field(a), Field(b))))) => Event::Tuple(a, b),
+        }
+    }
+}
+
+impl Serialize for Event {
+    ghost tells = { enum_tells ⟦<Event as Enumeration>⟧.about };
+
+    ghost wants = { λ _. ⊥ };
+
+    fn serialize<S: Serializer>(&self, serializer: S) -> Result<S::Ok, S::Error> {
+        match self {
+            Event::Unit => write_unit::<Event, S>(serializer, 0),
+            Event::Newtype(n) => write_one::<Event, u8, S>(serializer, 1, n),
+            Event::Tuple(a, b) => write_several::<Event, _, S>(serializer, 2, &(a, b)),
+        }
+    }
+}
+
+impl Deserialize for Event {
+    ghost reads = { enum_reads ⟦<Event as Enumeration>⟧.about };
+
+    fn deserialize<D: Deserializer>(alloc: Global, deserializer: D) -> Result<Event, D::Error> {
+        read_enum(alloc, deserializer)
+    }
+}
+
+impl Shaped for Event {
+    ghost about = { about_enum ⟦<Event as Enumeration>⟧.about };
+
+    ghost as_told = { refl };
+
+    ghost reads_by_shape = { λ _ _ h. h };
+
+    fn absent<E: Error>(_alloc: Global) -> Result<Option<Event>, E> {
+        Ok(None)
+    }
+
+    fn conforms(&self) {
+        match self {
+            Event::Unit => unit_conforms::<Event>(0),
+            Event::Newtype(n) => one_conforms::<Event, u8>(1, n),
+            Event::Tuple(a, b) => several_conform::<Event, _>(2, &(a, b)),
+        }
+    }
+}

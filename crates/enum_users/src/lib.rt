@@ -1,0 +1,4 @@
+//! Enums that a user writes.
+#![tactic(auto)]
+
+pub mod event;
