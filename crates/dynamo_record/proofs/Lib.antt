@@ -2,7 +2,12 @@ pub mod Answering
 pub mod BothLists
 pub mod Choosing
 pub mod Chosen
+pub mod Described
+pub mod Entries
 pub mod Inside
+pub mod OneEntry
 pub mod OneField
 pub mod OneVariant
 pub mod Passing
+pub mod Places
+pub mod Structs

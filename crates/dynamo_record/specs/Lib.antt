@@ -1,10 +1,13 @@
 pub mod Behind
 pub mod Contents
+pub mod Entries
 pub mod Enums
 pub mod Fields
 pub mod Indices
 pub mod InOrder
 pub mod Listed
 pub mod Names
+pub mod Records
 pub mod Refs
+pub mod Told
 pub mod Variants

@@ -7,6 +7,7 @@ mod enumeration;
 mod field;
 mod field_list;
 mod names;
+mod record;
 mod ref_list;
 mod variant_list;
 mod write_enum;
@@ -15,6 +16,7 @@ pub use content::{Nothing, One, Several};
 pub use enumeration::{Enumeration, read_enum};
 pub use field::{Field, FieldType};
 pub use field_list::FieldList;
+pub use record::{Record, read_record, record_conforms, write_record};
 pub use ref_list::RefList;
 pub use variant_list::{Choice, VariantList};
 pub use write_enum::{

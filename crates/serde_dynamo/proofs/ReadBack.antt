@@ -21,13 +21,14 @@ use Rattle.dynamo_json.proofs.Results.{the_same, no_value}
 use Rattle.dynamo_shape.specs.Clear.{Clear, NearlyClear}
 use Rattle.dynamo_shape.specs.Conforms.{conforms}
 use Rattle.dynamo_shape.specs.Kept.{kept}
-use Rattle.dynamo_shape.specs.Laws.{ReadsByShape, IsToldByValue}
+use Rattle.dynamo_shape.specs.Laws.{ReadsByShape}
 use Rattle.dynamo_shape.specs.ReadsBack.{Permitted}
 use Rattle.dynamo_shape.specs.Same.{Same}
 use Rattle.dynamo_shape.specs.Shape.{Shape}
 use Rattle.dynamo_shape.proofs.Back.{back}
 use Rattle.dynamo_shape.proofs.Exactly.{exactly}
 use Rattle.dynamo_shape.proofs.Flat.{flat_clear}
+use Rattle.dynamo_types.specs.About.{About}
 
 -- ---- by way of DynamoDB JSON
 
@@ -53,18 +54,26 @@ pub wrote : {W : Type 0} (d : Datum) (v : AttributeValue) → Writes fault_of W 
 wrote d v (inl is) = is
 wrote d v (inr x) = absurd x.1
 
-module _ {T : Type 0} (s : Shape) (tells : T → Datum) (reads : Source → Result T Fault → Type 0) (by_shape : ReadsByShape s tells reads) where
-  pub permitted : (source : Source) (w : T) → conforms s (tells w) → reads source (Ok w) → Permitted s source (Ok (tells w))
-  permitted source w c r = let (d, e, h) = by_shape source (Ok w) r in rw e (h c)
+-- what a type is known to tell is what is written of it
+pub conforming : {T : Type 0} (about : About T) (tells : T → Datum) → about.tells ≡ tells → (v : T) → conforms about.shape (about.tells v) → conforms about.shape (tells v)
+conforming about tells told v c = subst (λ t. conforms about.shape (t v)) told c
 
-  pub refused : (source : Source) (f : Fault) → reads source (Err f) → Permitted s source (Err f)
+module _ {T : Type 0} (about : About T) (tells : T → Datum) (told : about.tells ≡ tells) (reads : Source → Result T Fault → Type 0) (by_shape : ReadsByShape about.shape about.tells reads) where
+  pub permitted : (source : Source) (w : T) → conforms about.shape (about.tells w) → reads source (Ok w) → Permitted about.shape source (Ok (tells w))
+  permitted source w c r =
+      let (d, e, h) = by_shape source (Ok w) r in
+      subst (λ t. Permitted about.shape source (Ok (t w))) told (rw e (h c))
+
+  pub refused : (source : Source) (f : Fault) → reads source (Err f) → Permitted about.shape source (Err f)
   refused source f r = by_shape source (Err f) r
 
-  pub keeps : (d : Datum) (a : Av) (w : T) → NearlyClear s → conforms s d → written d ≡ Ok a → conforms s (tells w) → reads (attribute a) (Ok w) → Same (kept d) (tells w)
-  keeps d a w n c e k r = (exactly s d a n c e (Ok (tells w))).0 (permitted (attribute a) w k r)
+  pub keeps : (v w : T) (a : Av) → NearlyClear about.shape → conforms about.shape (about.tells v) → written (tells v) ≡ Ok a → conforms about.shape (about.tells w) → reads (attribute a) (Ok w) → Same (kept (tells v)) (tells w)
+  keeps v w a n c e k r = (exactly about.shape (tells v) a n (conforming about tells told v c) e (Ok (tells w))).0 (permitted (attribute a) w k r)
 
-  pub not_refused : (d : Datum) (a : Av) (f : Fault) → NearlyClear s → conforms s d → written d ≡ Ok a → reads (attribute a) (Err f) → ⊥
-  not_refused d a f n c e r = (exactly s d a n c e (Err f)).0 (refused (attribute a) f r)
+  pub not_refused : (v : T) (a : Av) (f : Fault) → NearlyClear about.shape → conforms about.shape (about.tells v) → written (tells v) ≡ Ok a → reads (attribute a) (Err f) → ⊥
+  not_refused v a f n c e r = (exactly about.shape (tells v) a n (conforming about tells told v c) e (Err f)).0 (refused (attribute a) f r)
 
-  pub itself : (same : T → T → Type 0) → IsToldByValue s tells same → (v w : T) (a : Av) → Clear s → conforms s (tells v) → written (tells v) ≡ Ok a → conforms s (tells w) → reads (attribute a) (Ok w) → same v w
-  itself same by_value v w a clear c e k r = by_value v w c k (subst (λ d. Same d (tells w)) (flat_clear s (tells v) clear c) (keeps (tells v) a w clear.nearly c e k r))
+  pub itself : (v w : T) (a : Av) → Clear about.shape → conforms about.shape (about.tells v) → written (tells v) ≡ Ok a → conforms about.shape (about.tells w) → reads (attribute a) (Ok w) → about.same v w
+  itself v w a clear c e k r =
+      let back : Same (tells v) (tells w) = subst (λ d. Same d (tells w)) (flat_clear about.shape (tells v) clear (conforming about tells told v c)) (keeps v w a clear.nearly c e k r) in
+      about.told_by_value v w c k (subst (λ t. Same (t v) (t w)) (sym told) back)

@@ -61,6 +61,8 @@ pub use Rattle.dynamo_shape.specs.ReadsBack
 pub use Rattle.dynamo_shape.specs.Same
 pub use Rattle.dynamo_shape.specs.SameKey
 pub use Rattle.dynamo_shape.specs.Shape
+pub use Rattle.dynamo_types.specs.About
+pub use Rattle.dynamo_types.specs.Keys
 pub mod Reread
 pub mod SampleShapes
 pub mod Samples

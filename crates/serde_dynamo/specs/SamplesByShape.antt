@@ -11,6 +11,7 @@ use Rattle.dynamo_de.specs.Source.{Entry}
 use Rattle.dynamo_shape.specs.Laws.{IsToldByValue, ToldAlike}
 use Rattle.dynamo_shape.specs.Read.{into, read_field, fields_by_name}
 use Rattle.dynamo_shape.specs.Shape as shape
+use Rattle.dynamo_shape.proofs.Alike.{equal_alike}
 use Rattle.dynamo_shape.proofs.Apart.{holds_no_map, told_again}
 use Rattle.dynamo_shape.proofs.FieldsByName as fields
 use Rattle.dynamo_shape.proofs.FieldsByName.{Slots, close}
@@ -20,6 +21,7 @@ use Rattle.dynamo_shape.proofs.Scalars.{text_told, text_alike, unsigned_told, un
 use Rattle.dynamo_shape.proofs.InOrder.{ListsFields, first_field, no_more_fields, ListsElements, first_element, no_more_elements, set_read}
 use Rattle.dynamo_shape.proofs.TypesByHand as variants
 use Rattle.dynamo_shape.proofs.TypesByHand.{one_inside, several_inside, named_inside}
+use Rattle.dynamo_types.specs.About.{About}
 use Rattle.serde_dynamo.specs.SampleShapes.{byte_shape, user_fields, user_shape, same_user, two_bytes, structy_fields, event_variants, event_shape, sets_fields, sets_shape, same_sets}
 use Rattle.serde_dynamo.specs.Samples.{user_told, event_variant, event_told, set_told, sets_told}
 use Rattle.serde_dynamo.specs.SamplesRead as samples
@@ -79,6 +81,9 @@ user_alike =
     (first_alike (codes "id") _ _ _ (λ (u : User). u.id) _ _ _ _ (text_alike string_bytes)
     (first_alike (codes "name") _ _ _ (λ (u : User). u.name) _ _ _ _ (text_alike string_bytes)
     (last_alike (codes "age") _ _ (λ (u : User). u.age) _ _ (unsigned_alike u8))))
+
+abbrev pub about_user : About User
+about_user = record { shape = user_shape; tells = user_told; same = same_user; told_by_value = user_by_value; told_alike = user_alike }
 
 -- ---- an event
 
@@ -151,6 +156,9 @@ event_without_map (Event.Structy one two) = refl
 pub event_by_value : IsToldByValue event_shape event_told (λ e f. e ≡ f)
 event_by_value = told_again event_shape event_told event_again event_without_map event_back
 
+abbrev pub about_event : About Event
+about_event = record { shape = event_shape; tells = event_told; same = λ e f. e ≡ f; told_by_value = event_by_value; told_alike = equal_alike event_shape event_told }
+
 -- ---- three sets
 
 abbrev sets_slots : SetsFields → Slots
@@ -198,3 +206,6 @@ sets_alike =
     (first_alike (codes "names") _ _ _ (λ (s : Sets). s.names) _ _ _ _ (told.set_alike strings shape.string _ _ (text_alike string_bytes))
     (first_alike (codes "numbers") _ _ _ (λ (s : Sets). s.numbers) _ _ _ _ (told.set_alike numbers (shape.integer u64) _ _ (unsigned_alike u64))
     (last_alike (codes "blobs") _ _ (λ (s : Sets). s.blobs) _ _ (told.set_alike blobs shape.bytes _ _ (bytes_alike octets_of)))))
+
+abbrev pub about_sets : About Sets
+about_sets = record { shape = sets_shape; tells = sets_told; same = same_sets; told_by_value = sets_by_value; told_alike = sets_alike }

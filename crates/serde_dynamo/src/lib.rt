@@ -9,7 +9,6 @@ pub mod number_set;
 mod rereading;
 pub mod samples;
 pub mod ser;
-mod shaped;
 pub mod string_set;
 
 pub use dynamo_json::{DynamoJson, is_without_floats, to_attribute_value_via_json, to_json_value};
@@ -22,6 +21,7 @@ pub use dynamo_read::{
     from_attribute_value, from_item, from_items,
 };
 pub use dynamo_ser::{BinarySet, NumberSet, StringSet};
+pub use dynamo_types::{Shaped, ShapedKey};
 pub use dynamo_value::{
     AttributeValue, ByteBuf, Bytes, Error, ErrorImpl, Item, Items, Result, Text,
 };
@@ -30,4 +30,3 @@ pub use dynamo_write::{
     SerializerTupleVariant, to_attribute_value, to_item,
 };
 pub use rereading::reread;
-pub use shaped::{Shaped, ShapedKey};

@@ -38,14 +38,14 @@ pub fn reread<T: Shaped>(alloc: Global, value: &T) -> Result<(AttributeValue, Va
     // a datum that reading by the shape permits.
     ensures written { IfOk result (λ parts. write.written (T.tells value.now) ≡ Ok (av.view parts.0)) }
     ensures json { IfOk result (λ parts. sj.view parts.1 ≡ json_of (av.view parts.0)) }
-    ensures read { IfOk result (λ parts. Permitted T.shape (attribute (av.view parts.0)) (Ok (T.tells parts.2))) }
-    ensures err { IfErr result (λ e. (fault_of e ≡ out_of_memory) ⊎ IsFaultOf T.shape (T.tells value.now) (fault_of e)) }
+    ensures read { IfOk result (λ parts. Permitted T.about.shape (attribute (av.view parts.0)) (Ok (T.tells parts.2))) }
+    ensures err { IfErr result (λ e. (fault_of e ≡ out_of_memory) ⊎ IsFaultOf T.about.shape (T.tells value.now) (fault_of e)) }
 
     // At a nearly clear shape the third part tells what is kept of the datum.
-    ensures nearly { NearlyClear T.shape → MatchResult result (λ parts. Same (kept (T.tells value.now)) (T.tells parts.2)) (λ e. fault_of e ≡ out_of_memory) }
+    ensures nearly { NearlyClear T.about.shape → MatchResult result (λ parts. Same (kept (T.tells value.now)) (T.tells parts.2)) (λ e. fault_of e ≡ out_of_memory) }
 
     // What was stored reads back.
-    ensures clear { Clear T.shape → MatchResult result (λ parts. T.same value.now parts.2) (λ e. fault_of e ≡ out_of_memory) }
+    ensures clear { Clear T.about.shape → MatchResult result (λ parts. T.about.same value.now parts.2) (λ e. fault_of e ≡ out_of_memory) }
 {
     value.conforms();
     let written = to_attribute_value(alloc, value)?;

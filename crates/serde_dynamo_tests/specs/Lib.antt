@@ -1,3 +1,4 @@
 pub mod Inside
+pub mod Newtypes
 pub mod PointShape
 pub mod StationShape

@@ -1,5 +1,6 @@
 -- A point's shape, what it tells and what it reads, told as data.
 use Rattle.std.specs.Prelude.{◌≡◌, refl, ℕ, ℤ, pos, List, codes}
+use Rattle.serde_dynamo.specs.About.{About}
 use Rattle.serde_dynamo.specs.Answer as answer
 use Rattle.serde_dynamo.specs.Answer.{Answer}
 use Rattle.serde_dynamo.specs.Datum as datum
@@ -11,6 +12,7 @@ use Rattle.serde_dynamo.specs.Source.{Source}
 use Rattle.dynamo_shape.specs.Laws.{IsToldByValue}
 use Rattle.dynamo_shape.specs.Shape as shape
 use Rattle.dynamo_shape.specs.Shape.{Shape, Shapes}
+use Rattle.dynamo_shape.proofs.Alike.{equal_alike}
 use Rattle.dynamo_shape.proofs.Apart.{told_again}
 use Rattle.dynamo_shape.proofs.InOrder.{ListsElements, first_element, no_more_elements}
 use Rattle.serde_dynamo_tests.specs.declared.by_hand.Point.{Point}
@@ -50,3 +52,6 @@ point_again _ = record { 0 = 0; 1 = 0 }
 
 pub point_by_value : IsToldByValue point_shape point_told (λ p q. p ≡ q)
 point_by_value = told_again point_shape point_told point_again (λ p. refl) (λ p. refl)
+
+abbrev pub about_point : About Point
+about_point = record { shape = point_shape; tells = point_told; same = λ p q. p ≡ q; told_by_value = point_by_value; told_alike = equal_alike point_shape point_told }

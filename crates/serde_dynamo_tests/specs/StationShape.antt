@@ -1,5 +1,6 @@
 -- A station's shape, what it tells and what it reads, told as data by that shape.
 use Rattle.std.specs.Prelude.{◌≡◌, refl, ℕ, pos, List, [], ◌∷◌, Option, Some, None, Result, bytes_eq, codes, if◌then◌else◌, string_bytes}
+use Rattle.serde_dynamo.specs.About.{About}
 use Rattle.serde_dynamo.specs.Answer as answer
 use Rattle.serde_dynamo.specs.Answer.{Answer, ◌>>=◌, Gives}
 use Rattle.serde_dynamo.specs.Av.{Av}
@@ -112,3 +113,6 @@ station_alike =
     struct_alike (codes "Station") station_fields _ same_station
     (first_alike (codes "id") _ _ _ (λ (s : Station). s.id) _ _ _ _ (text_alike string_bytes)
     (last_alike (codes "reading") _ _ (λ (s : Station). s.reading) _ _ (option_alike (shape.integer u8) _ _ (unsigned_alike u8))))
+
+abbrev pub about_station : About Station
+about_station = record { shape = shape.struct (codes "Station") station_fields; tells = station_told; same = same_station; told_by_value = station_by_value; told_alike = station_alike }

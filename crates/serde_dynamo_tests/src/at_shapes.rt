@@ -21,8 +21,8 @@ use std::alloc::Global;
 
 /// What [`from_attribute_value`] reads at a type with a shape.
 pub fn value_at_shape<T: Shaped>(alloc: Global, value: AttributeValue) -> Result<T>
-    ensures ok { IfOk result (λ v. Permitted T.shape (attribute (view value)) (Ok (T.tells v))) }
-    ensures err { IfErr result (λ e. (fault_of e ≡ out_of_memory) ⊎ Permitted T.shape (attribute (view value)) (Err (fault_of e))) }
+    ensures ok { IfOk result (λ v. Permitted T.about.shape (attribute (view value)) (Ok (T.tells v))) }
+    ensures err { IfErr result (λ e. (fault_of e ≡ out_of_memory) ⊎ Permitted T.about.shape (attribute (view value)) (Err (fault_of e))) }
 {
     let read = from_attribute_value::<T>(alloc, value)?;
     read.conforms();
@@ -31,8 +31,8 @@ pub fn value_at_shape<T: Shaped>(alloc: Global, value: AttributeValue) -> Result
 
 /// What [`from_item`] reads at a type with a shape.
 pub fn item_at_shape<T: Shaped>(alloc: Global, item: Item) -> Result<T>
-    ensures ok { IfOk result (λ v. Permitted T.shape (attribute (av.M (item_view item))) (Ok (T.tells v))) }
-    ensures err { IfErr result (λ e. (fault_of e ≡ out_of_memory) ⊎ Permitted T.shape (attribute (av.M (item_view item))) (Err (fault_of e))) }
+    ensures ok { IfOk result (λ v. Permitted T.about.shape (attribute (av.M (item_view item))) (Ok (T.tells v))) }
+    ensures err { IfErr result (λ e. (fault_of e ≡ out_of_memory) ⊎ Permitted T.about.shape (attribute (av.M (item_view item))) (Err (fault_of e))) }
 {
     let read = from_item::<T>(alloc, item)?;
     read.conforms();
@@ -41,8 +41,8 @@ pub fn item_at_shape<T: Shaped>(alloc: Global, item: Item) -> Result<T>
 
 /// What [`from_items`] reads at a type with a shape: a list of it.
 pub fn items_at_shape<T: Shaped>(alloc: Global, items: Items) -> Result<Vec<T>>
-    ensures ok { IfOk result (λ vs. Permitted (shape.list T.shape) (attribute (av.L (av.elements_of (map av.M (items_view items))))) (Ok (datum.seq (datum.elements_of (map T.tells vs.items))))) }
-    ensures err { IfErr result (λ e. (fault_of e ≡ out_of_memory) ⊎ Permitted (shape.list T.shape) (attribute (av.L (av.elements_of (map av.M (items_view items))))) (Err (fault_of e))) }
+    ensures ok { IfOk result (λ vs. Permitted (shape.list T.about.shape) (attribute (av.L (av.elements_of (map av.M (items_view items))))) (Ok (datum.seq (datum.elements_of (map T.tells vs.items))))) }
+    ensures err { IfErr result (λ e. (fault_of e ≡ out_of_memory) ⊎ Permitted (shape.list T.about.shape) (attribute (av.L (av.elements_of (map av.M (items_view items))))) (Err (fault_of e))) }
 {
     let read = from_items::<T>(alloc, items)?;
     read.conforms();
@@ -52,7 +52,7 @@ pub fn items_at_shape<T: Shaped>(alloc: Global, items: Items) -> Result<Vec<T>>
 /// What [`from_attribute_value`] reads at a type with a shape, which conforms to the shape.
 fn conforming<T: Shaped>(alloc: Global, value: AttributeValue) -> Result<T>
     ensures reads { Meets fault_of (T.reads (attribute (view value))) result }
-    ensures conforms { IfOk result (λ v. conforms T.shape (T.tells v)) }
+    ensures conforms { IfOk result (λ v. conforms T.about.shape (T.about.tells v)) }
 {
     let read = from_attribute_value::<T>(alloc, value)?;
     read.conforms();
@@ -70,7 +70,7 @@ pub fn read_twice<T: Shaped>(
 ) -> (Result<T>, Result<T>)
     ensures first { Meets fault_of (T.reads (attribute (view first))) result.0 }
     ensures second { Meets fault_of (T.reads (attribute (view second))) result.1 }
-    ensures same { view first ≡ view second → Meets fault_of (λ r. Meets fault_of (SameAnswer T.same r) result.1) result.0 }
+    ensures same { view first ≡ view second → Meets fault_of (λ r. Meets fault_of (SameAnswer T.about.same r) result.1) result.0 }
 {
     (conforming(alloc, first), conforming(alloc, second))
 }

@@ -1,11 +1,9 @@
 //! Types of the forms that a struct can have, read by hand as a user would write them, and the shapes of the newtypes and
 //! of a tuple struct.
-ghost use Rattle.std.specs.Prelude.{◌≡◌, codes, string_bytes};
+ghost use Rattle.std.specs.Prelude.{◌≡◌, refl, codes, string_bytes};
 ghost use Rattle.dynamo_shape.specs.Shape as shape;
-ghost use Rattle.dynamo_shape.proofs.Alike.{equal_alike};
-ghost use Rattle.dynamo_shape.proofs.FieldsTold.{newtype_told, newtype_alike};
 ghost use Rattle.dynamo_shape.proofs.Lists.{through_permitted};
-ghost use Rattle.dynamo_shape.proofs.Scalars.{text_permitted, text_told, text_alike};
+ghost use Rattle.dynamo_shape.proofs.Scalars.{text_permitted};
 ghost use Rattle.dynamo_shape.proofs.TypesByHand.{newtype_permitted, tuple_struct_permitted};
 ghost use Rattle.serde_dynamo.specs.Answer.{After, Gives};
 ghost use Rattle.serde_dynamo.specs.Contents.{read_elements, read_newtype};
@@ -13,7 +11,8 @@ ghost use Rattle.serde_dynamo.specs.Datum as datum;
 ghost use Rattle.serde_dynamo.specs.Reads.{Through};
 ghost use Rattle.serde_dynamo.specs.Scalars.{read_string, read_unit_struct};
 ghost use Rattle.serde_dynamo.specs.Visitors.{claims_newtype, claims_seq, claims_unit, take_elements, take_newtype, take_unit};
-ghost use Rattle.serde_dynamo_tests.specs.PointShape.{point_told, point_shape, point_elements, point_in_order, point_listed, point_by_value};
+ghost use Rattle.serde_dynamo_tests.specs.Newtypes.{about_name, about_count};
+ghost use Rattle.serde_dynamo_tests.specs.PointShape.{point_told, point_elements, point_in_order, point_listed, about_point};
 
 use crate::kinds::{Name, UnitStruct};
 use serde_dynamo::Shaped;
@@ -100,15 +99,15 @@ impl Deserialize for Name {
 }
 
 impl Shaped for Name {
-    ghost shape = { shape.newtype (codes "Name") shape.string };
+    ghost about = { about_name };
 
-    ghost same = { λ m n. string_bytes m.0 ≡ string_bytes n.0 };
+    ghost as_told = { refl };
 
     ghost reads_by_shape = { newtype_permitted (codes "Name") shape.string (λ n. datum.string (string_bytes n.0)) _ (text_permitted (λ n. string_bytes n.0)) };
 
-    ghost told_by_value = { newtype_told (codes "Name") shape.string _ _ (text_told (λ n. string_bytes n.0)) };
-
-    ghost told_alike = { newtype_alike (codes "Name") shape.string _ _ (text_alike (λ n. string_bytes n.0)) };
+    fn absent<E: Error>(_alloc: Global) -> Result<Option<Name>, E> {
+        Ok(None)
+    }
 
     fn conforms(&self) {
         self.0.conforms();
@@ -174,15 +173,15 @@ impl<T: Deserialize> Deserialize for Count<T> {
 }
 
 impl<T: Shaped> Shaped for Count<T> {
-    ghost shape = { shape.newtype (codes "Count") T.shape };
+    ghost about = { about_count (λ c. c.0) T.about };
 
-    ghost same = { λ c d. T.same c.0 d.0 };
+    ghost as_told = { λ i c. datum.newtype_struct (codes "Count") (T.as_told i c.0) };
 
-    ghost reads_by_shape = { newtype_permitted (codes "Count") T.shape (λ c. T.tells c.0) _ (through_permitted T.shape T.tells T.reads (λ c. c.0) T.reads_by_shape) };
+    ghost reads_by_shape = { newtype_permitted (codes "Count") T.about.shape (λ c. T.about.tells c.0) _ (through_permitted T.about.shape T.about.tells T.reads (λ c. c.0) T.reads_by_shape) };
 
-    ghost told_by_value = { newtype_told (codes "Count") T.shape _ _ (λ c d. T.told_by_value c.0 d.0) };
-
-    ghost told_alike = { newtype_alike (codes "Count") T.shape _ _ (λ c d. T.told_alike c.0 d.0) };
+    fn absent<E: Error>(_alloc: Global) -> Result<Option<Count<T>>, E> {
+        Ok(None)
+    }
 
     fn conforms(&self) {
         self.0.conforms();
@@ -252,15 +251,15 @@ impl Deserialize for Point {
 }
 
 impl Shaped for Point {
-    ghost shape = { point_shape };
+    ghost about = { about_point };
 
-    ghost same = { λ p q. p ≡ q };
+    ghost as_told = { refl };
 
     ghost reads_by_shape = { tuple_struct_permitted (codes "Point") point_elements point_told point_in_order point_listed };
 
-    ghost told_by_value = { point_by_value };
-
-    ghost told_alike = { equal_alike point_shape point_told };
+    fn absent<E: Error>(_alloc: Global) -> Result<Option<Point>, E> {
+        Ok(None)
+    }
 
     fn conforms(&self) {
         self.0.conforms();

@@ -1,13 +1,12 @@
 //! A struct of a user's own that is written, read and given its shape by hand.
-ghost use Rattle.std.specs.Prelude.{◌≡◌, Ok, codes};
+ghost use Rattle.std.specs.Prelude.{◌≡◌, refl, Ok, codes};
 ghost use Rattle.serde_dynamo.specs.Answer.{After};
 ghost use Rattle.serde_dynamo.specs.Contents.{read_parts};
 ghost use Rattle.serde_dynamo.specs.Fields.{NamesOne};
 ghost use Rattle.serde_dynamo.specs.Visitors.{claims_str, take_identifier, claims_struct, take_parts};
-ghost use Rattle.dynamo_shape.specs.Shape.{struct};
 ghost use Rattle.dynamo_shape.proofs.TypesByHand.{struct_permitted};
 ghost use Rattle.serde_dynamo_tests.specs.StationShape.{station_told, station_field, station_parts, station_from_parts};
-ghost use Rattle.serde_dynamo_tests.specs.StationShape.{station_fields, same_station, station_named, station_listed, station_by_value, station_alike};
+ghost use Rattle.serde_dynamo_tests.specs.StationShape.{station_fields, station_named, station_listed, about_station};
 
 use serde_dynamo::Shaped;
 use serde_dynamo::de::{
@@ -157,15 +156,15 @@ impl Deserialize for Station {
 }
 
 impl Shaped for Station {
-    ghost shape = { struct (codes "Station") station_fields };
+    ghost about = { about_station };
 
-    ghost same = { same_station };
+    ghost as_told = { refl };
 
     ghost reads_by_shape = { struct_permitted (codes "Station") station_fields station_told station_parts station_named station_listed };
 
-    ghost told_by_value = { station_by_value };
-
-    ghost told_alike = { station_alike };
+    fn absent<E: Error>(_alloc: Global) -> Result<Option<Station>, E> {
+        Ok(None)
+    }
 
     fn conforms(&self) {
         self.id.conforms();

@@ -1,13 +1,12 @@
-ghost use Rattle.std.specs.Prelude.{◌≡◌, Ok, codes};
+ghost use Rattle.std.specs.Prelude.{◌≡◌, refl, Ok, codes};
 ghost use Rattle.dynamo_de.specs.Answer.{After, Gives};
 ghost use Rattle.dynamo_de.specs.Contents.{read_variant};
 ghost use Rattle.dynamo_de.specs.Fields.{NamesOne};
 ghost use Rattle.dynamo_de.specs.Visitors.{claims_str, take_identifier, claims_seq, take_elements, claims_map, take_entries, claims_enum, take_variant};
-ghost use Rattle.dynamo_shape.proofs.Alike.{equal_alike};
 ghost use Rattle.dynamo_shape.proofs.TypesByHand.{enum_permitted};
-ghost use Rattle.serde_dynamo.specs.SampleShapes.{event_shape, event_variants};
+ghost use Rattle.serde_dynamo.specs.SampleShapes.{event_variants};
 ghost use Rattle.serde_dynamo.specs.Samples.{event_told};
-ghost use Rattle.serde_dynamo.specs.SamplesByShape.{event_chosen, event_by_value};
+ghost use Rattle.serde_dynamo.specs.SamplesByShape.{event_chosen, about_event};
 ghost use Rattle.serde_dynamo.specs.SamplesRead.{event_tag, event_content, structy_field, tuple_in_order, structy_by_name, event_from_variant};
 
 use crate::Shaped;
@@ -291,15 +290,15 @@ impl Deserialize for Event {
 }
 
 impl Shaped for Event {
-    ghost shape = { event_shape };
+    ghost about = { about_event };
 
-    ghost same = { λ e f. e ≡ f };
+    ghost as_told = { refl };
 
     ghost reads_by_shape = { enum_permitted (codes "Event") event_content event_variants event_told event_tag event_chosen };
 
-    ghost told_by_value = { event_by_value };
-
-    ghost told_alike = { equal_alike event_shape event_told };
+    fn absent<E: Error>(_alloc: Global) -> Result<Option<Event>, E> {
+        Ok(None)
+    }
 
     fn conforms(&self) {
         match self {

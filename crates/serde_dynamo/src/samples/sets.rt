@@ -1,12 +1,12 @@
-ghost use Rattle.std.specs.Prelude.{◌≡◌, Ok, codes};
+ghost use Rattle.std.specs.Prelude.{◌≡◌, refl, Ok, codes};
 ghost use Rattle.dynamo_de.specs.Answer.{After};
 ghost use Rattle.dynamo_de.specs.Contents.{read_parts};
 ghost use Rattle.dynamo_de.specs.Fields.{NamesOne};
 ghost use Rattle.dynamo_de.specs.Visitors.{claims_str, take_identifier, claims_struct, take_parts};
 ghost use Rattle.dynamo_shape.proofs.TypesByHand.{struct_permitted};
-ghost use Rattle.serde_dynamo.specs.SampleShapes.{sets_shape, sets_fields, same_sets};
+ghost use Rattle.serde_dynamo.specs.SampleShapes.{sets_fields};
 ghost use Rattle.serde_dynamo.specs.Samples.{sets_told};
-ghost use Rattle.serde_dynamo.specs.SamplesByShape.{sets_named, sets_listed, sets_by_value, sets_alike};
+ghost use Rattle.serde_dynamo.specs.SamplesByShape.{sets_named, sets_listed, about_sets};
 ghost use Rattle.serde_dynamo.specs.SamplesRead.{sets_field, sets_parts, sets_from_parts};
 
 use crate::Shaped;
@@ -177,15 +177,15 @@ impl Deserialize for Sets {
 }
 
 impl Shaped for Sets {
-    ghost shape = { sets_shape };
+    ghost about = { about_sets };
 
-    ghost same = { same_sets };
+    ghost as_told = { refl };
 
     ghost reads_by_shape = { struct_permitted (codes "Sets") sets_fields sets_told sets_parts sets_named sets_listed };
 
-    ghost told_by_value = { sets_by_value };
-
-    ghost told_alike = { sets_alike };
+    fn absent<E: Error>(_alloc: Global) -> Result<Option<Sets>, E> {
+        Ok(None)
+    }
 
     #[tactic(auto, using(dynamo_shape::proofs::FieldsTold::set_conforms))]
     fn conforms(&self) {

@@ -1,12 +1,12 @@
-ghost use Rattle.std.specs.Prelude.{◌≡◌, Ok, codes};
+ghost use Rattle.std.specs.Prelude.{◌≡◌, refl, Ok, codes};
 ghost use Rattle.dynamo_de.specs.Answer.{After};
 ghost use Rattle.dynamo_de.specs.Contents.{read_parts};
 ghost use Rattle.dynamo_de.specs.Fields.{NamesOne};
 ghost use Rattle.dynamo_de.specs.Visitors.{claims_str, take_identifier, claims_struct, take_parts};
 ghost use Rattle.dynamo_shape.proofs.TypesByHand.{struct_permitted};
-ghost use Rattle.serde_dynamo.specs.SampleShapes.{user_shape, user_fields, same_user};
+ghost use Rattle.serde_dynamo.specs.SampleShapes.{user_fields};
 ghost use Rattle.serde_dynamo.specs.Samples.{user_told};
-ghost use Rattle.serde_dynamo.specs.SamplesByShape.{user_named, user_listed, user_by_value, user_alike};
+ghost use Rattle.serde_dynamo.specs.SamplesByShape.{user_named, user_listed, about_user};
 ghost use Rattle.serde_dynamo.specs.SamplesRead.{user_field, user_parts, user_from_parts};
 
 use crate::Shaped;
@@ -164,15 +164,15 @@ impl Deserialize for User {
 }
 
 impl Shaped for User {
-    ghost shape = { user_shape };
+    ghost about = { about_user };
 
-    ghost same = { same_user };
+    ghost as_told = { refl };
 
     ghost reads_by_shape = { struct_permitted (codes "User") user_fields user_told user_parts user_named user_listed };
 
-    ghost told_by_value = { user_by_value };
-
-    ghost told_alike = { user_alike };
+    fn absent<E: Error>(_alloc: Global) -> Result<Option<User>, E> {
+        Ok(None)
+    }
 
     fn conforms(&self) {
         self.id.conforms();

@@ -1,4 +1,4 @@
-use Rattle.std.proofs.Common.{String, Global, string_bytes, sym, subst, Bool}
+use Rattle.std.proofs.Common.{string_bytes, sym, subst, Bool}
 use Rattle.std.proofs.lemmas.Bool.Decides.{Decides-eqb}
 use Rattle.std.specs.Cmp.Lexicographic.{bytes_decides}
 use Rattle.std.specs.Bool.{Decides}

@@ -1,0 +1,104 @@
+-- A described struct, entry by entry.
+use Rattle.std.proofs.Common.{◌≡◌, ◌⊎◌, ℕ, List, [], Option, Some, None, Result, Ok, Err, length, ◌<◌, refl, sym, ap, subst, ◌∙◌, inl, inr}
+use Rattle.dynamo_value.specs.Fault.{Fault, out_of_memory}
+use Rattle.dynamo_ser.specs.Datum as datum
+use Rattle.dynamo_de.specs.Access.{NextKey, NextValue}
+use Rattle.dynamo_de.specs.Answer as answer
+use Rattle.dynamo_de.specs.Answer.{Answer, After}
+use Rattle.dynamo_de.specs.Contents.{by_name, in_order}
+use Rattle.dynamo_de.specs.Fields.{NamesOne}
+use Rattle.dynamo_de.specs.Meets.{Meets, IsMessage}
+use Rattle.dynamo_de.specs.Source.{Source, Text, Entry}
+use Rattle.dynamo_shape.specs.Permits.{Permits}
+use Rattle.dynamo_shape.specs.Read.{into}
+use Rattle.dynamo_shape.proofs.FieldsByName.{Slots, NamesDiffer, close}
+use Rattle.dynamo_record.specs.Entries.{FillsAt, finish, StructSoFar}
+use Rattle.dynamo_record.specs.Fields.{SameData, unread, complete, read_fields}
+use Rattle.dynamo_record.specs.Listed.{Data, Holds, Makes, MakesOrLacks, MakesOrFails}
+use Rattle.dynamo_record.specs.Names.{place_of}
+use Rattle.dynamo_record.specs.Records.{AboutRecord, AreNamed, record_fields, FromParts, RecordAnswers, IsAlike, place_in}
+use Rattle.dynamo_record.proofs.Described.{names_differ, place_named, empty_unread, close_complete, in_order_listed, answer_of, struct_made, struct_missed, struct_fails, after_struct, by_entries}
+use Rattle.dynamo_record.proofs.Entries as entries
+
+module _ {V L : Type 0} (a : AboutRecord V L) where
+  -- ---- in order
+
+  module _ {E : Type 0} (fault : E → Fault) (xs left : List Source) where
+    abbrev Listed : Result (Option L) E → Type 0
+    Listed = MakesOrFails fault a.list.shapes a.list.told (read_fields (a.list.shapes []) xs) (answer.value [])
+
+    abbrev all : Answer Data
+    all = read_fields (a.list.shapes []) xs
+
+    listed : (r : Result V Fault) → RecordAnswers a (answer_of a all) r → FromParts a (in_order xs) r
+    listed r h = subst (λ fs. RecordAnswers a (into (datum.struct a.name) fs) r) (sym (in_order_listed a.names (a.list.shapes []) (a.list.defaults []) xs)) h
+
+    pub listed_made : (l : L) (v : V) → a.parts v ≡ l → Listed (Ok (Some l)) → FromParts a (in_order xs) (Ok v)
+    listed_made l v e h = listed (Ok v) (struct_made a all l v e h)
+
+    pub listed_short : (e : E) → Listed (Ok None) → IsMessage {V = V} (Err (fault e)) → FromParts a (in_order xs) (Err (fault e))
+    listed_short e h m = listed (Err (fault e)) (struct_missed a all (fault e) h m)
+
+    pub listed_fails : (e : E) → Listed (Err e) → Meets {V = V} fault (FromParts a (in_order xs)) (Err e)
+    listed_fails e (inl lacks) = inl lacks
+    listed_fails e (inr failed) = inr (listed (Err (fault e)) (struct_fails a all (fault e) failed))
+
+  -- ---- by entries
+
+  module _ {X E : Type 0} (named : AreNamed a) (holds : Holds X) (fault : E → Fault) (es : List Entry) where
+    abbrev front : X → Slots → Type 0
+    front x os = holds x os []
+
+    places : place_of 0 a.names ≡ place_in 0 (record_fields a)
+    places i t = sym (place_named 0 a.names (a.list.shapes []) (a.list.defaults []) t named.1) i
+
+    by_place : (l l2 : List Entry) (p p2 : Option Source) (r : Result (Option ℕ) E) → NextKey fault (NamesOne (place_of 0 a.names)) l p l2 p2 r → NextKey fault (NamesOne (place_in 0 (record_fields a))) l p l2 p2 r
+    by_place l l2 p p2 r k = subst (λ f. NextKey fault (NamesOne f) l p l2 p2 r) places k
+
+    whole : (r : Result V Fault) → After (entries.answered (datum.struct a.name) (record_fields a) es) (IsAlike a) r → FromParts a (by_name es) r
+    whole r h = by_entries a (names_differ a.names (a.list.shapes []) (a.list.defaults []) named.0 named.1) es r h
+
+    pub starts : (x : X) → holds x (unread (a.list.shapes [])) [] → StructSoFar a holds x es es
+    starts x h = entries.starts fault (datum.struct a.name) (record_fields a) (IsAlike a) front es x (subst (front x) (sym (empty_unread a.names (a.list.shapes []) (a.list.defaults []))) h)
+
+    module _ (l l2 : List Entry) (p p2 : Option Source) (x : X) (so_far : StructSoFar a holds x l es) where
+      abbrev Key : Option ℕ → Type 0
+      Key o = NextKey fault (NamesOne (place_of 0 a.names)) l p l2 p2 (Ok o)
+
+      module _ (i : ℕ) (y : X) (l3 : List Entry) (p3 : Option Source) (key : Key (Some i)) where
+        abbrev Reads : Result (Unit {0}) E → Type 0
+        Reads r = (os : Slots) → holds x os [] → NextValue fault (FillsAt front i (record_fields a) os y) l2 p2 l3 p3 r
+
+        pub reads_entry : Reads (Ok tt) → StructSoFar a holds y l3 es
+        reads_entry h = entries.reads_entry fault (datum.struct a.name) (record_fields a) (IsAlike a) front es l l2 p p2 x i y l3 p3 so_far (by_place l l2 p p2 (Ok (Some i)) key) h
+
+        pub entry_gone : Reads (Ok tt) → length l3 < length l
+        entry_gone h = entries.entry_gone fault (datum.struct a.name) (record_fields a) (IsAlike a) front es l l2 p p2 x i y l3 p3 so_far (by_place l l2 p p2 (Ok (Some i)) key) h
+
+        pub entry_fails : (e : E) → Reads (Err e) → Meets {V = V} fault (FromParts a (by_name es)) (Err e)
+        entry_fails e h = elim (entries.entry_fails fault (datum.struct a.name) (record_fields a) (IsAlike a) front es l l2 p p2 x i y l3 p3 e so_far (by_place l l2 p p2 (Ok (Some i)) key) h) [ inl lacks ↦ inl lacks | inr failed ↦ inr (whole (Err (fault e)) failed) ]
+
+      pub key_lacks : (e : E) → NextKey {V = ℕ} fault (NamesOne (place_of 0 a.names)) l p l2 p2 (Err e) → fault e ≡ out_of_memory
+      key_lacks e k = entries.key_lacks fault (datum.struct a.name) (record_fields a) (IsAlike a) front es l l2 p p2 x e (by_place l l2 p p2 (Err e) k)
+
+      -- after the last entry
+      module _ (key : Key None) where
+        last : (os : Slots) × front x os × ((r : Result V Fault) → After (finish (datum.struct a.name) (record_fields a) os) (IsAlike a) r → After (entries.answered (datum.struct a.name) (record_fields a) es) (IsAlike a) r)
+        last = entries.ends fault (datum.struct a.name) (record_fields a) (IsAlike a) front es l l2 p p2 x so_far (by_place l l2 p p2 (Ok None) key)
+
+        abbrev Ends : Result (Option L) E → Type 0
+        Ends r = (os : Slots) → holds x os [] → MakesOrLacks fault a.list.shapes a.list.told (complete (a.list.shapes []) (a.list.defaults []) os) (answer.value []) r
+
+        closed : (r : Result V Fault) → RecordAnswers a (answer_of a (complete (a.list.shapes []) (a.list.defaults []) last.0)) r → FromParts a (by_name es) r
+        closed r h =
+            let shut = subst (λ fs. RecordAnswers a (into (datum.struct a.name) fs) r) (sym (close_complete a.names (a.list.shapes []) (a.list.defaults []) last.0)) h in
+            whole r (last.2 r (after_struct a (finish (datum.struct a.name) (record_fields a) last.0) r shut))
+
+        pub all_made : (m : L) (v : V) → a.parts v ≡ m → Ends (Ok (Some m)) → FromParts a (by_name es) (Ok v)
+        all_made m v e h = closed (Ok v) (struct_made a (complete (a.list.shapes []) (a.list.defaults []) last.0) m v e (h last.0 last.1))
+
+        pub one_missed : (e : E) → Ends (Ok None) → IsMessage {V = V} (Err (fault e)) → FromParts a (by_name es) (Err (fault e))
+        one_missed e h m = closed (Err (fault e)) (struct_missed a (complete (a.list.shapes []) (a.list.defaults []) last.0) (fault e) (h last.0 last.1) m)
+
+        pub lacks : (e : E) → Ends (Err e) → fault e ≡ out_of_memory
+        lacks e h = h last.0 last.1

@@ -1,0 +1,10 @@
+use Rattle.std.proofs.Common.{[], refl}
+use Rattle.dynamo_record.specs.Fields.{named_fields}
+use Rattle.dynamo_record.specs.Told.{fields_conform}
+use Rattle.dynamo_record.proofs.record.record_conforms.Goals as goal
+
+pub returns : goal.returns
+returns g c =
+    let told = g.W.RefList.told c.args.fields.now [] in
+    let names = g.R.Record.about.names in
+    (named_fields names told, refl, fields_conform names (g.W.RefList.shapes []) (g.R.Fields.FieldList.about.defaults []) told (c.conform.ensures [] [] tt))
