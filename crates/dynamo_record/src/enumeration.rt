@@ -5,7 +5,7 @@ ghost use Rattle.dynamo_de.specs.Meets.{Meets};
 ghost use Rattle.dynamo_de.specs.Scalars.{read_identifier};
 ghost use Rattle.dynamo_de.specs.Visitors.{claims_str, take_identifier, claims_enum, take_variant};
 ghost use Rattle.dynamo_shape.specs.Permits.{IsMessageFault};
-ghost use Rattle.dynamo_record.specs.Enums.{AboutEnum, of_variants, enum_reads, NamesVariant, FromVariant, VariantsNamed};
+ghost use Rattle.dynamo_record.specs.Enums.{AboutEnum, of_variants, enum_reads, NamesVariant, FromVariants, AsMany, VariantsNamed};
 
 use crate::VariantList;
 use crate::names::place_of;
@@ -16,7 +16,7 @@ use std::marker::PhantomData;
 /// An enum, described by the list of its variants.
 pub trait Enumeration: Sized + Drop {
     /// What the variants hold, as `Choice<Nothing, One<u8>>`.
-    type Variants: VariantList;
+    type Variants;
 
     // The name of the enum, those of its variants, and the variant of a value.
     ghost about: { AboutEnum Self Self.Variants };
@@ -34,7 +34,7 @@ pub trait Enumeration: Sized + Drop {
         ensures { about.parts result ≡ variant };
 
     // No two variants have one name, and each has one.
-    ghost named: { VariantsNamed (of_variants about Self.Variants.about) };
+    ghost named: { VariantsNamed about };
 }
 
 /// The variants that there are, as a message says it: ``expected `A` or `B` ``.
@@ -131,12 +131,15 @@ struct EnumVisitor<T> {
     of: PhantomData<T>,
 }
 
-impl<T: Enumeration> Visitor for EnumVisitor<T> {
+impl<T: Enumeration> Visitor for EnumVisitor<T>
+where
+    T::Variants: VariantList,
+{
     type Value = T;
 
     ghost claimed = { λ _. claims_enum };
 
-    ghost takes = { λ _ s. After (take_variant s) (FromVariant (of_variants T.about T.Variants.about)) };
+    ghost takes = { λ _ s. After (take_variant s) (FromVariants T.about T.Variants.about) };
 
     fn expecting(&self) -> &'static str {
         "enum"
@@ -171,6 +174,9 @@ pub fn read_enum<T: Enumeration, D: Deserializer>(
     alloc: Global,
     deserializer: D,
 ) -> Result<T, D::Error>
+where
+    T::Variants: VariantList,
+    requires { AsMany T.about T.Variants.about }
     ensures { Meets D.Error.fault (enum_reads (of_variants T.about T.Variants.about) (D.source deserializer)) result }
 {
     deserializer.deserialize_enum(

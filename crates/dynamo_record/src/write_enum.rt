@@ -3,7 +3,7 @@ ghost use Rattle.dynamo_ser.specs.Datum as datum;
 ghost use Rattle.dynamo_ser.specs.Writes.{Writes};
 ghost use Rattle.dynamo_shape.specs.Conforms.{conforms};
 ghost use Rattle.dynamo_shape.specs.Shape as shape;
-ghost use Rattle.dynamo_record.specs.Enums.{of_variants, enum_shape};
+ghost use Rattle.dynamo_record.specs.Enums.{enum_shape};
 ghost use Rattle.dynamo_record.specs.Fields.{shapes_of};
 ghost use Rattle.dynamo_record.specs.Names.{first_name, names_from};
 ghost use Rattle.dynamo_record.specs.Variants.{tag, content_at};
@@ -73,23 +73,23 @@ pub fn write_several<T: Enumeration, W: RefList, S: Serializer>(
 
 /// The unit variant of this number conforms to the enum's shape.
 pub fn unit_conforms<T: Enumeration>(index: u32)
-    requires { content_at index (T.Variants.about.contents []) ≡ Some shape.nothing }
-    ensures { conforms (enum_shape (of_variants T.about T.Variants.about)) (datum.unit_variant (tag T.about.name T.about.names index)) }
+    requires { content_at index (T.about.list.contents []) ≡ Some shape.nothing }
+    ensures { conforms (enum_shape T.about) (datum.unit_variant (tag T.about.name T.about.names index)) }
 {
 }
 
 /// The newtype variant of this number conforms to the enum's shape.
 pub fn one_conforms<T: Enumeration, V: Shaped>(index: u32, value: &V)
-    requires { content_at index (T.Variants.about.contents []) ≡ Some (shape.one V.about.shape) }
-    ensures { conforms (enum_shape (of_variants T.about T.Variants.about)) (datum.newtype_variant (tag T.about.name T.about.names index) (V.about.tells value.now)) }
+    requires { content_at index (T.about.list.contents []) ≡ Some (shape.one V.about.shape) }
+    ensures { conforms (enum_shape T.about) (datum.newtype_variant (tag T.about.name T.about.names index) (V.about.tells value.now)) }
 {
     value.conforms();
 }
 
 /// The tuple variant of this number conforms to the enum's shape.
 pub fn several_conform<T: Enumeration, W: RefList>(index: u32, fields: &W)
-    requires { content_at index (T.Variants.about.contents []) ≡ Some (shape.several (shapes_of (W.shapes []))) }
-    ensures { conforms (enum_shape (of_variants T.about T.Variants.about)) (datum.tuple_variant (tag T.about.name T.about.names index) (datum.elements_of (W.told fields.now []))) }
+    requires { content_at index (T.about.list.contents []) ≡ Some (shape.several (shapes_of (W.shapes []))) }
+    ensures { conforms (enum_shape T.about) (datum.tuple_variant (tag T.about.name T.about.names index) (datum.elements_of (W.told fields.now []))) }
 {
     fields.conform();
 }

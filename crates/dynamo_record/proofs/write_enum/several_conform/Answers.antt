@@ -1,7 +1,6 @@
 use Rattle.std.proofs.Common.{[], refl}
 use Rattle.dynamo_ser.specs.Datum as datum
 use Rattle.dynamo_shape.specs.Shape as shape
-use Rattle.dynamo_record.specs.Enums.{of_variants}
 use Rattle.dynamo_record.specs.Fields.{shapes_of}
 use Rattle.dynamo_record.specs.InOrder.{elements_conform}
 use Rattle.dynamo_record.specs.Variants.{tag}
@@ -10,7 +9,7 @@ use Rattle.dynamo_record.proofs.write_enum.several_conform.Goals as goal
 
 pub returns : goal.returns
 returns g c =
-    let a = of_variants g.T.Enumeration.about g.T.Variants.VariantList.about in
+    let a = g.T.Enumeration.about in
     let ss = g.W.RefList.shapes [] in
     let told = g.W.RefList.told c.args.fields.now [] in
     variant_conforms a c.args.index (shape.several (shapes_of ss)) (datum.tuple_variant (tag a.name a.names c.args.index) (datum.elements_of told)) c.requires
