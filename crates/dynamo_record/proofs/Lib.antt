@@ -5,6 +5,7 @@ pub mod Chosen
 pub mod Described
 pub mod Entries
 pub mod Inside
+pub mod InsideNamed
 pub mod OneEntry
 pub mod OneField
 pub mod OneVariant

@@ -6,10 +6,13 @@ use Rattle.dynamo_ser.specs.Datum.{Datum, Elements, Fields, Variant, elements_of
 use Rattle.dynamo_shape.specs.Conforms.{conforms, conform_each, conform_fields, conforms_content}
 use Rattle.dynamo_shape.specs.Same.{Same, SameElements, SameFields}
 use Rattle.dynamo_shape.specs.Shape as shape
+use Rattle.dynamo_shape.specs.Shape.{FieldShapes}
 use Rattle.dynamo_types.specs.About.{About}
-use Rattle.dynamo_record.specs.Fields.{ConformEach, shapes_of}
+use Rattle.dynamo_record.specs.Fields.{ConformEach, shapes_of, field_shapes, named_fields}
 use Rattle.dynamo_record.specs.InOrder.{each_element, elements_same, same_each}
 use Rattle.dynamo_record.specs.Listed.{AboutList}
+use Rattle.dynamo_record.specs.Names.{Names}
+use Rattle.dynamo_record.specs.Told.{each_field, fields_same, data_same}
 use Rattle.dynamo_record.specs.Variants.{AboutContent}
 
 abbrev pub newtype_in : Datum → Datum
@@ -86,4 +89,43 @@ module _ {C L : Type 0} (list : C → L) (a : AboutList L) where
     told_index = λ _ _. refl;
     told_by_value = several_by_value;
     told_alike = several_alike;
+  }
+
+-- ---- several under names
+
+abbrev pub fields_in : Datum → Fields
+fields_in (datum.struct_variant v fs) = fs
+fields_in (datum.struct name fs) = fs
+fields_in _ = datum.no_fields
+
+module _ {C L : Type 0} (names : Names) (list : C → L) (a : AboutList L) where
+  abbrev pub variant_fields : FieldShapes
+  variant_fields = field_shapes names (a.shapes []) (a.defaults [])
+
+  abbrev pub named_told : Variant → C → Datum
+  named_told v x = datum.struct_variant v (named_fields names (a.told (list x) []))
+
+  each_conforms : (v : Variant) (x : C) → conforms_content (shape.named variant_fields) v (named_told v x) → ConformEach (a.shapes []) (a.told (list x) [])
+  each_conforms v x c = each_field names (a.shapes []) (a.defaults []) (a.told (list x) []) (subst (conform_fields variant_fields) (sym (ap fields_in c.1)) c.2)
+
+  pub named_by_value : (v : Variant) (x y : C) → conforms_content (shape.named variant_fields) v (named_told v x) → conforms_content (shape.named variant_fields) v (named_told v y) → Same (named_told v x) (named_told v y) → a.same (list x) (list y)
+  named_by_value v x y c d h =
+      let alike = data_same names (a.told (list x) []) (a.told (list y) []) (subst (SameFields (named_fields names (a.told (list x) []))) (sym (ap fields_in h.1)) h.2) in
+      (a.told_by_value (list x) (list y) [] [] [] (each_conforms v x c) (each_conforms v y d) alike).0
+
+  pub named_alike : (v : Variant) (x y : C) → conforms_content (shape.named variant_fields) v (named_told v x) → conforms_content (shape.named variant_fields) v (named_told v y) → a.same (list x) (list y) → Same (named_told v x) (named_told v y)
+  named_alike v x y c d h = (
+    named_fields names (a.told (list y) []),
+    refl,
+    fields_same names (a.told (list x) []) (a.told (list y) []) (a.told_alike (list x) (list y) [] [] [] (each_conforms v x c) (each_conforms v y d) h (λ _ _. tt)),
+  )
+
+  abbrev pub about_named : AboutContent C
+  about_named = record {
+    shape = shape.named variant_fields;
+    told = named_told;
+    same = λ x y. a.same (list x) (list y);
+    told_index = λ _ _. refl;
+    told_by_value = named_by_value;
+    told_alike = named_alike;
   }

@@ -6,6 +6,7 @@ mod content;
 mod enumeration;
 mod field;
 mod field_list;
+mod named;
 mod names;
 mod record;
 mod ref_list;
@@ -16,9 +17,11 @@ pub use content::{Nothing, One, Several};
 pub use enumeration::{Enumeration, read_enum};
 pub use field::{Field, FieldType};
 pub use field_list::FieldList;
+pub use named::{Named, NamedFields};
 pub use record::{Record, read_record, record_conforms, write_record};
 pub use ref_list::RefList;
 pub use variant_list::{Choice, VariantList};
 pub use write_enum::{
-    one_conforms, several_conform, unit_conforms, write_one, write_several, write_unit,
+    named_conform, one_conforms, several_conform, unit_conforms, write_one, write_several,
+    write_struct, write_unit,
 };

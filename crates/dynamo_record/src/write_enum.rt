@@ -4,12 +4,12 @@ ghost use Rattle.dynamo_ser.specs.Writes.{Writes};
 ghost use Rattle.dynamo_shape.specs.Conforms.{conforms};
 ghost use Rattle.dynamo_shape.specs.Shape as shape;
 ghost use Rattle.dynamo_record.specs.Enums.{enum_shape};
-ghost use Rattle.dynamo_record.specs.Fields.{shapes_of};
+ghost use Rattle.dynamo_record.specs.Fields.{shapes_of, field_shapes, named_fields};
 ghost use Rattle.dynamo_record.specs.Names.{first_name, names_from};
 ghost use Rattle.dynamo_record.specs.Variants.{tag, content_at};
 
-use crate::{Enumeration, RefList};
-use dynamo_ser::{Serialize, SerializeTupleVariant, Serializer};
+use crate::{Enumeration, NamedFields, RefList};
+use dynamo_ser::{Serialize, SerializeStructVariant, SerializeTupleVariant, Serializer};
 use dynamo_types::Shaped;
 
 /// The name at a place; behind the last it is empty.
@@ -71,6 +71,26 @@ pub fn write_several<T: Enumeration, W: RefList, S: Serializer>(
     builder.end()
 }
 
+/// Writes the struct variant of this number.
+///
+/// # Errors
+///
+/// The first field that is at fault is the fault.
+pub fn write_struct<T: Enumeration, N: NamedFields, W: RefList, S: Serializer>(
+    serializer: S,
+    index: u32,
+    fields: &W,
+) -> Result<S::Ok, S::Error>
+    ensures { S.outcome serializer (datum.struct_variant (tag T.about.name T.about.names index) (named_fields N.names (W.told fields.now []))) result }
+{
+    let variant = name_at(T::names(), index as usize);
+    let names = N::names();
+    let mut builder =
+        serializer.serialize_struct_variant(T::name(), index, variant, names.len())?;
+    fields.write_fields::<S, S::SerializeStructVariant>(names, &mut builder)?;
+    builder.end()
+}
+
 /// The unit variant of this number conforms to the enum's shape.
 pub fn unit_conforms<T: Enumeration>(index: u32)
     requires { content_at index (T.about.list.contents []) ≡ Some shape.nothing }
@@ -90,6 +110,14 @@ pub fn one_conforms<T: Enumeration, V: Shaped>(index: u32, value: &V)
 pub fn several_conform<T: Enumeration, W: RefList>(index: u32, fields: &W)
     requires { content_at index (T.about.list.contents []) ≡ Some (shape.several (shapes_of (W.shapes []))) }
     ensures { conforms (enum_shape T.about) (datum.tuple_variant (tag T.about.name T.about.names index) (datum.elements_of (W.told fields.now []))) }
+{
+    fields.conform();
+}
+
+/// The struct variant of this number conforms to the enum's shape.
+pub fn named_conform<T: Enumeration, N: NamedFields, W: RefList>(index: u32, fields: &W)
+    requires { content_at index (T.about.list.contents []) ≡ Some (shape.named (field_shapes N.names (W.shapes []) (N.Fields.about.defaults []))) }
+    ensures { conforms (enum_shape T.about) (datum.struct_variant (tag T.about.name T.about.names index) (named_fields N.names (W.told fields.now []))) }
 {
     fields.conform();
 }
