@@ -1,13 +1,13 @@
 ghost use Rattle.std.specs.Prelude.{[], ◌∷◌, codes, refl};
 ghost use Rattle.dynamo_record.specs.Enums.{enum_of, enum_tells, enum_reads, about_enum};
-ghost use Rattle.dynamo_record.specs.declared.content.Nothing.{Nothing as nothing};
 ghost use Rattle.dynamo_record.specs.declared.variant_list.Choice.TheVariants.{Left, Right};
-ghost use Rattle.enum_users.specs.declared.event.Event.TheVariants.{Unit as IsUnit, Newtype as IsNewtype, Tuple as IsTuple};
+ghost use Rattle.enum_users.specs.declared.event.Event.TheVariants as is;
 
 use dynamo_de::{Deserialize, Deserializer, Error};
 use dynamo_record::{
-    Choice, Enumeration, Field, Nothing, One, Several, VariantList, one_conforms, read_enum,
-    several_conform, unit_conforms, write_one, write_several, write_unit,
+    Choice, Enumeration, Field, Named, NamedFields, Nothing, One, Several, VariantList,
+    named_conform, one_conforms, read_enum, several_conform, unit_conforms, write_one,
+    write_several, write_struct, write_unit,
 };
 use dynamo_ser::{Serialize, Serializer};
 use dynamo_types::Shaped;
@@ -19,17 +19,35 @@ pub enum Event {
     Unit,
     Newtype(u8),
     Tuple(u8, u8),
+    Structy { one: u8, two: u8 },
 }
 
-type EventVariants = Choice<Nothing, Choice<One<u8>, Several<(Field<u8>, Field<u8>)>>>;
+/// The fields of [`Event::Structy`].
+pub struct StructyFields;
+
+impl NamedFields for StructyFields {
+    type Fields = (Field<u8>, Field<u8>);
+
+    ghost names = { codes "one" ∷ codes "two" ∷ [] };
+
+    ghost named = { (refl, refl) };
+
+    fn names() -> &'static [&'static str] {
+        &["one", "two"]
+    }
+}
+
+type EventVariants =
+    Choice<Choice<Nothing, One<u8>>, Choice<Several<(Field<u8>, Field<u8>)>, Named<StructyFields>>>;
 
 impl Enumeration for Event {
     type Variants = EventVariants;
 
-    ghost about = { enum_of (codes "Event") (codes "Unit" ∷ codes "Newtype" ∷ codes "Tuple" ∷ []) (elim [
-        | IsUnit ↦ Left _
-        | IsNewtype n ↦ Right (Left (record { 0 = n }))
-        | IsTuple a b ↦ Right (Right (record { 0 = (record { 0 = a }, record { 0 = b }) }))
+    ghost about = { enum_of (codes "Event") (codes "Unit" ∷ codes "Newtype" ∷ codes "Tuple" ∷ codes "Structy" ∷ []) (elim [
+        | is.Unit ↦ Left (Left _)
+        | is.Newtype n ↦ Left (Right (record { 0 = n }))
+        | is.Tuple a b ↦ Right (Left (record { 0 = (record { 0 = a }, record { 0 = b }) }))
+        | is.Structy one two ↦ Right (Right (record { 0 = (record { 0 = one }, record { 0 = two }) }))
     ]) ⟦<EventVariants as VariantList>⟧.about };
 
     ghost named = { (refl, refl) };
@@ -39,14 +57,17 @@ impl Enumeration for Event {
     }
 
     fn names() -> &'static [&'static str] {
-        &["Unit", "Newtype", "Tuple"]
+        &["Unit", "Newtype", "Tuple", "Structy"]
     }
 
     fn make(variant: EventVariants) -> Event {
         match variant {
-            Choice::Left(Nothing) => Event::Unit,
-            Choice::Right(Choice::Left(One(n))) => Event::Newtype(n),
-            Choice::Right(Choice::Right(Several((Field(a), Field(b))))) => Event::Tuple(a, b),
+            Choice::Left(Choice::Left(Nothing)) => Event::Unit,
+            Choice::Left(Choice::Right(One(n))) => Event::Newtype(n),
+            Choice::Right(Choice::Left(Several((Field(a), Field(b))))) => Event::Tuple(a, b),
+            Choice::Right(Choice::Right(Named((Field(one), Field(two))))) => {
+                Event::Structy { one, two }
+            }
         }
     }
 }
@@ -61,6 +82,9 @@ impl Serialize for Event {
             Event::Unit => write_unit::<Event, S>(serializer, 0),
             Event::Newtype(n) => write_one::<Event, u8, S>(serializer, 1, n),
             Event::Tuple(a, b) => write_several::<Event, _, S>(serializer, 2, &(a, b)),
+            Event::Structy { one, two } => {
+                write_struct::<Event, StructyFields, _, S>(serializer, 3, &(one, two))
+            }
         }
     }
 }
@@ -89,6 +113,7 @@ impl Shaped for Event {
             Event::Unit => unit_conforms::<Event>(0),
             Event::Newtype(n) => one_conforms::<Event, u8>(1, n),
             Event::Tuple(a, b) => several_conform::<Event, _>(2, &(a, b)),
+            Event::Structy { one, two } => named_conform::<Event, StructyFields, _>(3, &(one, two)),
         }
     }
 }
