@@ -1,9 +1,7 @@
 -- The variant of a name is that at the name's place.
-use Rattle.std.proofs.Common.{arith, map, ◌≤◌, ◌≡◌, ◌⊎◌, ◌<◌, ◌+◌, ◌^◌, ℕ, zero, suc, true, false, List, [], ◌∷◌, Option, Some, None, Result, Ok, Err, refl, sym, ap, subst, ◌∙◌, inl, inr, length}
+use Rattle.std.proofs.Common.{arith, map, ◌≤◌, ◌≡◌, ◌⊎◌, ◌<◌, ◌+◌, ◌^◌, ℕ, zero, suc, true, false, List, [], ◌∷◌, Option, Result, Ok, Err, refl, sym, ap, subst, ◌∙◌, inl, inr, length}
 use Rattle.std.specs.Prelude.{if◌then◌else◌, bytes_eq, ⊤}
-use Rattle.dynamo_value.specs.Fault.{Fault, out_of_memory}
-use Rattle.dynamo_ser.specs.Datum as datum
-use Rattle.dynamo_ser.specs.Datum.{Datum, Variant}
+use Rattle.dynamo_value.specs.Fault.{Fault}
 use Rattle.dynamo_de.specs.Access.{ReadsVariant}
 use Rattle.dynamo_de.specs.Answer as answer
 use Rattle.dynamo_de.specs.Answer.{Answer, After}
@@ -13,12 +11,11 @@ use Rattle.dynamo_de.specs.Scalars.{read_identifier}
 use Rattle.dynamo_de.specs.Source.{Source, Text}
 use Rattle.dynamo_de.proofs.Meets.{meets_more}
 use Rattle.dynamo_shape.specs.Conforms.{conforms}
-use Rattle.dynamo_shape.specs.Laws.{Answers}
 use Rattle.dynamo_shape.specs.Permits.{Permits}
-use Rattle.dynamo_shape.specs.Read.{read, read_inside, read_one_of}
+use Rattle.dynamo_shape.specs.Read.{read_inside, read_one_of}
 use Rattle.dynamo_shape.specs.Same.{Same}
 use Rattle.dynamo_shape.proofs.Answered.{after}
-use Rattle.dynamo_record.specs.Enums.{AboutEnum, AsMany, of_variants, NamesVariant, FromVariant, FromVariants, EnumAnswers, VariantsNamed, enum_reads, enum_shape, enum_tells, enum_variants}
+use Rattle.dynamo_record.specs.Enums.{AboutEnum, AsMany, of_variants, NamesVariant, FromVariant, FromVariants, VariantsNamed, enum_reads, enum_shape, enum_tells, enum_variants}
 use Rattle.dynamo_record.specs.Names.{Names, first_name, other_names, names_from, place_of}
 use Rattle.dynamo_record.specs.Variants.{AboutVariants, Contents, ReadsAt, read_at, tag, variants_of}
 

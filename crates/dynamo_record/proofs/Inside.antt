@@ -1,5 +1,5 @@
 -- What is read of the content of a variant.
-use Rattle.std.proofs.Common.{◌≡◌, ◌⊎◌, ◌<◌, ◌+◌, ◌^◌, ℕ, zero, List, [], ◌∷◌, Option, Some, None, Result, Ok, Err, refl, sym, ap, subst, inl, inr, arith}
+use Rattle.std.proofs.Common.{◌≡◌, ◌⊎◌, ◌<◌, ℕ, zero, List, [], ◌∷◌, Option, Some, None, Result, Ok, Err, refl, sym, ap, subst, inl, inr, arith}
 use Rattle.dynamo_value.specs.Fault.{Fault, message, out_of_memory}
 use Rattle.dynamo_ser.specs.Datum as datum
 use Rattle.dynamo_ser.specs.Datum.{Datum, Elements, Variant, elements_of}
@@ -17,7 +17,7 @@ use Rattle.dynamo_de.specs.declared.request.Request.TheVariants as request
 use Rattle.dynamo_de.proofs.Contents.{elements_read}
 use Rattle.dynamo_shape.specs.Conforms.{conforms, conform_each, conforms_content}
 use Rattle.dynamo_shape.specs.Laws.{Answers, ReadsByShape}
-use Rattle.dynamo_shape.specs.Permits.{Permits, IsMessageFault}
+use Rattle.dynamo_shape.specs.Permits.{Permits}
 use Rattle.dynamo_shape.specs.Read.{read, into, read_each}
 use Rattle.dynamo_shape.specs.Same.{Same, SameElements}
 use Rattle.dynamo_shape.specs.Shape as shape
@@ -25,11 +25,11 @@ use Rattle.dynamo_shape.specs.Shape.{Shape}
 use Rattle.dynamo_shape.proofs.Answered.{after, stops}
 use Rattle.dynamo_types.specs.About.{About}
 use Rattle.dynamo_record.specs.Contents.{newtype_in, elements_in, about_one, about_several}
-use Rattle.dynamo_record.specs.Fields.{ConformEach, SameData, shapes_of, read_fields}
-use Rattle.dynamo_record.specs.InOrder.{each_element, elements_conform, elements_same, ReadsInOrder}
-use Rattle.dynamo_record.specs.Listed.{AboutList, Makes, MakesOrFails, Shapes, Data}
+use Rattle.dynamo_record.specs.Fields.{SameData, shapes_of, read_fields}
+use Rattle.dynamo_record.specs.InOrder.{each_element, elements_same, ReadsInOrder}
+use Rattle.dynamo_record.specs.Listed.{AboutList, Makes, Shapes, Data}
 use Rattle.dynamo_record.specs.Names.{Names}
-use Rattle.dynamo_record.specs.Variants.{AboutContent, Contents, ReadsInside, ReadsAt, tag, read_at, first_conforms, one_contents, one_told as told_at}
+use Rattle.dynamo_record.specs.Variants.{AboutContent, Contents, ReadsInside, ReadsAt, tag, first_conforms, one_contents, one_told as told_at}
 
 -- ---- the variant at place 0
 

@@ -1,5 +1,5 @@
 -- What is read of the content of a struct variant.
-use Rattle.std.proofs.Common.{◌≡◌, List, [], true, false, Option, Some, None, Result, Ok, Err, refl, sym, ap, subst, inl, inr}
+use Rattle.std.proofs.Common.{[], Option, Some, None, Result, Ok, Err, refl, sym, ap, subst}
 use Rattle.dynamo_value.specs.Av as av
 use Rattle.dynamo_value.specs.Fault.{Fault}
 use Rattle.dynamo_ser.specs.Datum as datum
@@ -17,7 +17,7 @@ use Rattle.dynamo_de.specs.Visitors.{claims_struct, take_parts}
 use Rattle.dynamo_de.specs.declared.request.Request.TheVariants as request
 use Rattle.dynamo_de.proofs.Meets.{meets_more}
 use Rattle.dynamo_de.proofs.Scalars.{unknown}
-use Rattle.dynamo_shape.specs.Conforms.{conforms, conform_fields, conforms_content}
+use Rattle.dynamo_shape.specs.Conforms.{conform_fields, conforms_content}
 use Rattle.dynamo_shape.specs.Laws.{Answers}
 use Rattle.dynamo_shape.specs.Read.{into, read_field, fields_by_name}
 use Rattle.dynamo_shape.specs.Same.{Same, SameFields}
@@ -25,11 +25,11 @@ use Rattle.dynamo_shape.specs.Shape as shape
 use Rattle.dynamo_shape.specs.Shape.{FieldShapes}
 use Rattle.dynamo_shape.proofs.Answered.{after, stops}
 use Rattle.dynamo_shape.proofs.Results.{value_same}
-use Rattle.dynamo_record.specs.Contents.{about_named, fields_in, variant_fields}
+use Rattle.dynamo_record.specs.Contents.{about_named, fields_in}
 use Rattle.dynamo_record.specs.Fields.{named_fields}
 use Rattle.dynamo_record.specs.Listed.{AboutList}
 use Rattle.dynamo_record.specs.Names.{Names}
-use Rattle.dynamo_record.specs.Records.{AboutRecord, record_of, record_fields, record_tells, record_shape, FromParts, RecordAnswers}
+use Rattle.dynamo_record.specs.Records.{AboutRecord, record_of, record_fields, FromParts, RecordAnswers}
 use Rattle.dynamo_record.specs.Variants.{ReadsInside}
 
 -- ---- the entries are those that a struct is asked for

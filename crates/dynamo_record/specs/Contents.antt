@@ -1,6 +1,6 @@
 -- What a variant can hold: nothing, one value, several, or several under names.
-use Rattle.std.specs.Prelude.{List, [], ◌∷◌, ⊤}
-use Rattle.std.proofs.Common.{◌≡◌, refl, sym, ap, subst}
+use Rattle.std.specs.Prelude.{[], ⊤}
+use Rattle.std.proofs.Common.{refl, sym, ap, subst}
 use Rattle.dynamo_ser.specs.Datum as datum
 use Rattle.dynamo_ser.specs.Datum.{Datum, Elements, Fields, Variant, elements_of}
 use Rattle.dynamo_shape.specs.Conforms.{conforms, conform_each, conform_fields, conforms_content}

@@ -1,6 +1,6 @@
 -- Fields in order, as the elements of a tuple.
 use Rattle.std.specs.Prelude.{List, [], ◌∷◌, Result, ⊤}
-use Rattle.std.proofs.Common.{◌≡◌, refl, sym, ap, subst}
+use Rattle.std.proofs.Common.{refl, sym, ap, subst}
 use Rattle.dynamo_value.specs.Fault.{Fault}
 use Rattle.dynamo_ser.specs.Datum as datum
 use Rattle.dynamo_ser.specs.Datum.{Datum, Elements, elements_of}

@@ -1,7 +1,7 @@
 -- The variants of an enum by what they hold, each put in front of whatever follows, so that two lists are one list by going on
 -- with the second behind the first.
-use Rattle.std.specs.Prelude.{◌≡◌, ◌≤◌, ◌<◌, ◌+◌, ◌^◌, ℕ, suc, List, [], ◌∷◌, Option, Some, None, Result, Ok, Err, length}
-use Rattle.std.proofs.Common.{zero, refl, sym, ap, subst, ◌∙◌, arith}
+use Rattle.std.specs.Prelude.{◌≡◌, ◌≤◌, ◌<◌, ◌+◌, ℕ, suc, List, [], ◌∷◌, Option, Some, None, Result, length}
+use Rattle.std.proofs.Common.{zero, sym, ap, subst, ◌∙◌, arith}
 use Rattle.dynamo_value.specs.Fault.{Fault}
 use Rattle.dynamo_ser.specs.Datum as datum
 use Rattle.dynamo_ser.specs.Datum.{Datum, Variant}

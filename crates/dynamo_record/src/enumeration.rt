@@ -15,7 +15,8 @@ use std::marker::PhantomData;
 
 /// An enum, described by the list of its variants.
 pub trait Enumeration: Sized + Drop {
-    /// What the variants hold, as `Choice<Nothing, One<u8>>`.
+    /// What the variants hold, as `Choice<Nothing, One<u8>>`: a [`VariantList`]. That is asked for where the enum is read
+    /// alone, so that all else is checked without the contents' own traits.
     type Variants;
 
     // The name of the enum, those of its variants, and the variant of a value.
@@ -38,7 +39,10 @@ pub trait Enumeration: Sized + Drop {
 }
 
 /// The variants that there are, as a message says it: ``expected `A` or `B` ``.
-fn expected(alloc: Global, names: &'static [&'static str]) -> Result<String, std::alloc::AllocError> {
+fn expected(
+    alloc: Global,
+    names: &'static [&'static str],
+) -> Result<String, std::alloc::AllocError> {
     match names.len() {
         0 => String::from_str(alloc, "there are no variants"),
         1 => format!(in alloc; "expected `{}`", names[0]),

@@ -85,8 +85,7 @@ pub fn write_struct<T: Enumeration, N: NamedFields, W: RefList, S: Serializer>(
 {
     let variant = name_at(T::names(), index as usize);
     let names = N::names();
-    let mut builder =
-        serializer.serialize_struct_variant(T::name(), index, variant, names.len())?;
+    let mut builder = serializer.serialize_struct_variant(T::name(), index, variant, names.len())?;
     fields.write_fields::<S, S::SerializeStructVariant>(names, &mut builder)?;
     builder.end()
 }
@@ -95,8 +94,7 @@ pub fn write_struct<T: Enumeration, N: NamedFields, W: RefList, S: Serializer>(
 pub fn unit_conforms<T: Enumeration>(index: u32)
     requires { content_at index (T.about.list.contents []) ≡ Some shape.nothing }
     ensures { conforms (enum_shape T.about) (datum.unit_variant (tag T.about.name T.about.names index)) }
-{
-}
+{}
 
 /// The newtype variant of this number conforms to the enum's shape.
 pub fn one_conforms<T: Enumeration, V: Shaped>(index: u32, value: &V)

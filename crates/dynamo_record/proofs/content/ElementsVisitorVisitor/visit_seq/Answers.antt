@@ -1,4 +1,4 @@
-use Rattle.std.proofs.Common.{[], Some, None, subst}
+use Rattle.std.proofs.Common.{[], subst}
 use Rattle.dynamo_de.specs.Answer as answer
 use Rattle.dynamo_record.specs.Listed.{Makes}
 use Rattle.dynamo_record.specs.Fields.{read_fields}

@@ -1,5 +1,4 @@
-use Rattle.std.proofs.Common.{◌≡◌, ◌≤◌, map, length, inl, inr, subst}
-use Rattle.dynamo_record.specs.Names.{place_of}
+use Rattle.std.proofs.Common.{inl, inr}
 use Rattle.dynamo_record.proofs.Chosen.{names_none}
 use Rattle.dynamo_record.proofs.enumeration.TagVisitorVisitor.visit_str.Goals as goal
 

@@ -1,6 +1,4 @@
-use Rattle.std.proofs.Common.{◌≡◌, ◌<◌, ◌+◌, ◌-◌, ◌^◌, Ok, Err, subst, arith}
-use Rattle.dynamo_de.specs.Meets.{Meets}
-use Rattle.dynamo_record.specs.Variants.{ReadsAt}
+use Rattle.std.proofs.Common.{◌≡◌, ◌<◌, ◌+◌, ◌-◌, ◌^◌, arith}
 use Rattle.dynamo_record.proofs.Choosing.{left_read, right_read, right_fails}
 use Rattle.dynamo_record.proofs.variant_list.ChoiceVariantList.read.Goals as goal
 
