@@ -37,17 +37,19 @@ impl NamedFields for StructyFields {
     }
 }
 
-type EventVariants =
-    Choice<Choice<Nothing, One<u8>>, Choice<Several<(Field<u8>, Field<u8>)>, Named<StructyFields>>>;
+type EventVariants = Choice<
+    Choice<Nothing, One<u8>>,
+    Choice<Several<(Field<u8>, Field<u8>)>, Named<StructyFields>>,
+>;
 
 impl Enumeration for Event {
     type Variants = EventVariants;
 
     ghost about = { enum_of (codes "Event") (codes "Unit" ∷ codes "Newtype" ∷ codes "Tuple" ∷ codes "Structy" ∷ []) (elim [
-        | is.Unit ↦ Left (Left _)
-        | is.Newtype n ↦ Left (Right (record { 0 = n }))
-        | is.Tuple a b ↦ Right (Left (record { 0 = (record { 0 = a }, record { 0 = b }) }))
-        | is.Structy one two ↦ Right (Right (record { 0 = (record { 0 = one }, record { 0 = two }) }))
+      | is.Unit ↦ Left (Left _)
+      | is.Newtype n ↦ Left (Right (record { 0 = n }))
+      | is.Tuple a b ↦ Right (Left (record { 0 = (record { 0 = a }, record { 0 = b }) }))
+      | is.Structy one two ↦ Right (Right (record { 0 = (record { 0 = one }, record { 0 = two }) }))
     ]) ⟦<EventVariants as VariantList>⟧.about };
 
     ghost named = { (refl, refl) };
