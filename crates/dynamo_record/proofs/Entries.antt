@@ -37,10 +37,13 @@ module _ {X V E : Type 0} (fault : E → Fault) (make : Fields → Datum) (fs : 
       where
         filled : (os : Slots) (e : Entry) (k : List Entry) (lead : LeadsTo answers (reads_on make fs os (e ∷ k)) (reads_on make fs (empty fs) es)) → l3 ≡ k → i ≡ place_in 0 fs e.0 → FillsAt holds i fs os y (attribute e.1) (Ok tt) → SoFar make fs answers holds y l3 es
         filled os e k lead left at fills =
-            let q = after_ok (read_at i fs (attribute e.1)) (λ d (_ : Unit {0}). holds y (fill_at i fs d os)) tt fills in
-            (fill_at i fs q.0 os, q.2, λ r rest. lead r (subst (λ j. After (entry_at fs j os e.1 >>= λ new. reads_on make fs new k) answers r) at
-            (subst (λ a. After (into (λ d. fill_at i fs d os) a >>= λ new. reads_on make fs new k) answers r) (sym q.1)
-            (subst (λ j. After (reads_on make fs (fill_at i fs q.0 os) j) answers r) left rest))))
+            let q = after_ok (read_at i fs (attribute e.1)) (λ d (_ : Unit {0}). holds y (fill_at i fs d os)) tt fills in (
+              fill_at i fs q.0 os,
+              q.2,
+              λ r rest. lead r (subst (λ j. After (entry_at fs j os e.1 >>= λ new. reads_on make fs new k) answers r) at
+                  (subst (λ a. After (into (λ d. fill_at i fs d os) a >>= λ new. reads_on make fs new k) answers r) (sym q.1)
+                  (subst (λ j. After (reads_on make fs (fill_at i fs q.0 os) j) answers r) left rest))),
+            )
 
         along : (k : List Entry) → SoFar make fs answers holds x k es → NextKey fault (NamesOne (place_in 0 fs)) k p l2 p2 (Ok (Some i)) → SoFar make fs answers holds y l3 es
         along [] h a = cc
@@ -83,4 +86,3 @@ module _ {X V E : Type 0} (fault : E → Fault) (make : Fields → Datum) (fs : 
         along : (k : List Entry) → SoFar make fs answers holds x k es → NextKey {V = ℕ} fault (NamesOne (place_in 0 fs)) k p l2 p2 (Ok None) → (os : Slots) × holds x os × ((r : Result V Fault) → After (finish make fs os) answers r → After (reads_on make fs (empty fs) es) answers r)
         along [] h a = (h.0, h.1, h.2)
         along (e ∷ k) h a = absurd a.2
-

@@ -1,9 +1,14 @@
 pub mod Answering
 pub mod BothLists
+pub mod Choosing
+pub mod Chosen
 pub mod Described
 pub mod Entries
+pub mod Inside
+pub mod InsideNamed
 pub mod OneEntry
 pub mod OneField
+pub mod OneVariant
 pub mod Passing
 pub mod Places
 pub mod Structs

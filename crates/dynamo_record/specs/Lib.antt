@@ -1,7 +1,11 @@
 pub mod Behind
+pub mod Contents
 pub mod Entries
+pub mod Enums
 pub mod Fields
 pub mod Flat
+pub mod InOrder
+pub mod Indices
 pub mod Listed
 pub mod Names
 pub mod Newtypes
@@ -9,3 +13,4 @@ pub mod Records
 pub mod Refs
 pub mod Told
 pub mod UnitEnums
+pub mod Variants

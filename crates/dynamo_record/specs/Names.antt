@@ -1,5 +1,6 @@
 -- The names of fields or variants, in order.
 use Rattle.std.specs.Prelude.{ℕ, suc, Bool, true, false, ◌&&◌, ◌||◌, not, List, [], ◌∷◌, bytes_eq, if◌then◌else◌}
+use Rattle.std.proofs.Common.{zero}
 use Rattle.dynamo_de.specs.Source.{Text}
 
 abbrev pub Names : Type 0
@@ -26,3 +27,8 @@ differ (n ∷ ns) = not (is_named ns n) && differ ns
 abbrev pub place_of : ℕ → Names → Text → ℕ
 place_of i [] t = i
 place_of i (n ∷ ns) t = if bytes_eq t n then i else place_of (suc i) ns t
+
+-- the names from this place on
+abbrev pub names_from : ℕ → Names → Names
+names_from zero ns = ns
+names_from (suc i) ns = other_names (names_from i ns)

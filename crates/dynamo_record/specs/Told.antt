@@ -48,7 +48,7 @@ fields_same ns [] (e ∷ es) h = absurd h
 fields_same ns (d ∷ ds) [] h = absurd h
 fields_same ns (d ∷ ds) (e ∷ es) h = (e, named_fields (other_names ns) es, refl, h.0, fields_same (other_names ns) ds es h.1)
 
-data_same : (ns : Names) (ds es : Data) → SameFields (named_fields ns ds) (named_fields ns es) → SameData ds es
+pub data_same : (ns : Names) (ds es : Data) → SameFields (named_fields ns ds) (named_fields ns es) → SameData ds es
 data_same ns [] [] h = tt
 data_same ns [] (e ∷ es) h = absurd (subst IsField h tt)
 data_same ns (d ∷ ds) [] h = absurd (subst IsField (sym h.2) tt)

@@ -47,4 +47,5 @@ impl<T: Shaped> FieldType for T {
 }
 
 /// The field of a struct, a tuple struct or a variant: its value.
+#[derive(Drop)]
 pub struct Field<F: FieldType>(pub F::Value);

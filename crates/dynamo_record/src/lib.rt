@@ -2,22 +2,35 @@
 //! promises of [`Shaped`](dynamo_types::Shaped) without a proof.
 #![tactic(auto)]
 
+mod content;
+mod enumeration;
 mod field;
 mod field_list;
 mod flat_lists;
 mod flat_refs;
+mod named;
 mod names;
 mod newtype;
 mod record;
 mod ref_list;
 mod unit_enum;
 mod unit_struct;
+mod variant_list;
 mod variant_names;
+mod write_enum;
 
+pub use content::{Nothing, One, Several};
+pub use enumeration::{Enumeration, read_enum};
 pub use field::{Field, FieldType};
 pub use field_list::FieldList;
+pub use named::{Named, NamedFields};
 pub use newtype::{read_newtype, write_newtype};
 pub use record::{Record, read_record, record_conforms, write_record};
 pub use ref_list::RefList;
 pub use unit_enum::{UnitEnum, conform_unit_enum, read_unit_enum, variant_at, write_unit_enum};
 pub use unit_struct::read_unit_struct;
+pub use variant_list::{Choice, VariantList};
+pub use write_enum::{
+    named_conform, one_conforms, several_conform, unit_conforms, write_one, write_several,
+    write_struct, write_unit,
+};

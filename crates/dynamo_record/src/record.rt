@@ -150,9 +150,9 @@ fn read_entry<R: Record, A: MapAccess>(
 }
 
 #[derive(Drop)]
-struct RecordVisitor<R> {
-    alloc: Global,
-    of: PhantomData<R>,
+pub(crate) struct RecordVisitor<R> {
+    pub(crate) alloc: Global,
+    pub(crate) of: PhantomData<R>,
 }
 
 impl<R: Record> Visitor for RecordVisitor<R> {

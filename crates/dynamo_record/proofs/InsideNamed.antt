@@ -1,0 +1,108 @@
+-- What is read of the content of a struct variant.
+use Rattle.std.proofs.Common.{[], Option, Some, None, Result, Ok, Err, refl, sym, ap, subst}
+use Rattle.dynamo_value.specs.Av as av
+use Rattle.dynamo_value.specs.Fault.{Fault}
+use Rattle.dynamo_ser.specs.Datum as datum
+use Rattle.dynamo_ser.specs.Datum.{Datum, Fields, Variant}
+use Rattle.dynamo_de.specs.Access.{OfContent}
+use Rattle.dynamo_de.specs.Answer as answer
+use Rattle.dynamo_de.specs.Answer.{Answer, After, ◌>>=◌}
+use Rattle.dynamo_de.specs.Contents.{Parts, by_name, read_entries}
+use Rattle.dynamo_de.specs.Meets.{Meets}
+use Rattle.dynamo_de.specs.Shown.{shown}
+use Rattle.dynamo_de.specs.Source.{Source, attribute, key_text, number_text, plain_text, byte_string}
+use Rattle.dynamo_de.specs.Takes as takes
+use Rattle.dynamo_de.specs.Takes.{Takes}
+use Rattle.dynamo_de.specs.Visitors.{claims_struct, take_parts}
+use Rattle.dynamo_de.specs.declared.request.Request.TheVariants as request
+use Rattle.dynamo_de.proofs.Meets.{meets_more}
+use Rattle.dynamo_de.proofs.Scalars.{unknown}
+use Rattle.dynamo_shape.specs.Conforms.{conform_fields, conforms_content}
+use Rattle.dynamo_shape.specs.Laws.{Answers}
+use Rattle.dynamo_shape.specs.Read.{into, read_field, fields_by_name}
+use Rattle.dynamo_shape.specs.Same.{Same, SameFields}
+use Rattle.dynamo_shape.specs.Shape as shape
+use Rattle.dynamo_shape.specs.Shape.{FieldShapes}
+use Rattle.dynamo_shape.proofs.Answered.{after, stops}
+use Rattle.dynamo_shape.proofs.Results.{value_same}
+use Rattle.dynamo_record.specs.Contents.{about_named, fields_in}
+use Rattle.dynamo_record.specs.Fields.{named_fields}
+use Rattle.dynamo_record.specs.Listed.{AboutList}
+use Rattle.dynamo_record.specs.Names.{Names}
+use Rattle.dynamo_record.specs.Records.{AboutRecord, record_of, record_fields, FromParts, RecordAnswers}
+use Rattle.dynamo_record.specs.Variants.{ReadsInside}
+
+-- ---- the entries are those that a struct is asked for
+
+module _ {V : Type 0} (next : Parts → Result V Fault → Type 0) where
+  abbrev Asked : Source → Result V Fault → Type 0
+  Asked s = takes.Answers (Takes claims_struct (λ x. After (take_parts x) next)) (shown request.Map s)
+
+  abbrev Entries : Source → Result V Fault → Type 0
+  Entries s = After (read_entries s) (λ es. next (by_name es))
+
+  entries_from : (s : Source) (r : Result V Fault) → Asked s r → Entries s r
+  entries_from (attribute (av.M ms)) r h = h
+  entries_from (attribute _) r h = h
+  entries_from (key_text t) r h = h
+  entries_from (number_text t) r h = unknown claims_struct (λ x. After (take_parts x) next) (λ es. next (by_name es)) refl refl refl t r h
+  entries_from (plain_text t) r h = h
+  entries_from (byte_string bytes) r h = h
+
+  of_content : (c : Option Source) (r : Result V Fault) → OfContent Asked c r → OfContent Entries c r
+  of_content None r h = h
+  of_content (Some s) r h = entries_from s r h
+
+  pub named_content : {E : Type 0} (fault : E → Fault) (c : Option Source) (r : Result V E) → Meets fault (OfContent Asked c) r → Meets fault (OfContent Entries c) r
+  named_content fault c r h = meets_more fault (OfContent Asked c) (OfContent Entries c) (of_content c) r h
+
+-- ---- and the fields are those of the struct without a name that they would be
+
+module _ {C L : Type 0} (names : Names) (list : C → L) (l : AboutList L) (v : Variant) where
+  abbrev Struct : AboutRecord C L
+  Struct = record_of [] names list l
+
+  abbrev Told : C → Fields
+  Told w = named_fields names (l.told (list w) [])
+
+  abbrev FieldAnswers : Answer Fields → Result C Fault → Type 0
+  FieldAnswers = Answers (conform_fields (record_fields Struct)) SameFields Told
+
+  abbrev by_names : FieldShapes → Source → Answer Fields
+  by_names fs s = read_entries s >>= fields_by_name fs (read_field fs)
+
+  fields_answered : (a : Answer Fields) (r : Result C Fault) → RecordAnswers Struct (into (datum.struct []) a) r → FieldAnswers a r
+  fields_answered (answer.value gs) (Ok w) h = (
+    gs,
+    refl,
+    λ c.
+        let e = h.2 (Told w, refl, c) in
+        let k = subst (λ d. Same d (datum.struct [] (Told w))) (sym (value_same h.1)) e in
+        subst (SameFields gs) (sym (ap fields_in k.1)) k.2,
+  )
+  fields_answered (answer.value gs) (Err f) h = h
+  fields_answered (answer.fault g) (Ok w) h = cc
+  fields_answered (answer.fault g) (Err f) h = h
+  fields_answered answer.refused (Ok w) h = cc
+  fields_answered answer.refused (Err f) h = h
+
+  entries_answered : (s : Source) (r : Result C Fault) → After (read_entries s) (λ es. FromParts Struct (by_name es)) r → FieldAnswers (by_names (record_fields Struct) s) r
+  entries_answered s r h =
+      after (conform_fields (record_fields Struct)) SameFields Told (λ es. FromParts Struct (by_name es)) (fields_by_name (record_fields Struct) (read_field (record_fields Struct)))
+      (λ es r k. fields_answered (fields_by_name (record_fields Struct) (read_field (record_fields Struct)) es) r k) (read_entries s) r h
+
+  in_variant : (a : Answer Fields) (r : Result C Fault) → FieldAnswers a r → Answers (conforms_content (shape.named (record_fields Struct)) v) Same (λ w. datum.struct_variant v (Told w)) (into (datum.struct_variant v) a) r
+  in_variant a (Ok w) h = (
+    datum.struct_variant v h.0,
+    ap (into (datum.struct_variant v)) h.1,
+    λ c. (Told w, refl, h.2 (subst (conform_fields (record_fields Struct)) (sym (ap fields_in c.1)) c.2)),
+  )
+  in_variant a (Err f) h = stops SameFields Same a (λ gs. answer.value (datum.struct_variant v gs)) f h
+
+  inside : (c : Option Source) (r : Result C Fault) → OfContent (λ s. After (read_entries s) (λ es. FromParts Struct (by_name es))) c r → ReadsInside (about_named names list l).shape (about_named names list l).told v c r
+  inside None (Ok w) h = absurd h
+  inside None (Err f) h = h
+  inside (Some s) r h = in_variant (by_names (record_fields Struct) s) r (entries_answered s r h)
+
+  pub named_read : {E : Type 0} (fault : E → Fault) (c : Option Source) (r : Result C E) → Meets fault (OfContent (λ s. After (read_entries s) (λ es. FromParts Struct (by_name es))) c) r → Meets fault (ReadsInside (about_named names list l).shape (about_named names list l).told v c) r
+  named_read fault c r h = meets_more fault (OfContent (λ s. After (read_entries s) (λ es. FromParts Struct (by_name es))) c) (ReadsInside (about_named names list l).shape (about_named names list l).told v c) (inside c) r h

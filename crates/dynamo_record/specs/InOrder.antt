@@ -1,0 +1,55 @@
+-- Fields in order, as the elements of a tuple.
+use Rattle.std.specs.Prelude.{List, [], ◌∷◌, Result, ⊤}
+use Rattle.std.proofs.Common.{refl, sym, ap, subst}
+use Rattle.dynamo_value.specs.Fault.{Fault}
+use Rattle.dynamo_ser.specs.Datum as datum
+use Rattle.dynamo_ser.specs.Datum.{Datum, Elements, elements_of}
+use Rattle.dynamo_de.specs.Source.{Source}
+use Rattle.dynamo_shape.specs.Conforms.{conforms, conform_each}
+use Rattle.dynamo_shape.specs.Laws.{Answers}
+use Rattle.dynamo_shape.specs.Same.{Same, SameElements}
+use Rattle.dynamo_record.specs.Fields.{ConformEach, SameData, shapes_of, read_fields}
+use Rattle.dynamo_record.specs.Listed.{AboutList, Shapes, Data}
+
+abbrev first_element : Elements → Datum
+first_element (datum.element d ds) = d
+first_element datum.no_elements = datum.unit
+
+abbrev other_elements : Elements → Elements
+other_elements (datum.element d ds) = ds
+other_elements datum.no_elements = datum.no_elements
+
+abbrev IsElement : Elements → Type 0
+IsElement (datum.element d ds) = ⊤
+IsElement datum.no_elements = ⊥
+
+pub each_element : (ss : Shapes) (ds : Data) → conform_each (shapes_of ss) (elements_of ds) → ConformEach ss ds
+each_element [] [] c = tt
+each_element [] (d ∷ ds) c = absurd (subst IsElement c tt)
+each_element (s ∷ ss) [] c = absurd (subst IsElement (sym c.2) tt)
+each_element (s ∷ ss) (d ∷ ds) c = (
+  subst (conforms s) (sym (ap first_element c.2)) c.3,
+  each_element ss ds (subst (conform_each (shapes_of ss)) (sym (ap other_elements c.2)) c.4),
+)
+
+pub elements_conform : (ss : Shapes) (ds : Data) → ConformEach ss ds → conform_each (shapes_of ss) (elements_of ds)
+elements_conform [] [] c = refl
+elements_conform [] (d ∷ ds) c = absurd c
+elements_conform (s ∷ ss) [] c = absurd c
+elements_conform (s ∷ ss) (d ∷ ds) c = (d, elements_of ds, refl, c.0, elements_conform ss ds c.1)
+
+pub elements_same : (ds es : Data) → SameData ds es → SameElements (elements_of ds) (elements_of es)
+elements_same [] [] h = refl
+elements_same [] (e ∷ es) h = absurd h
+elements_same (d ∷ ds) [] h = absurd h
+elements_same (d ∷ ds) (e ∷ es) h = (e, elements_of es, refl, h.0, elements_same ds es h.1)
+
+pub same_each : (ds es : Data) → SameElements (elements_of ds) (elements_of es) → SameData ds es
+same_each [] [] h = tt
+same_each [] (e ∷ es) h = absurd (subst IsElement h tt)
+same_each (d ∷ ds) [] h = absurd (subst IsElement (sym h.2) tt)
+same_each (d ∷ ds) (e ∷ es) h = (subst (Same d) (sym (ap first_element h.2)) h.3, same_each ds es (subst (SameElements (elements_of ds)) (sym (ap other_elements h.2)) h.4))
+
+-- what may be answered on the elements of a tuple: what reading the fields in order gives
+abbrev pub ReadsInOrder : {L : Type 0} → AboutList L → List Source → Result L Fault → Type 0
+ReadsInOrder a xs r = Answers (ConformEach (a.shapes [])) SameData (λ v. a.told v []) (read_fields (a.shapes []) xs) r

@@ -1,0 +1,116 @@
+ghost use Rattle.dynamo_de.specs.Answer.{After};
+ghost use Rattle.dynamo_de.specs.Visitors.{claims_seq, take_elements};
+ghost use Rattle.dynamo_record.specs.Contents.{about_nothing, about_one, about_several};
+ghost use Rattle.dynamo_record.specs.InOrder.{ReadsInOrder};
+ghost use Rattle.dynamo_record.specs.Variants.{about_content};
+
+use crate::{FieldList, FieldType, VariantList};
+use dynamo_de::{Error, Kind, SeqAccess, VariantAccess, Visitor};
+use std::alloc::Global;
+use std::marker::PhantomData;
+
+/// The content of a unit variant.
+#[derive(Clone, Copy)]
+pub struct Nothing;
+
+impl VariantList for Nothing {
+    ghost about = { about_content about_nothing };
+
+    fn count() -> usize {
+        1
+    }
+
+    fn read<A: VariantAccess>(
+        _place: usize,
+        content: A,
+        _alloc: Global,
+    ) -> Result<Nothing, A::Error> {
+        content.unit_variant()?;
+        Ok(Nothing)
+    }
+}
+
+/// The content of a newtype variant.
+pub struct One<F: FieldType>(pub F::Value);
+
+impl<F: FieldType> VariantList for One<F> {
+    ghost about = { about_content (about_one (λ x. x.0) F.about) };
+
+    fn count() -> usize {
+        1
+    }
+
+    fn read<A: VariantAccess>(
+        _place: usize,
+        content: A,
+        alloc: Global,
+    ) -> Result<One<F>, A::Error> {
+        match content.newtype_variant::<F::Value>(alloc) {
+            Ok(value) => Ok(One(value)),
+            Err(error) => Err(error),
+        }
+    }
+}
+
+/// The content of a tuple variant.
+pub struct Several<L>(pub L);
+
+impl<L: FieldList + Drop> VariantList for Several<L> {
+    ghost about = { about_content (about_several (λ x. x.0) L.about) };
+
+    fn count() -> usize {
+        1
+    }
+
+    fn read<A: VariantAccess>(
+        _place: usize,
+        content: A,
+        alloc: Global,
+    ) -> Result<Several<L>, A::Error> {
+        let visitor = ElementsVisitor::<L> {
+            alloc,
+            of: PhantomData,
+        };
+        match content.tuple_variant(L::count(), visitor) {
+            Ok(fields) => Ok(Several(fields)),
+            Err(error) => Err(error),
+        }
+    }
+}
+
+/// Why a sequence is no content of a tuple variant.
+const TOO_FEW: &str = "invalid length: too few elements, expected tuple variant";
+
+#[derive(Drop)]
+struct ElementsVisitor<L> {
+    alloc: Global,
+    of: PhantomData<L>,
+}
+
+impl<L: FieldList + Drop> Visitor for ElementsVisitor<L> {
+    type Value = L;
+
+    ghost claimed = { λ _. claims_seq };
+
+    ghost takes = { λ _ s. After (take_elements s) (ReadsInOrder L.about) };
+
+    fn expecting(&self) -> &'static str {
+        "tuple variant"
+    }
+
+    fn alloc(&self) -> Global {
+        self.alloc
+    }
+
+    fn claims(&self, kind: Kind) -> bool {
+        matches!(kind, Kind::Seq)
+    }
+
+    fn visit_seq<A: SeqAccess>(self, mut seq: A) -> Result<L, A::Error> {
+        match L::read_in_order(&mut seq, self.alloc) {
+            Ok(Some(fields)) => Ok(fields),
+            Ok(None) => Err(A::Error::custom(self.alloc, TOO_FEW)),
+            Err(error) => Err(error),
+        }
+    }
+}

@@ -1,0 +1,88 @@
+ghost use Rattle.std.specs.Prelude.{◌≡◌, [], map, true, length};
+ghost use Rattle.dynamo_de.specs.Access.{OfContent};
+ghost use Rattle.dynamo_de.specs.Answer.{After};
+ghost use Rattle.dynamo_de.specs.Contents.{by_name, read_entries};
+ghost use Rattle.dynamo_de.specs.Meets.{Meets};
+ghost use Rattle.dynamo_record.specs.Contents.{about_named};
+ghost use Rattle.dynamo_record.specs.Names.{Names, differ};
+ghost use Rattle.dynamo_record.specs.Records.{record_of, listed, FromParts};
+ghost use Rattle.dynamo_record.specs.Variants.{about_content};
+
+use crate::record::RecordVisitor;
+use crate::{FieldList, Record, VariantList};
+use dynamo_de::VariantAccess;
+use std::alloc::Global;
+use std::marker::PhantomData;
+
+/// The fields of a struct variant, described by their list.
+pub trait NamedFields {
+    /// The types of the fields, as `(Field<String>, Field<u8>)`.
+    type Fields: FieldList + Drop;
+
+    // The names of the fields.
+    ghost names: { Names };
+
+    /// The names of the fields, as they are stored.
+    fn names() -> &'static [&'static str]
+        ensures { map (λ n. n.now) result.now ≡ names };
+
+    // No two fields have one name, and each has one.
+    ghost named: { (differ names ≡ true) × (length names ≡ length (Self.Fields.about.shapes [])) };
+}
+
+/// The content of a struct variant.
+#[derive(Drop)]
+pub struct Named<N: NamedFields>(pub N::Fields);
+
+impl<N: NamedFields> Record for Named<N> {
+    type Fields = N::Fields;
+
+    ghost about = { record_of [] N.names (λ v. v.0) N.Fields.about };
+
+    ghost named = { N.named };
+
+    fn name() -> &'static str {
+        ""
+    }
+
+    fn expecting() -> &'static str {
+        "struct variant"
+    }
+
+    fn names() -> &'static [&'static str] {
+        N::names()
+    }
+
+    fn make(fields: N::Fields) -> Named<N> {
+        Named(fields)
+    }
+}
+
+/// Reads the content of a struct variant as the struct of these fields.
+fn read_named<R: Record, A: VariantAccess>(alloc: Global, content: A) -> Result<R, A::Error>
+    ensures { Meets A.Error.fault (OfContent (λ s. After (read_entries s) (λ es. FromParts (listed R.about R.Fields.about) (by_name es))) (A.content content)) result }
+{
+    content.struct_variant(
+        R::names(),
+        RecordVisitor::<R> {
+            alloc,
+            of: PhantomData,
+        },
+    )
+}
+
+impl<N: NamedFields> VariantList for Named<N> {
+    ghost about = { about_content (about_named N.names (λ v. v.0) N.Fields.about) };
+
+    fn count() -> usize {
+        1
+    }
+
+    fn read<A: VariantAccess>(
+        _place: usize,
+        content: A,
+        alloc: Global,
+    ) -> Result<Named<N>, A::Error> {
+        read_named::<Named<N>, A>(alloc, content)
+    }
+}

@@ -1,5 +1,0 @@
-//! Structs that a user writes.
-#![tactic(auto)]
-
-pub mod station;
-pub mod stored;
