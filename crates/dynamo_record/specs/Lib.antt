@@ -2,6 +2,7 @@ pub mod Behind
 pub mod Contents
 pub mod Entries
 pub mod Enums
+pub mod FieldTypes
 pub mod Fields
 pub mod Flat
 pub mod InOrder

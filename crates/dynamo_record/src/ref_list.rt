@@ -1,9 +1,12 @@
 ghost use Rattle.std.specs.Prelude.{◌∷◌, map};
+ghost use Rattle.dynamo_ser.specs.Symbols.{strings, numbers, blobs};
+ghost use Rattle.dynamo_shape.specs.Shape.{set};
+ghost use Rattle.dynamo_record.specs.FieldTypes.{set_tells};
 ghost use Rattle.dynamo_record.specs.Listed.{Shapes, Data};
 ghost use Rattle.dynamo_record.specs.Refs.{PutsFields, PutsElements, ConformFront};
 
 use crate::names::first_of;
-use dynamo_ser::{ListBuilder, Serializer, StructBuilder};
+use dynamo_ser::{BinarySet, ListBuilder, NumberSet, Serializer, StringSet, StructBuilder};
 use dynamo_types::Shaped;
 
 /// The fields of a value by reference, in the order of its [`FieldList`](crate::FieldList): one reference, or a pair of lists.
@@ -94,5 +97,86 @@ impl<L: RefList, R: RefList> RefList for (L, R) {
     fn conform(&self) {
         self.0.conform();
         self.1.conform();
+    }
+}
+
+impl<'a, T: Shaped> RefList for StringSet<&'a Vec<T>> {
+    ghost shapes = { λ ss. set strings T.about.shape ∷ ss };
+
+    ghost told = { λ value ds. set_tells strings T.about.tells value.0.now ∷ ds };
+
+    fn write_fields<S: Serializer, B: StructBuilder<S, Ok = S::Ok, Error = S::Error>>(
+        &self,
+        names: &'static [&'static str],
+        builder: &mut B,
+    ) -> Result<&'static [&'static str], S::Error> {
+        let (name, others) = first_of(names);
+        builder.add_field::<StringSet<&'a Vec<T>>>(name, self)?;
+        Ok(others)
+    }
+
+    fn write_elements<S: Serializer, B: ListBuilder<S, Ok = S::Ok, Error = S::Error>>(
+        &self,
+        builder: &mut B,
+    ) -> Result<(), S::Error> {
+        builder.add_element::<StringSet<&'a Vec<T>>>(self)
+    }
+
+    fn conform(&self) {
+        self.0.conforms();
+    }
+}
+
+impl<'a, T: Shaped> RefList for NumberSet<&'a Vec<T>> {
+    ghost shapes = { λ ss. set numbers T.about.shape ∷ ss };
+
+    ghost told = { λ value ds. set_tells numbers T.about.tells value.0.now ∷ ds };
+
+    fn write_fields<S: Serializer, B: StructBuilder<S, Ok = S::Ok, Error = S::Error>>(
+        &self,
+        names: &'static [&'static str],
+        builder: &mut B,
+    ) -> Result<&'static [&'static str], S::Error> {
+        let (name, others) = first_of(names);
+        builder.add_field::<NumberSet<&'a Vec<T>>>(name, self)?;
+        Ok(others)
+    }
+
+    fn write_elements<S: Serializer, B: ListBuilder<S, Ok = S::Ok, Error = S::Error>>(
+        &self,
+        builder: &mut B,
+    ) -> Result<(), S::Error> {
+        builder.add_element::<NumberSet<&'a Vec<T>>>(self)
+    }
+
+    fn conform(&self) {
+        self.0.conforms();
+    }
+}
+
+impl<'a, T: Shaped> RefList for BinarySet<&'a Vec<T>> {
+    ghost shapes = { λ ss. set blobs T.about.shape ∷ ss };
+
+    ghost told = { λ value ds. set_tells blobs T.about.tells value.0.now ∷ ds };
+
+    fn write_fields<S: Serializer, B: StructBuilder<S, Ok = S::Ok, Error = S::Error>>(
+        &self,
+        names: &'static [&'static str],
+        builder: &mut B,
+    ) -> Result<&'static [&'static str], S::Error> {
+        let (name, others) = first_of(names);
+        builder.add_field::<BinarySet<&'a Vec<T>>>(name, self)?;
+        Ok(others)
+    }
+
+    fn write_elements<S: Serializer, B: ListBuilder<S, Ok = S::Ok, Error = S::Error>>(
+        &self,
+        builder: &mut B,
+    ) -> Result<(), S::Error> {
+        builder.add_element::<BinarySet<&'a Vec<T>>>(self)
+    }
+
+    fn conform(&self) {
+        self.0.conforms();
     }
 }
