@@ -1,5 +1,5 @@
 -- A struct is read by the list of its fields as its shape says.
-use Rattle.std.proofs.Common.{◌≡◌, ℕ, zero, suc, true, false, List, [], ◌∷◌, Option, Some, None, Result, Ok, Err, length, ◌<◌, ◌≤◌, refl, sym, ap, subst, ◌∙◌, arith}
+use Rattle.std.proofs.Common.{◌≡◌, ℕ, zero, suc, true, false, List, [], ◌∷◌, Some, None, Result, Ok, Err, length, ◌<◌, ◌≤◌, refl, sym, ap, subst, ◌∙◌, arith}
 use Rattle.std.specs.Prelude.{Bool, ◌&&◌, ◌||◌, not, bytes_eq, if◌then◌else◌}
 use Rattle.std.proofs.lemmas.Bool.{true≢false}
 use Rattle.dynamo_value.specs.Fault.{Fault}
@@ -22,7 +22,7 @@ use Rattle.dynamo_shape.proofs.ByHand.{same_next}
 use Rattle.dynamo_shape.proofs.FieldsByName.{Slots, first_slot, other_slots, fill_slot, empty, close, NamesDiffer}
 use Rattle.dynamo_record.specs.Entries.{fields_from, fill_one, read_at, fill_at, reads_on}
 use Rattle.dynamo_record.specs.Fields.{ConformEach, SameData, Defaults, first_default, other_defaults, field_shapes, named_fields, read_fields, read_nth, unread, complete}
-use Rattle.dynamo_record.specs.Listed.{Shapes, Data, Makes, AlikeFront}
+use Rattle.dynamo_record.specs.Listed.{Shapes, Data, Makes}
 use Rattle.dynamo_record.specs.Names.{Names, first_name, other_names, is_named, differ, place_of}
 use Rattle.dynamo_record.specs.Records.{AboutRecord, record_fields, record_told, record_tells, record_shape, record_reads, RecordAnswers, FromParts, IsAlike, place_in}
 use Rattle.dynamo_record.specs.Told.{each, fields_same}
@@ -152,8 +152,12 @@ module _ {V L : Type 0} (a : AboutRecord V L) where
       let front = h.0 [] in (
         datum.struct a.name (named_fields a.names front),
         rw h.1 refl,
-        λ c. (record_told a v, refl, fields_same a.names front (a.list.told (a.parts v) []) (subst (λ l. ConformEach (a.list.shapes []) (a.list.told l []) → SameData front (a.list.told l [])) (sym e) (λ k. h.2 [] [] [] k (λ _. tt))
-        (each a.name a.names (a.list.shapes []) (a.list.defaults []) (λ v. a.list.told (a.parts v) []) (λ _ _. Unit {0}) v c))),
+        λ c. (
+          record_told a v,
+          refl,
+          fields_same a.names front (a.list.told (a.parts v) []) (subst (λ l. ConformEach (a.list.shapes []) (a.list.told l []) → SameData front (a.list.told l [])) (sym e) (λ k. h.2 [] [] [] k (λ _. tt))
+              (each a.name a.names (a.list.shapes []) (a.list.defaults []) (λ v. a.list.told (a.parts v) []) (λ _ _. Unit {0}) v c)),
+        ),
       )
 
   pub struct_missed : (x : Answer Data) (f : Fault) → Makes {L = L} a.list.shapes a.list.told x (answer.value []) None → IsMessage {V = V} (Err f) → RecordAnswers a (answer_of x) (Err f)

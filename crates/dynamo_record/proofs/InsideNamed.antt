@@ -31,6 +31,7 @@ use Rattle.dynamo_record.specs.Listed.{AboutList}
 use Rattle.dynamo_record.specs.Names.{Names}
 use Rattle.dynamo_record.specs.Records.{AboutRecord, record_of, record_fields, FromParts, RecordAnswers}
 use Rattle.dynamo_record.specs.Variants.{ReadsInside}
+use Rattle.dynamo_record.proofs.Answering.{after_given}
 
 -- ---- the entries are those that a struct is asked for
 
@@ -55,6 +56,11 @@ module _ {V : Type 0} (next : Parts → Result V Fault → Type 0) where
 
   pub named_content : {E : Type 0} (fault : E → Fault) (c : Option Source) (r : Result V E) → Meets fault (OfContent Asked c) r → Meets fault (OfContent Entries c) r
   named_content fault c r h = meets_more fault (OfContent Asked c) (OfContent Entries c) (of_content c) r h
+
+-- what is read on a condition that holds
+pub named_given : {V E : Type 0} (C : Type 0) (P : Parts → Result V Fault → Type 0) (fault : E → Fault) (c : Option Source) (r : Result V E) → C → Meets fault (OfContent (λ s. After (read_entries s) (λ es r. C → P (by_name es) r)) c) r → Meets fault (OfContent (λ s. After (read_entries s) (λ es. P (by_name es))) c) r
+named_given C P fault None r k h = h
+named_given C P fault (Some s) r k h = meets_more fault (After (read_entries s) (λ es r. C → P (by_name es) r)) (After (read_entries s) (λ es. P (by_name es))) (after_given C (read_entries s) (λ es. P (by_name es)) k) r h
 
 -- ---- and the fields are those of the struct without a name that they would be
 

@@ -1,5 +1,5 @@
 -- One entry of a struct: it fills the field of its name, or is ignored.
-use Rattle.std.proofs.Common.{◌≡◌, ℕ, List, [], Option, Some, None, Result, Ok, Err, length, ◌<◌, ◌≤◌, refl, sym, ap, subst, inl, inr}
+use Rattle.std.proofs.Common.{ℕ, List, [], Option, Some, None, Result, Ok, Err, length, ◌<◌, ◌≤◌, sym, ap, subst}
 use Rattle.dynamo_value.specs.Fault.{Fault}
 use Rattle.dynamo_ser.specs.Datum as datum
 use Rattle.dynamo_ser.specs.Datum.{Datum}
@@ -13,7 +13,7 @@ use Rattle.dynamo_shape.specs.Read.{into}
 use Rattle.dynamo_shape.proofs.FieldsByName.{Slots, fill_slot}
 use Rattle.dynamo_shape.proofs.Scalars.{no_fault, same_fault}
 use Rattle.dynamo_record.specs.Entries.{read_one, fill_one, read_at, FillsAt}
-use Rattle.dynamo_record.specs.Fields.{Defaults, field_shapes, read_nth}
+use Rattle.dynamo_record.specs.Fields.{Defaults, field_shapes}
 use Rattle.dynamo_record.specs.Listed.{Shapes, Holds, Fills, IfRead}
 use Rattle.dynamo_record.specs.Names.{Names}
 use Rattle.dynamo_record.proofs.Answering.{value_taken, value_refused}

@@ -1,5 +1,5 @@
 -- Names passed one after another, until one is found.
-use Rattle.std.proofs.Common.{◌≡◌, ℕ, suc, List, [], ◌∷◌, true, false, Bool, length, ◌<◌, ◌≤◌, drop, get_or, map, refl, sym, ap, subst, ◌∙◌, arith, ◌+◌}
+use Rattle.std.proofs.Common.{◌≡◌, ℕ, suc, List, ◌∷◌, true, false, length, ◌<◌, ◌≤◌, drop, get_or, map, sym, ap, subst, ◌∙◌, arith, ◌+◌}
 use Rattle.std.specs.Prelude.{bytes_eq, if◌then◌else◌}
 use Rattle.std.proofs.Math.Seq.{drop-cons}
 use Rattle.std.proofs.Math.ListN.{drop_of_length-le}
@@ -21,6 +21,7 @@ module _ {A : Type 0} (f : A → Text) (xs : List A) (i : ℕ) (d : A) (t : Text
 
   pub name_passed : i < length xs → false ≡ bytes_eq t (f (get_or xs i d)) → all ≡ place_of (i + 1) (map f (drop (i + 1) xs)) t
   name_passed h e = subst (λ j. all ≡ place_of j (map f (drop j xs)) t) next (passed h e)
+
   same : length xs ≤ i → i ≤ length xs → length xs ≡ i
   same h k = omega arith
 

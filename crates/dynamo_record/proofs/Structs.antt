@@ -1,5 +1,5 @@
 -- A described struct, entry by entry.
-use Rattle.std.proofs.Common.{◌≡◌, ◌⊎◌, ℕ, List, [], Option, Some, None, Result, Ok, Err, length, ◌<◌, refl, sym, ap, subst, ◌∙◌, inl, inr}
+use Rattle.std.proofs.Common.{◌≡◌, ℕ, List, [], Option, Some, None, Result, Ok, Err, length, ◌<◌, sym, subst, inl, inr}
 use Rattle.dynamo_value.specs.Fault.{Fault, out_of_memory}
 use Rattle.dynamo_ser.specs.Datum as datum
 use Rattle.dynamo_de.specs.Access.{NextKey, NextValue}
@@ -8,13 +8,12 @@ use Rattle.dynamo_de.specs.Answer.{Answer, After}
 use Rattle.dynamo_de.specs.Contents.{by_name, in_order}
 use Rattle.dynamo_de.specs.Fields.{NamesOne}
 use Rattle.dynamo_de.specs.Meets.{Meets, IsMessage}
-use Rattle.dynamo_de.specs.Source.{Source, Text, Entry}
-use Rattle.dynamo_shape.specs.Permits.{Permits}
+use Rattle.dynamo_de.specs.Source.{Source, Entry}
 use Rattle.dynamo_shape.specs.Read.{into}
-use Rattle.dynamo_shape.proofs.FieldsByName.{Slots, NamesDiffer, close}
+use Rattle.dynamo_shape.proofs.FieldsByName.{Slots}
 use Rattle.dynamo_record.specs.Entries.{FillsAt, finish, StructSoFar}
-use Rattle.dynamo_record.specs.Fields.{SameData, unread, complete, read_fields}
-use Rattle.dynamo_record.specs.Listed.{Data, Holds, Makes, MakesOrLacks, MakesOrFails}
+use Rattle.dynamo_record.specs.Fields.{unread, complete, read_fields}
+use Rattle.dynamo_record.specs.Listed.{Data, Holds, MakesOrLacks, MakesOrFails}
 use Rattle.dynamo_record.specs.Names.{place_of}
 use Rattle.dynamo_record.specs.Records.{AboutRecord, AreNamed, record_fields, FromParts, RecordAnswers, IsAlike, place_in}
 use Rattle.dynamo_record.proofs.Described.{names_differ, place_named, empty_unread, close_complete, in_order_listed, answer_of, struct_made, struct_missed, struct_fails, after_struct, by_entries}

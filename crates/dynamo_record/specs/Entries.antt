@@ -1,5 +1,5 @@
 -- The entries of a map, read one after another as the fields of a struct.
-use Rattle.std.specs.Prelude.{◌≡◌, ℕ, suc, List, [], ◌∷◌, Result, Ok, Err}
+use Rattle.std.specs.Prelude.{ℕ, suc, List, [], Result}
 use Rattle.std.proofs.Common.{zero}
 use Rattle.dynamo_value.specs.Av.{Av}
 use Rattle.dynamo_value.specs.Fault.{Fault}

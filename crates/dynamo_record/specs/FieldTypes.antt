@@ -1,5 +1,5 @@
 -- How fields are stored otherwise than as their own values: lists as sets, and a missing field as its default.
-use Rattle.std.specs.Prelude.{◌≡◌, Option, Some, None, Result, Ok, Err}
+use Rattle.std.specs.Prelude.{◌≡◌, Result, Ok, Err}
 use Rattle.std.proofs.Common.{refl, ap, subst}
 use Rattle.std.specs.declared.alloc.Global.{Global}
 use Rattle.std.specs.declared.vec.Vec.{Vec}
@@ -37,7 +37,7 @@ about_set k a = record {
   tells = set_tells k a.tells;
   same = λ v w. SameEach a.same v.items w.items;
   told_by_value = set_told k a.shape a.tells a.same a.told_by_value;
-  told_alike = set_alike k a.shape a.tells a.same a.told_alike
+  told_alike = set_alike k a.shape a.tells a.same a.told_alike;
 }
 
 abbrev content_in : Datum → Datum

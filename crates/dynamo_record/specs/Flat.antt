@@ -1,5 +1,4 @@
 -- Lists of several lists, known as the pairs of their halves.
-use Rattle.std.specs.Prelude.{ℕ}
 use Rattle.dynamo_record.specs.Listed.{AboutList, about_both}
 
 -- a list that is another one, put otherwise
@@ -11,7 +10,7 @@ about_as as' l = record {
   told = λ w. l.told (as' w);
   same = λ v w. l.same (as' v) (as' w);
   told_by_value = λ v w. l.told_by_value (as' v) (as' w);
-  told_alike = λ v w. l.told_alike (as' v) (as' w)
+  told_alike = λ v w. l.told_alike (as' v) (as' w);
 }
 
 abbrev pub about_four : {A B C D : Type 0} → AboutList A → AboutList B → AboutList C → AboutList D → AboutList (A × B × C × D)

@@ -1,6 +1,6 @@
 -- Structs that are described by the list of their fields.
-use Rattle.std.specs.Prelude.{◌≡◌, ◌⊎◌, ℕ, suc, Bool, true, ◌&&◌, not, List, [], ◌∷◌, Option, Some, None, Result, Ok, Err, bytes_eq, if◌then◌else◌}
-use Rattle.std.proofs.Common.{zero, length}
+use Rattle.std.specs.Prelude.{◌≡◌, ℕ, suc, true, [], Result, bytes_eq, if◌then◌else◌}
+use Rattle.std.proofs.Common.{length}
 use Rattle.dynamo_value.specs.Fault.{Fault}
 use Rattle.dynamo_ser.specs.Datum as datum
 use Rattle.dynamo_ser.specs.Datum.{Datum, Fields}
@@ -72,12 +72,20 @@ module _ {V L : Type 0} (a : AboutRecord V L) where
     tells = record_tells;
     same = record_same;
     told_by_value = struct_told a.name a.names (a.list.shapes []) (a.list.defaults []) (λ v. a.list.told (a.parts v) []) record_same (λ v w c d h. (a.list.told_by_value (a.parts v) (a.parts w) [] [] [] c d h).0);
-    told_alike = struct_alike a.name a.names (a.list.shapes []) (a.list.defaults []) (λ v. a.list.told (a.parts v) []) record_same (λ v w c d h. a.list.told_alike (a.parts v) (a.parts w) [] [] [] c d h (λ _ _. tt))
+    told_alike = struct_alike a.name a.names (a.list.shapes []) (a.list.defaults []) (λ v. a.list.told (a.parts v) []) record_same (λ v w c d h. a.list.told_alike (a.parts v) (a.parts w) [] [] [] c d h (λ _ _. tt));
   }
 
   -- No two fields have one name, and each has one.
   abbrev pub AreNamed : Type 0
   AreNamed = (differ a.names ≡ true) × (length a.names ≡ length (a.list.shapes []))
+
+-- a list of fields as long as that of the description
+abbrev pub AsLong : {V L : Type 0} → AboutRecord V L → AboutList L → Type 0
+AsLong a list = length (a.list.shapes []) ≡ length (list.shapes [])
+
+-- what may be answered on the parts of a struct, by a list of fields that is as long
+abbrev pub FromPartsOf : {V L : Type 0} → AboutRecord V L → AboutList L → Parts → Result V Fault → Type 0
+FromPartsOf a list p r = AsLong a list → FromParts (listed a list) p r
 
 -- the place of the first field of this name, where the first has place i; of another name the place behind the last
 abbrev pub place_in : ℕ → FieldShapes → Text → ℕ

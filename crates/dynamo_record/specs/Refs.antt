@@ -1,5 +1,5 @@
 -- What is written of fields by reference, in front of whatever follows.
-use Rattle.std.specs.Prelude.{ℕ, List, Result, Ok, Err}
+use Rattle.std.specs.Prelude.{Result, Ok, Err}
 use Rattle.dynamo_ser.specs.Datum.{Fields, Elements, elements_of}
 use Rattle.dynamo_record.specs.Fields.{ConformEach, named_fields}
 use Rattle.dynamo_record.specs.Listed.{Shapes, Data}

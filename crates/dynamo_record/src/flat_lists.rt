@@ -8,9 +8,7 @@ use crate::FieldList;
 use dynamo_de::{Error, MapAccess, SeqAccess};
 use std::alloc::Global;
 
-impl<A: FieldList, B: FieldList, C: FieldList, D: FieldList> FieldList
-    for (A, B, C, D)
-{
+impl<A: FieldList, B: FieldList, C: FieldList, D: FieldList> FieldList for (A, B, C, D) {
     type Slots = ((A::Slots, B::Slots), (C::Slots, D::Slots));
 
     ghost about = { about_four A.about B.about C.about D.about };
@@ -82,10 +80,20 @@ impl<A: FieldList, B: FieldList, C: FieldList, D: FieldList> FieldList
     }
 }
 
-impl<A: FieldList, B: FieldList, C: FieldList, D: FieldList, E: FieldList, F: FieldList, G: FieldList, H: FieldList> FieldList
-    for (A, B, C, D, E, F, G, H)
-{
-    type Slots = (((A::Slots, B::Slots), (C::Slots, D::Slots)), ((E::Slots, F::Slots), (G::Slots, H::Slots)));
+impl<
+    A: FieldList,
+    B: FieldList,
+    C: FieldList,
+    D: FieldList,
+    E: FieldList,
+    F: FieldList,
+    G: FieldList,
+    H: FieldList,
+> FieldList for (A, B, C, D, E, F, G, H) {
+    type Slots = (
+        ((A::Slots, B::Slots), (C::Slots, D::Slots)),
+        ((E::Slots, F::Slots), (G::Slots, H::Slots)),
+    );
 
     ghost about = { about_eight A.about B.about C.about D.about E.about F.about G.about H.about };
 
@@ -101,12 +109,18 @@ impl<A: FieldList, B: FieldList, C: FieldList, D: FieldList, E: FieldList, F: Fi
         <((A, B, C, D), (E, F, G, H)) as FieldList>::count()
     }
 
-    fn unread() -> (((A::Slots, B::Slots), (C::Slots, D::Slots)), ((E::Slots, F::Slots), (G::Slots, H::Slots))) {
+    fn unread() -> (
+        ((A::Slots, B::Slots), (C::Slots, D::Slots)),
+        ((E::Slots, F::Slots), (G::Slots, H::Slots)),
+    ) {
         <((A, B, C, D), (E, F, G, H)) as FieldList>::unread()
     }
 
     fn read_value<M: MapAccess>(
-        slots: &mut (((A::Slots, B::Slots), (C::Slots, D::Slots)), ((E::Slots, F::Slots), (G::Slots, H::Slots))),
+        slots: &mut (
+            ((A::Slots, B::Slots), (C::Slots, D::Slots)),
+            ((E::Slots, F::Slots), (G::Slots, H::Slots)),
+        ),
         place: usize,
         map: &mut M,
         alloc: Global,
@@ -115,7 +129,10 @@ impl<A: FieldList, B: FieldList, C: FieldList, D: FieldList, E: FieldList, F: Fi
     }
 
     fn complete<X: Error>(
-        slots: (((A::Slots, B::Slots), (C::Slots, D::Slots)), ((E::Slots, F::Slots), (G::Slots, H::Slots))),
+        slots: (
+            ((A::Slots, B::Slots), (C::Slots, D::Slots)),
+            ((E::Slots, F::Slots), (G::Slots, H::Slots)),
+        ),
         alloc: Global,
     ) -> Result<Option<(A, B, C, D, E, F, G, H)>, X> {
         match <((A, B, C, D), (E, F, G, H)) as FieldList>::complete::<X>(slots, alloc) {
@@ -142,11 +159,21 @@ impl<A: FieldList, B: FieldList, C: FieldList, D: FieldList, E: FieldList, F: Fi
         }
     }
 
-    fn missed(slots: &(((A::Slots, B::Slots), (C::Slots, D::Slots)), ((E::Slots, F::Slots), (G::Slots, H::Slots)))) -> Option<usize> {
+    fn missed(
+        slots: &(
+            ((A::Slots, B::Slots), (C::Slots, D::Slots)),
+            ((E::Slots, F::Slots), (G::Slots, H::Slots)),
+        ),
+    ) -> Option<usize> {
         <((A, B, C, D), (E, F, G, H)) as FieldList>::missed(slots)
     }
 
-    fn discard_slots(slots: (((A::Slots, B::Slots), (C::Slots, D::Slots)), ((E::Slots, F::Slots), (G::Slots, H::Slots)))) {
+    fn discard_slots(
+        slots: (
+            ((A::Slots, B::Slots), (C::Slots, D::Slots)),
+            ((E::Slots, F::Slots), (G::Slots, H::Slots)),
+        ),
+    ) {
         <((A, B, C, D), (E, F, G, H)) as FieldList>::discard_slots(slots);
     }
 

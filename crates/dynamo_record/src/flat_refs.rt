@@ -2,9 +2,7 @@
 use crate::RefList;
 use dynamo_ser::{ListBuilder, Serializer, StructBuilder};
 
-impl<A: RefList, B: RefList, C: RefList, D: RefList> RefList
-    for (A, B, C, D)
-{
+impl<A: RefList, B: RefList, C: RefList, D: RefList> RefList for (A, B, C, D) {
     ghost shapes = { λ ss. A.shapes (B.shapes (C.shapes (D.shapes ss))) };
 
     ghost told = { λ p ds. A.told p.0 (B.told p.1 (C.told p.2 (D.told p.3 ds))) };
@@ -38,9 +36,16 @@ impl<A: RefList, B: RefList, C: RefList, D: RefList> RefList
     }
 }
 
-impl<A: RefList, B: RefList, C: RefList, D: RefList, E: RefList, F: RefList, G: RefList, H: RefList> RefList
-    for (A, B, C, D, E, F, G, H)
-{
+impl<
+    A: RefList,
+    B: RefList,
+    C: RefList,
+    D: RefList,
+    E: RefList,
+    F: RefList,
+    G: RefList,
+    H: RefList,
+> RefList for (A, B, C, D, E, F, G, H) {
     ghost shapes = { λ ss. A.shapes (B.shapes (C.shapes (D.shapes (E.shapes (F.shapes (G.shapes (H.shapes ss))))))) };
 
     ghost told = { λ p ds. A.told p.0 (B.told p.1 (C.told p.2 (D.told p.3 (E.told p.4 (F.told p.5 (G.told p.6 (H.told p.7 ds))))))) };

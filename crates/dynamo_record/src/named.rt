@@ -5,7 +5,7 @@ ghost use Rattle.dynamo_de.specs.Contents.{by_name, read_entries};
 ghost use Rattle.dynamo_de.specs.Meets.{Meets};
 ghost use Rattle.dynamo_record.specs.Contents.{about_named};
 ghost use Rattle.dynamo_record.specs.Names.{Names, differ};
-ghost use Rattle.dynamo_record.specs.Records.{record_of, listed, FromParts};
+ghost use Rattle.dynamo_record.specs.Records.{record_of, listed, FromParts, AsLong};
 ghost use Rattle.dynamo_record.specs.Variants.{about_content};
 
 use crate::record::RecordVisitor;
@@ -60,6 +60,9 @@ impl<N: NamedFields> Record for Named<N> {
 
 /// Reads the content of a struct variant as the struct of these fields.
 fn read_named<R: Record, A: VariantAccess>(alloc: Global, content: A) -> Result<R, A::Error>
+where
+    R::Fields: FieldList,
+    requires { AsLong R.about R.Fields.about }
     ensures { Meets A.Error.fault (OfContent (λ s. After (read_entries s) (λ es. FromParts (listed R.about R.Fields.about) (by_name es))) (A.content content)) result }
 {
     content.struct_variant(

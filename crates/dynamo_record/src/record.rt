@@ -4,6 +4,7 @@ ghost use Rattle.dynamo_ser.specs.Datum as datum;
 ghost use Rattle.dynamo_ser.specs.Writes.{Writes};
 ghost use Rattle.dynamo_de.specs.Access.{NextValue};
 ghost use Rattle.dynamo_de.specs.Answer.{After};
+ghost use Rattle.dynamo_de.specs.Contents.{by_name};
 ghost use Rattle.dynamo_de.specs.Fields.{NamesOne};
 ghost use Rattle.dynamo_de.specs.Meets.{Meets};
 ghost use Rattle.dynamo_de.specs.Visitors.{claims_str, take_identifier, claims_struct, take_parts};
@@ -14,7 +15,7 @@ ghost use Rattle.dynamo_shape.proofs.FieldsByName.{Slots};
 ghost use Rattle.dynamo_record.specs.Entries.{FillsAt};
 ghost use Rattle.dynamo_record.specs.Fields.{field_shapes, named_fields};
 ghost use Rattle.dynamo_record.specs.Names.{place_of};
-ghost use Rattle.dynamo_record.specs.Records.{AboutRecord, listed, record_fields, record_reads, FromParts, AreNamed};
+ghost use Rattle.dynamo_record.specs.Records.{AboutRecord, listed, record_fields, record_reads, FromParts, FromPartsOf, AreNamed, AsLong};
 
 use crate::names::place_of;
 use crate::{FieldList, RefList};
@@ -27,8 +28,9 @@ use std::marker::PhantomData;
 
 /// A struct, described by the list of its fields.
 pub trait Record: Sized + Drop {
-    /// The types of the fields, as `(Field<String>, Field<u8>)`.
-    type Fields: FieldList;
+    /// The types of the fields, as `(Field<String>, Field<u8>)`: a [`FieldList`]. That is asked for where the struct is read
+    /// alone, so that all else is checked without the fields' own traits.
+    type Fields;
 
     // The name of the struct, those of its fields, and the fields of a value.
     ghost about: { AboutRecord Self Self.Fields };
@@ -49,7 +51,7 @@ pub trait Record: Sized + Drop {
         ensures { about.parts result ≡ fields };
 
     // No two fields have one name, and each has one.
-    ghost named: { AreNamed (listed about Self.Fields.about) };
+    ghost named: { AreNamed about };
 }
 
 #[derive(Drop)]
@@ -121,8 +123,14 @@ fn missing_field<E: Error>(alloc: Global, name: &str) -> E
     }
 }
 
+/// Why no struct is read whose description names other fields than it lists.
+const OTHER_FIELDS: &str = "a struct is described by other fields than it has";
+
 /// The name of the first field that is missed.
-fn missed_name<R: Record>(slots: &<R::Fields as FieldList>::Slots) -> &'static str {
+fn missed_name<R: Record>(slots: &<R::Fields as FieldList>::Slots) -> &'static str
+where
+    R::Fields: FieldList,
+{
     match <R::Fields as FieldList>::missed(slots) {
         Some(place) => match R::names().get(place) {
             Some(name) => *name,
@@ -139,6 +147,9 @@ fn read_entry<R: Record, A: MapAccess>(
     map: &mut A,
     alloc: Global,
 ) -> Result<(), A::Error>
+where
+    R::Fields: FieldList,
+    requires { AreNamed (listed R.about R.Fields.about) }
     ensures { (os : Slots) → R.Fields.holds slots.old os [] → NextValue A.Error.fault (FillsAt (λ x os. R.Fields.holds x os []) place (record_fields (listed R.about R.Fields.about)) os slots.new) (A.left map.old) (A.pending map.old) (A.left map.new) (A.pending map.new) result }
 {
     if place < R::names().len() {
@@ -149,18 +160,56 @@ fn read_entry<R: Record, A: MapAccess>(
     }
 }
 
+/// Reads the entries of a map as the fields of a struct.
+fn read_entries<R: Record, A: MapAccess>(alloc: Global, mut map: A) -> Result<R, A::Error>
+where
+    R::Fields: FieldList,
+    requires { AreNamed (listed R.about R.Fields.about) }
+    ensures { Meets A.Error.fault (FromParts (listed R.about R.Fields.about) (by_name (A.left map))) result }
+{
+    let mut slots = <R::Fields as FieldList>::unread();
+    loop {
+        let seed = PlaceSeed::<R> {
+            alloc,
+            of: PhantomData,
+        };
+        let next = match map.next_key_seed(seed) {
+            Ok(next) => next,
+            Err(error) => {
+                <R::Fields as FieldList>::discard_slots(slots);
+                return Err(error);
+            }
+        };
+        let Some(place) = next else {
+            break;
+        };
+        if let Err(error) = read_entry::<R, A>(&mut slots, place, &mut map, alloc) {
+            <R::Fields as FieldList>::discard_slots(slots);
+            return Err(error);
+        }
+    }
+    let missed = missed_name::<R>(&slots);
+    match <R::Fields as FieldList>::complete::<A::Error>(slots, alloc)? {
+        Some(fields) => Ok(R::make(fields)),
+        None => Err(missing_field(alloc, missed)),
+    }
+}
+
 #[derive(Drop)]
 pub(crate) struct RecordVisitor<R> {
     pub(crate) alloc: Global,
     pub(crate) of: PhantomData<R>,
 }
 
-impl<R: Record> Visitor for RecordVisitor<R> {
+impl<R: Record> Visitor for RecordVisitor<R>
+where
+    R::Fields: FieldList,
+{
     type Value = R;
 
     ghost claimed = { λ _. claims_struct };
 
-    ghost takes = { λ _ s. After (take_parts s) (FromParts (listed R.about R.Fields.about)) };
+    ghost takes = { λ _ s. After (take_parts s) (FromPartsOf R.about R.Fields.about) };
 
     fn expecting(&self) -> &'static str {
         R::expecting()
@@ -181,33 +230,11 @@ impl<R: Record> Visitor for RecordVisitor<R> {
         }
     }
 
-    fn visit_map<A: MapAccess>(self, mut map: A) -> Result<R, A::Error> {
-        let alloc = self.alloc;
-        let mut slots = <R::Fields as FieldList>::unread();
-        loop {
-            let seed = PlaceSeed::<R> {
-                alloc,
-                of: PhantomData,
-            };
-            let next = match map.next_key_seed(seed) {
-                Ok(next) => next,
-                Err(error) => {
-                    <R::Fields as FieldList>::discard_slots(slots);
-                    return Err(error);
-                }
-            };
-            let Some(place) = next else {
-                break;
-            };
-            if let Err(error) = read_entry::<R, A>(&mut slots, place, &mut map, alloc) {
-                <R::Fields as FieldList>::discard_slots(slots);
-                return Err(error);
-            }
-        }
-        let missed = missed_name::<R>(&slots);
-        match <R::Fields as FieldList>::complete::<A::Error>(slots, alloc)? {
-            Some(fields) => Ok(R::make(fields)),
-            None => Err(missing_field(alloc, missed)),
+    fn visit_map<A: MapAccess>(self, map: A) -> Result<R, A::Error> {
+        if R::names().len() == <R::Fields as FieldList>::count() {
+            read_entries(self.alloc, map)
+        } else {
+            Err(A::Error::custom(self.alloc, OTHER_FIELDS))
         }
     }
 }
@@ -221,6 +248,9 @@ pub fn read_record<R: Record, D: Deserializer>(
     alloc: Global,
     deserializer: D,
 ) -> Result<R, D::Error>
+where
+    R::Fields: FieldList,
+    requires { AsLong R.about R.Fields.about }
     ensures { Meets D.Error.fault (record_reads (listed R.about R.Fields.about) (D.source deserializer)) result }
 {
     deserializer.deserialize_struct(
@@ -252,7 +282,7 @@ pub fn write_record<R: Record, W: RefList, S: Serializer>(
 
 /// What a struct tells conforms to its shape: the body of `conforms`.
 pub fn record_conforms<R: Record, W: RefList>(fields: &W)
-    ensures { conforms (struct R.about.name (field_shapes R.about.names (W.shapes []) (R.Fields.about.defaults []))) (datum.struct R.about.name (named_fields R.about.names (W.told fields.now []))) }
+    ensures { conforms (struct R.about.name (field_shapes R.about.names (W.shapes []) (R.about.list.defaults []))) (datum.struct R.about.name (named_fields R.about.names (W.told fields.now []))) }
 {
     fields.conform()
 }

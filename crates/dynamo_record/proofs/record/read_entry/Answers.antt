@@ -13,7 +13,7 @@ returns-then-place-names g c = λ os h.
     let l = g.R.Fields.FieldList.about in
     let a = listed g.R.Record.about l in
     let ss = l.shapes [] in
-    let all : length c.names.result.now ≡ length ss = sym (length-map c.names.result.now (λ n. n.now)) ∙ (ap length c.names.ensures ∙ g.met.R.Record.named.1) in
+    let all : length c.names.result.now ≡ length ss = sym (length-map c.names.result.now (λ n. n.now)) ∙ (ap length c.names.ensures ∙ c.requires.1) in
     let there : c.args.place < length ss = omega arith in
     let counted : length ss ≡ l.count + 0 = g.met.R.Fields.FieldList.counted [] in
     let inside : c.args.place < l.count = omega arith in
@@ -28,7 +28,7 @@ returns-in_err-next_value g c = λ os h.
     let l = g.R.Fields.FieldList.about in
     let a = listed g.R.Record.about l in
     let ss = l.shapes [] in
-    let all : length c.names.result.now ≡ length ss = sym (length-map c.names.result.now (λ n. n.now)) ∙ (ap length c.names.ensures ∙ g.met.R.Record.named.1) in
+    let all : length c.names.result.now ≡ length ss = sym (length-map c.names.result.now (λ n. n.now)) ∙ (ap length c.names.ensures ∙ c.requires.1) in
     let beyond : length ss ≤ c.args.place = omega arith in
     let p = err_from_is_err_and c.from_residual.result c.from_residual.ensures.1 in
     rw (p.1, p.2) (not_ignored g.R.Fields.FieldList.holds a.names ss (l.defaults []) os c.args.slots.now c.args.place IgnoredAny g.A.Error.Error.fault beyond (g.A.MapAccess.left c.args.map.now) (g.A.MapAccess.left c.next_value.new.self) (g.A.MapAccess.pending c.args.map.now) (g.A.MapAccess.pending c.next_value.new.self) c.in_err-next_value.field-0.0 c.in_err-next_value.ensures)
@@ -38,6 +38,6 @@ returns-in_ok-next_value g c = λ os h.
     let l = g.R.Fields.FieldList.about in
     let a = listed g.R.Record.about l in
     let ss = l.shapes [] in
-    let all : length c.names.result.now ≡ length ss = sym (length-map c.names.result.now (λ n. n.now)) ∙ (ap length c.names.ensures ∙ g.met.R.Record.named.1) in
+    let all : length c.names.result.now ≡ length ss = sym (length-map c.names.result.now (λ n. n.now)) ∙ (ap length c.names.ensures ∙ c.requires.1) in
     let beyond : length ss ≤ c.args.place = omega arith in
     ignored g.R.Fields.FieldList.holds a.names ss (l.defaults []) os c.args.slots.now c.args.place IgnoredAny g.A.Error.Error.fault beyond (g.A.MapAccess.left c.args.map.now) (g.A.MapAccess.left c.next_value.new.self) (g.A.MapAccess.pending c.args.map.now) (g.A.MapAccess.pending c.next_value.new.self) h c.in_ok-next_value.field-0 c.in_ok-next_value.ensures

@@ -7,4 +7,4 @@ pub returns : goal.returns
 returns g c =
     let told = g.W.RefList.told c.args.fields.now [] in
     let names = g.R.Record.about.names in
-    (named_fields names told, refl, fields_conform names (g.W.RefList.shapes []) (g.R.Fields.FieldList.about.defaults []) told (c.conform.ensures [] [] tt))
+    (named_fields names told, refl, fields_conform names (g.W.RefList.shapes []) (g.R.Record.about.list.defaults []) told (c.conform.ensures [] [] tt))
