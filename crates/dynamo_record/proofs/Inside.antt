@@ -101,7 +101,7 @@ module _ {C L E : Type 0} (fault : E → Fault) (part : C → L) (a : AboutList 
   abbrev Shapes_ : shape.Shapes
   Shapes_ = shapes_of (a.shapes [])
 
-  as_elements : (xs : List Source) (r : Result L Fault) → ReadsInOrder a xs r → Answers (conform_each Shapes_) SameElements Told (read_each Shapes_ xs) r
+  pub as_elements : (xs : List Source) (r : Result L Fault) → ReadsInOrder a xs r → Answers (conform_each Shapes_) SameElements Told (read_each Shapes_ xs) r
   as_elements xs (Ok x) h = (
     elements_of h.0,
     rw (read_tuple (a.shapes []) xs) (ap (into elements_of) h.1),
@@ -109,7 +109,7 @@ module _ {C L E : Type 0} (fault : E → Fault) (part : C → L) (a : AboutList 
   )
   as_elements xs (Err f) h = subst (λ q. Permits SameElements q (Err f)) (sym (read_tuple (a.shapes []) xs)) (stops SameData SameElements (read_fields (a.shapes []) xs) (λ ds. answer.value (elements_of ds)) f h)
 
-  in_order : (s : Source) (r : Result L Fault) → After (read_elements s) (ReadsInOrder a) r → Answers (conform_each Shapes_) SameElements Told (read_elements s >>= read_each Shapes_) r
+  pub in_order : (s : Source) (r : Result L Fault) → After (read_elements s) (ReadsInOrder a) r → Answers (conform_each Shapes_) SameElements Told (read_elements s >>= read_each Shapes_) r
   in_order s r h = after (conform_each Shapes_) SameElements Told (ReadsInOrder a) (read_each Shapes_) as_elements (read_elements s) r h
 
   pub values_read : (s : Option Source) (x : L) (w : C) → part w ≡ x → AsksElements s (Ok x) → Tuple s (Ok w)

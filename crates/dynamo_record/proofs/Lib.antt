@@ -6,6 +6,7 @@ pub mod Described
 pub mod Entries
 pub mod Inside
 pub mod InsideNamed
+pub mod InTuple
 pub mod OneEntry
 pub mod OneField
 pub mod OneVariant

@@ -13,5 +13,6 @@ pub mod Newtypes
 pub mod Records
 pub mod Refs
 pub mod Told
+pub mod TupleStructs
 pub mod UnitEnums
 pub mod Variants

@@ -23,7 +23,7 @@ use Rattle.dynamo_types.specs.Keys.{AboutKey, IsKeyOf}
 unfoldable pub ReadsAs : {T : Type 0} → About T → Source → Result T Fault → Type 0
 ReadsAs a source r = Answers (conforms a.shape) Same a.tells (read a.shape source) r
 
-as_shape : {T : Type 0} (a : About T) → ReadsByShape a.shape a.tells (ReadsAs a)
+pub as_shape : {T : Type 0} (a : About T) → ReadsByShape a.shape a.tells (ReadsAs a)
 unfolding ReadsAs
 as_shape a source r h = h
 

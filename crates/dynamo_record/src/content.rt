@@ -78,13 +78,13 @@ impl<L: FieldList + Drop> VariantList for Several<L> {
     }
 }
 
-/// Why a sequence is no content of a tuple variant.
-const TOO_FEW: &str = "invalid length: too few elements, expected tuple variant";
+/// Why a list is no such elements.
+const TOO_FEW: &str = "invalid length: too few elements, expected tuple";
 
 #[derive(Drop)]
-struct ElementsVisitor<L> {
-    alloc: Global,
-    of: PhantomData<L>,
+pub(crate) struct ElementsVisitor<L> {
+    pub(crate) alloc: Global,
+    pub(crate) of: PhantomData<L>,
 }
 
 impl<L: FieldList + Drop> Visitor for ElementsVisitor<L> {
@@ -95,7 +95,7 @@ impl<L: FieldList + Drop> Visitor for ElementsVisitor<L> {
     ghost takes = { λ _ s. After (take_elements s) (ReadsInOrder L.about) };
 
     fn expecting(&self) -> &'static str {
-        "tuple variant"
+        "tuple"
     }
 
     fn alloc(&self) -> Global {

@@ -1,0 +1,57 @@
+-- Structs of several fields in order, without names.
+use Rattle.std.specs.Prelude.{[], Result}
+use Rattle.std.proofs.Common.{refl, sym, ap, subst}
+use Rattle.dynamo_value.specs.Fault.{Fault}
+use Rattle.dynamo_ser.specs.Datum as datum
+use Rattle.dynamo_ser.specs.Datum.{Datum, Elements, elements_of}
+use Rattle.dynamo_de.specs.Reads.{Through}
+use Rattle.dynamo_de.specs.Source.{Source, Text}
+use Rattle.dynamo_shape.specs.Conforms.{conforms, conform_each}
+use Rattle.dynamo_shape.specs.Laws.{ReadsByShape}
+use Rattle.dynamo_shape.specs.Same.{Same, SameElements}
+use Rattle.dynamo_shape.specs.Shape as shape
+use Rattle.dynamo_shape.proofs.Lists.{through_permitted}
+use Rattle.dynamo_types.specs.About.{About, about_part}
+use Rattle.dynamo_record.specs.Fields.{ConformEach, shapes_of}
+use Rattle.dynamo_record.specs.InOrder.{each_element, elements_same, same_each}
+use Rattle.dynamo_record.specs.Listed.{AboutList}
+use Rattle.dynamo_record.specs.Newtypes.{ReadsAs, as_shape}
+
+abbrev pub elements_in : Datum → Elements
+elements_in (datum.tuple_struct name ds) = ds
+elements_in _ = datum.no_elements
+
+-- ---- the fields as the struct of this name
+
+module _ {L : Type 0} (name : Text) (a : AboutList L) where
+  abbrev pub fields_tell : L → Datum
+  fields_tell l = datum.tuple_struct name (elements_of (a.told l []))
+
+  abbrev pub fields_shape : shape.Shape
+  fields_shape = shape.tuple_struct name (shapes_of (a.shapes []))
+
+  each : (l : L) → conforms fields_shape (fields_tell l) → ConformEach (a.shapes []) (a.told l [])
+  each l c = each_element (a.shapes []) (a.told l []) (subst (conform_each (shapes_of (a.shapes []))) (sym (ap elements_in c.1)) c.2)
+
+  pub fields_by_value : (l m : L) → conforms fields_shape (fields_tell l) → conforms fields_shape (fields_tell m) → Same (fields_tell l) (fields_tell m) → a.same l m
+  fields_by_value l m c d h =
+      let alike = same_each (a.told l []) (a.told m []) (subst (SameElements (elements_of (a.told l []))) (sym (ap elements_in h.1)) h.2) in
+      (a.told_by_value l m [] [] [] (each l c) (each m d) alike).0
+
+  pub fields_alike : (l m : L) → conforms fields_shape (fields_tell l) → conforms fields_shape (fields_tell m) → a.same l m → Same (fields_tell l) (fields_tell m)
+  fields_alike l m c d h = (elements_of (a.told m []), refl, elements_same (a.told l []) (a.told m []) (a.told_alike l m [] [] [] (each l c) (each m d) h (λ _ _. tt)))
+
+  abbrev pub named_tuple : About L
+  named_tuple = record { shape = fields_shape; tells = fields_tell; same = a.same; told_by_value = fields_by_value; told_alike = fields_alike }
+
+-- ---- a struct with these fields
+
+abbrev pub about_tuple_struct : {V L : Type 0} → Text → (V → L) → AboutList L → About V
+about_tuple_struct name parts a = about_part parts (named_tuple name a)
+
+-- what may be answered on a source: the struct of the fields that are read
+abbrev pub tuple_struct_reads : {V L : Type 0} → Text → (V → L) → AboutList L → Source → Result V Fault → Type 0
+tuple_struct_reads name parts a source r = Through parts (ReadsAs (named_tuple name a) source) r
+
+pub tuple_struct_by_shape : {V L : Type 0} (name : Text) (parts : V → L) (a : AboutList L) → ReadsByShape (fields_shape name a) (λ v. fields_tell name a (parts v)) (tuple_struct_reads name parts a)
+tuple_struct_by_shape name parts a = through_permitted (fields_shape name a) (fields_tell name a) (ReadsAs (named_tuple name a)) parts (as_shape (named_tuple name a))
