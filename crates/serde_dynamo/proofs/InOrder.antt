@@ -29,15 +29,6 @@ abbrev pub seen_blobs : Vec ByteBuf Global → List Datum
 seen_blobs v = map (λ b. datum.bytes (octets_of b)) v.items
 
 module _ {B V E : Type 0} (fault : E → Fault) (left new : List Source) (next : B → Result V Fault → Type 0) where
-  pub string_element : (rest : List ℕ → List Source → Answer B) (v : String Global) (r : Result V Fault) → NextElement fault (λ s. Gives string_bytes (read_string s)) left new (Ok (Some v)) → After (rest (string_bytes v) new) next r → After (read_first read_string left rest) next r
-  string_element rest v r h k = element_read fault string_bytes read_string rest next left new v r h k
-
-  pub string_lacks : (rest : List ℕ → List Source → Answer B) (f : Fault) → NextElement {V = String Global} fault (λ s. Gives string_bytes (read_string s)) left new (Ok None) → IsMessage {V = V} (Err f) → After (read_first read_string left rest) next (Err f)
-  string_lacks rest f h m = element_lacks {T = String Global} fault string_bytes read_string rest next left new f h m
-
-  pub string_fails : (rest : List ℕ → List Source → Answer B) (e : E) → NextElement {V = String Global} fault (λ s. Gives string_bytes (read_string s)) left new (Err e) → (fault e ≡ out_of_memory) ⊎ After (read_first read_string left rest) next (Err (fault e))
-  string_fails rest e h = element_fails {T = String Global} fault string_bytes read_string rest next left new e h
-
   pub byte_element : (rest : ℤ → List Source → Answer B) (v : ℕ) (r : Result V Fault) → NextElement fault (λ s. Gives pos (read_integer u8 s)) left new (Ok (Some v)) → After (rest (pos v) new) next r → After (read_first (read_integer u8) left rest) next r
   byte_element rest v r h k = element_read fault pos (read_integer u8) rest next left new v r h k
 

@@ -7,4 +7,3 @@ pub mod Rows
 pub mod SetsFields
 pub mod ShapeRows
 pub mod StructyFields
-pub mod UserFields

@@ -22,68 +22,15 @@ use Rattle.dynamo_shape.proofs.InOrder.{ListsFields, first_field, no_more_fields
 use Rattle.dynamo_shape.proofs.TypesByHand as variants
 use Rattle.dynamo_shape.proofs.TypesByHand.{one_inside, several_inside, named_inside}
 use Rattle.dynamo_types.specs.About.{About}
-use Rattle.serde_dynamo.specs.SampleShapes.{byte_shape, user_fields, user_shape, same_user, two_bytes, structy_fields, event_variants, event_shape, sets_fields, sets_shape, same_sets}
-use Rattle.serde_dynamo.specs.Samples.{user_told, event_variant, event_told, set_told, sets_told}
+use Rattle.serde_dynamo.specs.SampleShapes.{byte_shape, two_bytes, structy_fields, event_variants, event_shape, sets_fields, sets_shape, same_sets}
+use Rattle.serde_dynamo.specs.Samples.{event_variant, event_told, set_told, sets_told}
 use Rattle.serde_dynamo.specs.SamplesRead as samples
-use Rattle.serde_dynamo.specs.SamplesRead.{UserFields, StructyFields, SetsFields}
+use Rattle.serde_dynamo.specs.SamplesRead.{StructyFields, SetsFields}
 use Rattle.serde_dynamo.specs.declared.samples.event.Event.{Event}
 use Rattle.serde_dynamo.specs.declared.samples.event.Field as structy
 use Rattle.serde_dynamo.specs.declared.samples.event.Tag as event
 use Rattle.serde_dynamo.specs.declared.samples.sets.Field as sets
 use Rattle.serde_dynamo.specs.declared.samples.sets.Sets.{Sets}
-use Rattle.serde_dynamo.specs.declared.samples.user.Field as user
-use Rattle.serde_dynamo.specs.declared.samples.user.User.{User}
-
--- ---- a user
-
-abbrev user_slots : UserFields → Slots
-user_slots u = option_map datum.string u.id ∷ option_map datum.string u.name ∷ option_map (datum.integer u8) u.age ∷ []
-
-user_whole : (u : UserFields) → samples.finish_user u ≡ into (datum.struct (codes "User")) (close user_fields (user_slots u))
-user_whole u = whole u.id u.name u.age
-  where
-    whole : (id name : Option (List ℕ)) (age : Option ℤ) → samples.whole_user id name age ≡ into (datum.struct (codes "User")) (close user_fields (option_map datum.string id ∷ option_map datum.string name ∷ option_map (datum.integer u8) age ∷ []))
-    whole (Some id) (Some name) (Some age) = refl
-    whole (Some id) (Some name) None = refl
-    whole (Some id) None age = refl
-    whole None name age = refl
-
-user_reads : fields.Reads samples.user_entry user_slots 0 user_fields samples.user_field
-user_reads =
-    fields.known samples.user_entry user_slots 0 (codes "id") shape.string None _ user.Field.Id _ read_string datum.string
-    (λ t u. record { id = Some t; name = u.name; age = u.age }) (λ s. refl) (λ u a. refl) (λ x u. refl)
-    (fields.known samples.user_entry user_slots 1 (codes "name") shape.string None _ user.Field.Name _ read_string datum.string
-    (λ t u. record { id = u.id; name = Some t; age = u.age }) (λ s. refl) (λ u a. refl) (λ x u. refl)
-    (fields.known samples.user_entry user_slots 2 (codes "age") byte_shape None _ user.Field.Age _ (read_integer u8) (datum.integer u8)
-    (λ n u. record { id = u.id; name = u.name; age = Some n }) (λ s. refl) (λ u a. refl) (λ x u. refl)
-    (fields.unknown samples.user_entry user_slots 3 user.Field.Other (λ u a. refl) (λ u. refl))))
-
-pub user_named : (es : List Entry) → samples.user_by_name es ≡ into (datum.struct (codes "User")) (fields_by_name user_fields (read_field user_fields) es)
-user_named = fields.all_named samples.user_entry user_slots samples.user_field user_fields samples.finish_user (datum.struct (codes "User")) (refl, (refl, (refl, tt))) user_reads user_whole samples.no_user refl
-
-pub user_listed : ListsFields user_fields samples.user_in_order (datum.struct (codes "User"))
-user_listed =
-    first_field (codes "id") shape.string None _ read_string datum.string _ (datum.struct (codes "User")) (λ s. refl) (λ id.
-    first_field (codes "name") shape.string None _ read_string datum.string _ _ (λ s. refl) (λ name.
-    first_field (codes "age") byte_shape None _ (read_integer u8) (datum.integer u8) _ _ (λ s. refl) (λ age.
-    no_more_fields _)))
-
-pub user_by_value : IsToldByValue user_shape user_told same_user
-user_by_value =
-    struct_told (codes "User") user_fields _ same_user
-    (first_told (codes "id") _ _ _ (λ (u : User). u.id) _ _ _ _ (text_told string_bytes)
-    (first_told (codes "name") _ _ _ (λ (u : User). u.name) _ _ _ _ (text_told string_bytes)
-    (last_told (codes "age") _ _ (λ (u : User). u.age) _ _ (unsigned_told u8))))
-
-pub user_alike : ToldAlike user_shape user_told same_user
-user_alike =
-    struct_alike (codes "User") user_fields _ same_user
-    (first_alike (codes "id") _ _ _ (λ (u : User). u.id) _ _ _ _ (text_alike string_bytes)
-    (first_alike (codes "name") _ _ _ (λ (u : User). u.name) _ _ _ _ (text_alike string_bytes)
-    (last_alike (codes "age") _ _ (λ (u : User). u.age) _ _ (unsigned_alike u8))))
-
-abbrev pub about_user : About User
-about_user = record { shape = user_shape; tells = user_told; same = same_user; told_by_value = user_by_value; told_alike = user_alike }
 
 -- ---- an event
 

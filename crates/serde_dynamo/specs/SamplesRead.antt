@@ -12,56 +12,12 @@ use Rattle.dynamo_de.specs.Fields.{read_first, read_fields, read_all}
 use Rattle.dynamo_de.specs.Ignored.{read_ignored}
 use Rattle.dynamo_de.specs.Scalars.{read_string, read_bytes, read_integer}
 use Rattle.dynamo_de.specs.Source.{Source, Entry, attribute}
-use Rattle.serde_dynamo.specs.Samples.{user_of, user_told, event_unit, event_newtype, event_tuple, event_structy, event_told, sets_of, sets_told}
+use Rattle.serde_dynamo.specs.Samples.{event_unit, event_newtype, event_tuple, event_structy, event_told, sets_of, sets_told}
 use Rattle.serde_dynamo.specs.declared.samples.event.Event.{Event}
 use Rattle.serde_dynamo.specs.declared.samples.event.Field as structy
 use Rattle.serde_dynamo.specs.declared.samples.event.Tag as event
 use Rattle.serde_dynamo.specs.declared.samples.sets.Field as sets
 use Rattle.serde_dynamo.specs.declared.samples.sets.Sets.{Sets}
-use Rattle.serde_dynamo.specs.declared.samples.user.Field as user
-use Rattle.serde_dynamo.specs.declared.samples.user.User.{User}
-
--- ---- a user
-
-abbrev pub user_field : List ℕ → user.Field
-user_field t = if bytes_eq t (codes "id") then user.Field.Id else if bytes_eq t (codes "name") then user.Field.Name else if bytes_eq t (codes "age") then user.Field.Age else user.Field.Other
-
--- the fields that were read so far
-pub record UserFields : Type 0 where
-  pub id : Option (List ℕ)
-  pub name : Option (List ℕ)
-  pub age : Option ℤ
-
-abbrev pub no_user : UserFields
-no_user = record { id = None; name = None; age = None }
-
--- an entry of a field is read by its type, and any other is ignored
-abbrev pub user_entry : user.Field → UserFields → Av → Answer UserFields
-user_entry user.Field.Id u a = read_string (attribute a) >>= λ t. answer.value (record { id = Some t; name = u.name; age = u.age })
-user_entry user.Field.Name u a = read_string (attribute a) >>= λ t. answer.value (record { id = u.id; name = Some t; age = u.age })
-user_entry user.Field.Age u a = read_integer u8 (attribute a) >>= λ n. answer.value (record { id = u.id; name = u.name; age = Some n })
-user_entry user.Field.Other u a = read_ignored (attribute a) >>= λ _. answer.value u
-
-abbrev pub whole_user : Option (List ℕ) → Option (List ℕ) → Option ℤ → Answer Datum
-whole_user (Some id) (Some name) (Some age) = answer.value (user_of id name age)
-whole_user _ _ _ = answer.refused
-
-abbrev pub finish_user : UserFields → Answer Datum
-finish_user u = whole_user u.id u.name u.age
-
--- a missing field is refused after the last entry
-abbrev pub user_by_name : List Entry → Answer Datum
-user_by_name es = read_fields user_field user_entry finish_user no_user es
-
-abbrev pub user_in_order : List Source → Answer Datum
-user_in_order ss = read_first read_string ss (λ id ss. read_first read_string ss (λ name ss. read_first (read_integer u8) ss (λ age _. answer.value (user_of id name age))))
-
-abbrev pub user_parts : Parts → Answer Datum
-user_parts (by_name es) = user_by_name es
-user_parts (in_order ss) = user_in_order ss
-
-abbrev pub user_from_parts : Parts → Result User Fault → Type 0
-user_from_parts p r = Gives user_told (user_parts p) r
 
 -- ---- an event
 
