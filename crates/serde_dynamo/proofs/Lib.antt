@@ -4,6 +4,5 @@ pub mod MapsOfItems
 pub mod ReadBack
 pub mod SamplesEqual
 pub mod Rows
-pub mod SetsFields
 pub mod ShapeRows
 pub mod StructyFields

@@ -1,36 +1,29 @@
 -- What the samples read, told as data, is reading at their shapes: what is said once more of each field and each variant is how
 -- it is read and where it is kept, and all else is by computation.
-use Rattle.std.specs.Prelude.{◌≡◌, refl, ℕ, ℤ, pos, true, List, [], ◌∷◌, Option, Some, None, option_map, codes, string_bytes}
-use Rattle.dynamo_value.specs.Integer.{u8, u64}
-use Rattle.dynamo_value.specs.Bytes.{octets_of}
+use Rattle.std.specs.Prelude.{◌≡◌, refl, ℕ, ℤ, pos, true, List, [], ◌∷◌, Option, Some, None, option_map, codes}
+use Rattle.dynamo_value.specs.Integer.{u8}
 use Rattle.dynamo_ser.specs.Datum as datum
 use Rattle.dynamo_ser.specs.Datum.{Datum, elements_of}
-use Rattle.dynamo_ser.specs.Symbols.{strings, numbers, blobs}
-use Rattle.dynamo_de.specs.Scalars.{read_string, read_integer}
+use Rattle.dynamo_de.specs.Scalars.{read_integer}
 use Rattle.dynamo_de.specs.Source.{Entry}
-use Rattle.dynamo_shape.specs.Laws.{IsToldByValue, ToldAlike}
+use Rattle.dynamo_shape.specs.Laws.{IsToldByValue}
 use Rattle.dynamo_shape.specs.Read.{into, read_field, fields_by_name}
 use Rattle.dynamo_shape.specs.Shape as shape
 use Rattle.dynamo_shape.proofs.Alike.{equal_alike}
 use Rattle.dynamo_shape.proofs.Apart.{holds_no_map, told_again}
 use Rattle.dynamo_shape.proofs.FieldsByName as fields
 use Rattle.dynamo_shape.proofs.FieldsByName.{Slots, close}
-use Rattle.dynamo_shape.proofs.FieldsTold as told
-use Rattle.dynamo_shape.proofs.FieldsTold.{first_told, last_told, struct_told, first_alike, last_alike, struct_alike}
-use Rattle.dynamo_shape.proofs.Scalars.{text_told, text_alike, unsigned_told, unsigned_alike, bytes_told, bytes_alike}
-use Rattle.dynamo_shape.proofs.InOrder.{ListsFields, first_field, no_more_fields, ListsElements, first_element, no_more_elements, set_read}
+use Rattle.dynamo_shape.proofs.InOrder.{ListsElements, first_element, no_more_elements}
 use Rattle.dynamo_shape.proofs.TypesByHand as variants
 use Rattle.dynamo_shape.proofs.TypesByHand.{one_inside, several_inside, named_inside}
 use Rattle.dynamo_types.specs.About.{About}
-use Rattle.serde_dynamo.specs.SampleShapes.{byte_shape, two_bytes, structy_fields, event_variants, event_shape, sets_fields, sets_shape, same_sets}
-use Rattle.serde_dynamo.specs.Samples.{event_variant, event_told, set_told, sets_told}
+use Rattle.serde_dynamo.specs.SampleShapes.{byte_shape, two_bytes, structy_fields, event_variants, event_shape}
+use Rattle.serde_dynamo.specs.Samples.{event_variant, event_told}
 use Rattle.serde_dynamo.specs.SamplesRead as samples
-use Rattle.serde_dynamo.specs.SamplesRead.{StructyFields, SetsFields}
+use Rattle.serde_dynamo.specs.SamplesRead.{StructyFields}
 use Rattle.serde_dynamo.specs.declared.samples.event.Event.{Event}
 use Rattle.serde_dynamo.specs.declared.samples.event.Field as structy
 use Rattle.serde_dynamo.specs.declared.samples.event.Tag as event
-use Rattle.serde_dynamo.specs.declared.samples.sets.Field as sets
-use Rattle.serde_dynamo.specs.declared.samples.sets.Sets.{Sets}
 
 -- ---- an event
 
@@ -105,54 +98,3 @@ event_by_value = told_again event_shape event_told event_again event_without_map
 
 abbrev pub about_event : About Event
 about_event = record { shape = event_shape; tells = event_told; same = λ e f. e ≡ f; told_by_value = event_by_value; told_alike = equal_alike event_shape event_told }
-
--- ---- three sets
-
-abbrev sets_slots : SetsFields → Slots
-sets_slots u = option_map (set_told strings) u.names ∷ option_map (set_told numbers) u.numbers ∷ option_map (set_told blobs) u.blobs ∷ []
-
-sets_whole : (u : SetsFields) → samples.finish_sets u ≡ into (datum.struct (codes "Sets")) (close sets_fields (sets_slots u))
-sets_whole u = whole u.names u.numbers u.blobs
-  where
-    whole : (names the_numbers the_blobs : Option (List Datum)) → samples.whole_sets names the_numbers the_blobs ≡ into (datum.struct (codes "Sets")) (close sets_fields (option_map (set_told strings) names ∷ option_map (set_told numbers) the_numbers ∷ option_map (set_told blobs) the_blobs ∷ []))
-    whole (Some names) (Some the_numbers) (Some the_blobs) = refl
-    whole (Some names) (Some the_numbers) None = refl
-    whole (Some names) None the_blobs = refl
-    whole None the_numbers the_blobs = refl
-
-sets_reads : fields.Reads samples.sets_entry sets_slots 0 sets_fields samples.sets_field
-sets_reads =
-    fields.known samples.sets_entry sets_slots 0 (codes "names") (shape.set strings shape.string) None _ sets.Field.Names _ samples.read_names (set_told strings)
-    (λ ds u. record { names = Some ds; numbers = u.numbers; blobs = u.blobs }) (set_read strings shape.string) (λ u a. refl) (λ x u. refl)
-    (fields.known samples.sets_entry sets_slots 1 (codes "numbers") (shape.set numbers (shape.integer u64)) None _ sets.Field.Numbers _ samples.read_numbers (set_told numbers)
-    (λ ds u. record { names = u.names; numbers = Some ds; blobs = u.blobs }) (set_read numbers (shape.integer u64)) (λ u a. refl) (λ x u. refl)
-    (fields.known samples.sets_entry sets_slots 2 (codes "blobs") (shape.set blobs shape.bytes) None _ sets.Field.Blobs _ samples.read_blobs (set_told blobs)
-    (λ ds u. record { names = u.names; numbers = u.numbers; blobs = Some ds }) (set_read blobs shape.bytes) (λ u a. refl) (λ x u. refl)
-    (fields.unknown samples.sets_entry sets_slots 3 sets.Field.Other (λ u a. refl) (λ u. refl))))
-
-pub sets_named : (es : List Entry) → samples.sets_by_name es ≡ into (datum.struct (codes "Sets")) (fields_by_name sets_fields (read_field sets_fields) es)
-sets_named = fields.all_named samples.sets_entry sets_slots samples.sets_field sets_fields samples.finish_sets (datum.struct (codes "Sets")) (refl, (refl, (refl, tt))) sets_reads sets_whole samples.no_sets refl
-
-pub sets_listed : ListsFields sets_fields samples.sets_in_order (datum.struct (codes "Sets"))
-sets_listed =
-    first_field (codes "names") (shape.set strings shape.string) None _ samples.read_names (set_told strings) _ (datum.struct (codes "Sets")) (set_read strings shape.string) (λ names.
-    first_field (codes "numbers") (shape.set numbers (shape.integer u64)) None _ samples.read_numbers (set_told numbers) _ _ (set_read numbers (shape.integer u64)) (λ the_numbers.
-    first_field (codes "blobs") (shape.set blobs shape.bytes) None _ samples.read_blobs (set_told blobs) _ _ (set_read blobs shape.bytes) (λ the_blobs.
-    no_more_fields _)))
-
-pub sets_by_value : IsToldByValue sets_shape sets_told same_sets
-sets_by_value =
-    struct_told (codes "Sets") sets_fields _ same_sets
-    (first_told (codes "names") _ _ _ (λ (s : Sets). s.names) _ _ _ _ (told.set_told strings shape.string _ _ (text_told string_bytes))
-    (first_told (codes "numbers") _ _ _ (λ (s : Sets). s.numbers) _ _ _ _ (told.set_told numbers (shape.integer u64) _ _ (unsigned_told u64))
-    (last_told (codes "blobs") _ _ (λ (s : Sets). s.blobs) _ _ (told.set_told blobs shape.bytes _ _ (bytes_told octets_of)))))
-
-pub sets_alike : ToldAlike sets_shape sets_told same_sets
-sets_alike =
-    struct_alike (codes "Sets") sets_fields _ same_sets
-    (first_alike (codes "names") _ _ _ (λ (s : Sets). s.names) _ _ _ _ (told.set_alike strings shape.string _ _ (text_alike string_bytes))
-    (first_alike (codes "numbers") _ _ _ (λ (s : Sets). s.numbers) _ _ _ _ (told.set_alike numbers (shape.integer u64) _ _ (unsigned_alike u64))
-    (last_alike (codes "blobs") _ _ (λ (s : Sets). s.blobs) _ _ (told.set_alike blobs shape.bytes _ _ (bytes_alike octets_of)))))
-
-abbrev pub about_sets : About Sets
-about_sets = record { shape = sets_shape; tells = sets_told; same = same_sets; told_by_value = sets_by_value; told_alike = sets_alike }

@@ -2,22 +2,19 @@
 use Rattle.std.specs.Prelude.{ℕ, ℤ, List, Option, Some, None, Result, bytes_eq, codes, if◌then◌else◌}
 use Rattle.dynamo_value.specs.Av.{Av}
 use Rattle.dynamo_value.specs.Fault.{Fault}
-use Rattle.dynamo_value.specs.Integer.{u8, u64}
-use Rattle.dynamo_ser.specs.Datum as datum
+use Rattle.dynamo_value.specs.Integer.{u8}
 use Rattle.dynamo_ser.specs.Datum.{Datum}
 use Rattle.dynamo_de.specs.Answer as answer
 use Rattle.dynamo_de.specs.Answer.{Answer, ◌>>=◌, Gives}
-use Rattle.dynamo_de.specs.Contents.{Parts, by_name, in_order, read_elements, read_entries}
-use Rattle.dynamo_de.specs.Fields.{read_first, read_fields, read_all}
+use Rattle.dynamo_de.specs.Contents.{read_elements, read_entries}
+use Rattle.dynamo_de.specs.Fields.{read_first, read_fields}
 use Rattle.dynamo_de.specs.Ignored.{read_ignored}
-use Rattle.dynamo_de.specs.Scalars.{read_string, read_bytes, read_integer}
+use Rattle.dynamo_de.specs.Scalars.{read_integer}
 use Rattle.dynamo_de.specs.Source.{Source, Entry, attribute}
-use Rattle.serde_dynamo.specs.Samples.{event_unit, event_newtype, event_tuple, event_structy, event_told, sets_of, sets_told}
+use Rattle.serde_dynamo.specs.Samples.{event_unit, event_newtype, event_tuple, event_structy, event_told}
 use Rattle.serde_dynamo.specs.declared.samples.event.Event.{Event}
 use Rattle.serde_dynamo.specs.declared.samples.event.Field as structy
 use Rattle.serde_dynamo.specs.declared.samples.event.Tag as event
-use Rattle.serde_dynamo.specs.declared.samples.sets.Field as sets
-use Rattle.serde_dynamo.specs.declared.samples.sets.Sets.{Sets}
 
 -- ---- an event
 
@@ -67,52 +64,3 @@ event_content event.Tag.Other c = answer.refused
 
 abbrev pub event_from_variant : List ℕ × Option Source → Result Event Fault → Type 0
 event_from_variant v r = Gives event_told (event_content (event_tag v.0) v.1) r
-
--- ---- three sets
-
-abbrev pub sets_field : List ℕ → sets.Field
-sets_field t = if bytes_eq t (codes "names") then sets.Field.Names else if bytes_eq t (codes "numbers") then sets.Field.Numbers else if bytes_eq t (codes "blobs") then sets.Field.Blobs else sets.Field.Other
-
-pub record SetsFields : Type 0 where
-  pub names : Option (List Datum)
-  pub numbers : Option (List Datum)
-  pub blobs : Option (List Datum)
-
-abbrev pub no_sets : SetsFields
-no_sets = record { names = None; numbers = None; blobs = None }
-
--- each of the three reads as a list does
-abbrev pub read_names : Source → Answer (List Datum)
-read_names s = read_elements s >>= read_all (λ s. read_string s >>= λ t. answer.value (datum.string t))
-
-abbrev pub read_numbers : Source → Answer (List Datum)
-read_numbers s = read_elements s >>= read_all (λ s. read_integer u64 s >>= λ n. answer.value (datum.integer u64 n))
-
-abbrev pub read_blobs : Source → Answer (List Datum)
-read_blobs s = read_elements s >>= read_all (λ s. read_bytes s >>= λ bytes. answer.value (datum.bytes bytes))
-
-abbrev pub sets_entry : sets.Field → SetsFields → Av → Answer SetsFields
-sets_entry sets.Field.Names u a = read_names (attribute a) >>= λ ds. answer.value (record { names = Some ds; numbers = u.numbers; blobs = u.blobs })
-sets_entry sets.Field.Numbers u a = read_numbers (attribute a) >>= λ ds. answer.value (record { names = u.names; numbers = Some ds; blobs = u.blobs })
-sets_entry sets.Field.Blobs u a = read_blobs (attribute a) >>= λ ds. answer.value (record { names = u.names; numbers = u.numbers; blobs = Some ds })
-sets_entry sets.Field.Other u a = read_ignored (attribute a) >>= λ _. answer.value u
-
-abbrev pub whole_sets : Option (List Datum) → Option (List Datum) → Option (List Datum) → Answer Datum
-whole_sets (Some names) (Some numbers) (Some blobs) = answer.value (sets_of names numbers blobs)
-whole_sets _ _ _ = answer.refused
-
-abbrev pub finish_sets : SetsFields → Answer Datum
-finish_sets u = whole_sets u.names u.numbers u.blobs
-
-abbrev pub sets_by_name : List Entry → Answer Datum
-sets_by_name es = read_fields sets_field sets_entry finish_sets no_sets es
-
-abbrev pub sets_in_order : List Source → Answer Datum
-sets_in_order ss = read_first read_names ss (λ names ss. read_first read_numbers ss (λ numbers ss. read_first read_blobs ss (λ blobs _. answer.value (sets_of names numbers blobs))))
-
-abbrev pub sets_parts : Parts → Answer Datum
-sets_parts (by_name es) = sets_by_name es
-sets_parts (in_order ss) = sets_in_order ss
-
-abbrev pub sets_from_parts : Parts → Result Sets Fault → Type 0
-sets_from_parts p r = Gives sets_told (sets_parts p) r
