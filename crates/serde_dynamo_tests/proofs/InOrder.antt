@@ -1,4 +1,4 @@
--- The fields of the samples, read in order.
+-- The elements of a byte each, read in order.
 use Rattle.std.proofs.Common.{◌≡◌, ◌⊎◌, ℕ, ℤ, pos, List, Some, None, Result, Ok, Err}
 use Rattle.dynamo_value.specs.Fault.{Fault, out_of_memory}
 use Rattle.dynamo_value.specs.Integer.{u8}
