@@ -1,10 +1,5 @@
-pub mod EventContent
-pub mod InOrder
 pub mod MapsOfItems
 pub mod ReadBack
 pub mod SamplesEqual
 pub mod Rows
-pub mod SetsFields
 pub mod ShapeRows
-pub mod StructyFields
-pub mod UserFields

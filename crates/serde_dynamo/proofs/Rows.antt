@@ -1,42 +1,35 @@
--- Worked rows of what the samples read, each by computing.
-use Rattle.std.proofs.Common.{◌≡◌, pos, true, false, [], ◌∷◌, Some, refl}
+-- Worked rows of what the samples read at their shapes, each by computing.
+use Rattle.std.proofs.Common.{◌≡◌, pos, true, false, refl}
 use Rattle.std.specs.Prelude.{codes}
 use Rattle.dynamo_value.specs.Av as av
 use Rattle.dynamo_value.specs.Fault.{expected_num, expected_unit}
 use Rattle.dynamo_de.specs.Answer as answer
-use Rattle.dynamo_de.specs.Contents.{by_name, in_order}
-use Rattle.dynamo_de.specs.Fields.{read_fields, read_first}
 use Rattle.dynamo_de.specs.Source.{attribute}
+use Rattle.dynamo_shape.specs.Read.{read}
+use Rattle.serde_dynamo.specs.SampleShapes.{user_shape, event_shape}
 use Rattle.serde_dynamo.specs.Samples.{user_of, event_unit}
-use Rattle.serde_dynamo.specs.SamplesRead.{user_parts, event_content, event_tag}
 
 -- a user by the names of its fields, with an attribute that no field names
-by_names : user_parts (by_name ((codes "age", av.N (codes "7")) ∷ (codes "id", av.S (codes "a")) ∷ (codes "name", av.S (codes "b")) ∷ (codes "zip", av.Boolean true) ∷ [])) ≡ answer.value (user_of (codes "a") (codes "b") (pos 7))
-unfolding read_fields
+by_names : read user_shape (attribute (av.M (av.member (codes "age") (av.N (codes "7")) (av.member (codes "id") (av.S (codes "a")) (av.member (codes "name") (av.S (codes "b")) (av.member (codes "zip") (av.Boolean true) av.no_members)))))) ≡ answer.value (user_of (codes "a") (codes "b") (pos 7))
 by_names = refl
 
 -- the first fault in the order of the keys is that of the attribute that no field names
-ignored_first : user_parts (by_name ((codes "aa", av.Null false) ∷ (codes "age", av.S (codes "1")) ∷ (codes "id", av.S (codes "x")) ∷ (codes "name", av.S (codes "n")) ∷ [])) ≡ answer.fault expected_unit
-unfolding read_fields
+ignored_first : read user_shape (attribute (av.M (av.member (codes "aa") (av.Null false) (av.member (codes "age") (av.S (codes "1")) (av.member (codes "id") (av.S (codes "x")) (av.member (codes "name") (av.S (codes "n")) av.no_members)))))) ≡ answer.fault expected_unit
 ignored_first = refl
 
-field_first : user_parts (by_name ((codes "age", av.S (codes "1")) ∷ (codes "id", av.N (codes "2")) ∷ (codes "name", av.S (codes "n")) ∷ [])) ≡ answer.fault expected_num
-unfolding read_fields
+field_first : read user_shape (attribute (av.M (av.member (codes "age") (av.S (codes "1")) (av.member (codes "id") (av.N (codes "2")) (av.member (codes "name") (av.S (codes "n")) av.no_members))))) ≡ answer.fault expected_num
 field_first = refl
 
 -- a field that is missing, by name and in order
-missing : user_parts (by_name ((codes "id", av.S (codes "x")) ∷ (codes "name", av.S (codes "n")) ∷ [])) ≡ answer.refused
-unfolding read_fields
+missing : read user_shape (attribute (av.M (av.member (codes "id") (av.S (codes "x")) (av.member (codes "name") (av.S (codes "n")) av.no_members)))) ≡ answer.refused
 missing = refl
 
-too_short : user_parts (in_order (attribute (av.S (codes "a")) ∷ attribute (av.S (codes "b")) ∷ [])) ≡ answer.refused
-unfolding read_first
+too_short : read user_shape (attribute (av.L (av.element (av.S (codes "a")) (av.element (av.S (codes "b")) av.no_elements)))) ≡ answer.refused
 too_short = refl
 
-in_their_order : user_parts (in_order (attribute (av.S (codes "a")) ∷ attribute (av.S (codes "b")) ∷ attribute (av.N (codes "7")) ∷ [])) ≡ answer.value (user_of (codes "a") (codes "b") (pos 7))
-unfolding read_first
+in_their_order : read user_shape (attribute (av.L (av.element (av.S (codes "a")) (av.element (av.S (codes "b")) (av.element (av.N (codes "7")) av.no_elements))))) ≡ answer.value (user_of (codes "a") (codes "b") (pos 7))
 in_their_order = refl
 
 -- a unit variant needs nothing of its content
-unit_with_content : event_content (event_tag (codes "Unit")) (Some (attribute (av.N (codes "x")))) ≡ answer.value event_unit
+unit_with_content : read event_shape (attribute (av.M (av.member (codes "Unit") (av.N (codes "x")) av.no_members))) ≡ answer.value event_unit
 unit_with_content = refl

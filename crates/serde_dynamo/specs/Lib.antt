@@ -66,5 +66,3 @@ pub use Rattle.dynamo_types.specs.Keys
 pub mod Reread
 pub mod SampleShapes
 pub mod Samples
-pub mod SamplesByShape
-pub mod SamplesRead

@@ -1,3 +1,4 @@
+pub mod InOrder
 pub mod PointRows
 pub mod StationFields
 pub mod StationRows

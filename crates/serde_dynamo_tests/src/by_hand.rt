@@ -229,7 +229,7 @@ impl Visitor for PointVisitor {
         matches!(kind, Kind::Seq)
     }
 
-    #[tactic(auto, using(serde_dynamo::proofs::InOrder::byte_element, serde_dynamo::proofs::InOrder::byte_lacks, serde_dynamo::proofs::InOrder::byte_fails))]
+    #[tactic(auto, using(crate::proofs::InOrder::byte_element, crate::proofs::InOrder::byte_lacks, crate::proofs::InOrder::byte_fails))]
     fn visit_seq<A: SeqAccess>(self, mut seq: A) -> Result<Point, A::Error> {
         let too_short = "invalid length: too few elements, expected tuple struct Point";
         let Some(x) = seq.next_element::<u8>(self.alloc)? else {

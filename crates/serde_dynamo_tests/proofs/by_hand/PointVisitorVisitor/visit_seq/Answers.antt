@@ -4,7 +4,7 @@ use Rattle.dynamo_value.specs.Integer.{u8}
 use Rattle.dynamo_de.specs.Access.{NextElement}
 use Rattle.dynamo_de.specs.Answer.{Is, Gives}
 use Rattle.dynamo_de.specs.Scalars.{read_integer}
-use Rattle.serde_dynamo.proofs.InOrder.{byte_element, byte_fails}
+use Rattle.serde_dynamo_tests.proofs.InOrder.{byte_element, byte_fails}
 use Rattle.serde_dynamo_tests.specs.PointShape.{point_told}
 use Rattle.serde_dynamo_tests.proofs.by_hand.PointVisitorVisitor.visit_seq.Goals as goal
 
