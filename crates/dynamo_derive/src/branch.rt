@@ -2,7 +2,6 @@
 use crate::case::Case;
 use crate::layout::fits;
 use std::alloc::{AllocError, Global};
-use std::fmt::Write;
 
 #[derive(Clone, Copy, Debug)]
 enum Side {
@@ -70,13 +69,9 @@ pub fn ghost_branch(
 
 /// The declaration of the list of variants.
 pub fn choice_type(alloc: Global, name: &str, cases: &[Case]) -> Result<String, AllocError> {
-    let line = one_line(alloc, cases)?;
-    let line = format!(in alloc; "type {name}Variants = {line};")?;
-    if fits(line.as_str()) {
-        return Ok(line);
-    }
-    let lines = laid_out(alloc, cases, "")?;
-    format!(in alloc; "type {name}Variants = {lines};")
+    let before = format!(in alloc; "type {name}Variants = ")?;
+    let ty = laid_out(alloc, before.as_str(), "", cases)?;
+    format!(in alloc; "{before}{ty};")
 }
 
 fn one_line(alloc: Global, cases: &[Case]) -> Result<String, AllocError> {
@@ -92,27 +87,22 @@ fn one_line(alloc: Global, cases: &[Case]) -> Result<String, AllocError> {
     }
 }
 
-// The type on several lines, of which the first is indented by this.
-fn laid_out(alloc: Global, cases: &[Case], indent: &str) -> Result<String, AllocError> {
-    match cases {
-        [] => Ok(String::new(alloc)),
-        [case] => case.listed_type.clone(),
-        _ => {
-            let deeper = format!(in alloc; "{indent}    ")?;
-            let (left, right) = cases.split_at(cases.len() - cases.len() / 2);
-            let mut text = String::from_str(alloc, "Choice<\n")?;
-            for half in [left, right] {
-                let line = one_line(alloc, half)?;
-                let line = format!(in alloc; "{deeper}{line},")?;
-                if fits(line.as_str()) {
-                    writeln!(text, "{line}")?;
-                } else {
-                    let lines = laid_out(alloc, half, deeper.as_str())?;
-                    writeln!(text, "{deeper}{lines},")?;
-                }
-            }
-            write!(text, "{indent}>")?;
-            Ok(text)
-        }
+// The type, behind this text in a line that is indented by this. It stands on several lines where one is too wide.
+fn laid_out(
+    alloc: Global,
+    before: &str,
+    indent: &str,
+    cases: &[Case],
+) -> Result<String, AllocError> {
+    let ty = one_line(alloc, cases)?;
+    let line = format!(in alloc; "{before}{ty},")?;
+    if cases.len() < 2 || fits(line.as_str()) {
+        return Ok(ty);
     }
+    let deeper = format!(in alloc; "{indent}    ")?;
+    let deeper = deeper.as_str();
+    let (left, right) = cases.split_at(cases.len() - cases.len() / 2);
+    let left = laid_out(alloc, deeper, deeper, left)?;
+    let right = laid_out(alloc, deeper, deeper, right)?;
+    format!(in alloc; "Choice<\n{deeper}{left},\n{deeper}{right},\n{indent}>")
 }

@@ -1,4 +1,4 @@
-ghost use Rattle.std.specs.Prelude.{◌≤◌, ◌<◌, length};
+ghost use Rattle.std.specs.Prelude.{◌≤◌, ◌<◌};
 
 use crate::declaration::{Field, Form, SetKind};
 use std::alloc::{AllocError, Global};
@@ -16,7 +16,7 @@ pub fn grouped(out: &mut String, leaves: &[String]) -> Result<(), AllocError> {
     out.push('(')?;
     let mut rest = leaves;
     for done in 0..groups {
-        let (group, after) = rest.split_at(rest.len().div_ceil(groups - done));
+        let (group, after) = rest.split_at(share(rest.len(), groups - done));
         if done > 0 {
             out.push_str(", ")?;
         }
@@ -24,6 +24,16 @@ pub fn grouped(out: &mut String, leaves: &[String]) -> Result<(), AllocError> {
         rest = after;
     }
     out.push(')')
+}
+
+// How many leaves the first of so many groups has.
+fn share(leaves: usize, groups: usize) -> usize
+    requires { 0 < groups }
+    ensures within { result ≤ leaves }
+    ensures some { 0 < leaves → 0 < result }
+    ensures fewer { 1 < groups → 1 < leaves → result < leaves }
+{
+    leaves.div_ceil(groups)
 }
 
 /// The text of the grouped list.
