@@ -3,7 +3,7 @@ use crate::case::Case;
 use crate::layout::fits;
 use std::alloc::{AllocError, Global};
 
-#[derive(Clone, Copy, Debug)]
+#[derive(Clone, Copy)]
 enum Side {
     Left,
     Right,

@@ -4,7 +4,7 @@ use crate::tree::{leaf_refs, leaf_types, names, tree, wrapped};
 use std::alloc::{AllocError, Global};
 
 /// A variant, by the texts that stand for it in the impls of its enum.
-#[derive(Debug, Drop)]
+#[derive(Drop)]
 pub struct Case {
     pub name: String,
 
@@ -32,7 +32,7 @@ pub struct Case {
 }
 
 // What a variant holds: the text is the type of the one field, and the name of the list of several with names.
-#[derive(Debug, Drop)]
+#[derive(Drop)]
 enum Kind {
     Nothing,
     One(String),

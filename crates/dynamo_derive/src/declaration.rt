@@ -1,3 +1,5 @@
+use std::alloc::{AllocError, Global};
+
 /// A struct or an enum, by what its description needs.
 #[derive(Debug, Drop)]
 pub struct Declaration {
@@ -5,6 +7,7 @@ pub struct Declaration {
 
     /// The name that it is written under.
     pub shown: String,
+    pub line: u32,
     pub parameters: Vec<Parameter>,
 
     /// Whether it derives what a map's key needs.
@@ -35,6 +38,25 @@ pub enum Body {
 
     /// An enum of which some variant has contents.
     Choices(Vec<Variant>),
+}
+
+impl Declaration {
+    /// What the lists of its named fields are called by: the struct, or the variants that have such fields.
+    pub fn lists(&self, alloc: Global) -> Result<Vec<&str>, AllocError> {
+        let mut names = Vec::new(alloc);
+        match &self.body {
+            Body::Record(_) => names.push(self.name.as_str())?,
+            Body::Choices(variants) => {
+                for variant in variants {
+                    if let Contents::Named(_) = variant.contents {
+                        names.push(variant.name.as_str())?;
+                    }
+                }
+            }
+            _ => {}
+        }
+        Ok(names)
+    }
 }
 
 impl Body {

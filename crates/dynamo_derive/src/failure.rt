@@ -36,6 +36,7 @@ pub enum Reason {
     Rule(String),
     Text,
     With(String),
+    SameList(String),
     NoSet,
     DefaultSet,
 }
@@ -80,6 +81,7 @@ impl fmt::Display for Reason {
             Reason::Twice(name) => write!(f, "the serde attribute `{name}` stands here twice"),
             Reason::Rule(rule) => write!(f, "`{rule}` is none of serde's rules for names"),
             Reason::With(path) => write!(f, "fields with {path:?} are not described"),
+            Reason::SameList(name) => write!(f, "`{name}Fields` would be declared twice"),
             reason => f.write_str(reason.text()),
         }
     }

@@ -5,7 +5,7 @@ use std::alloc::{AllocError, Global};
 use std::fmt::Write;
 
 /// What the printed impls mention.
-#[derive(Clone, Copy, Debug, Default)]
+#[derive(Clone, Copy, Default)]
 pub struct Mentions {
     pub records: bool,
     pub units: bool,
@@ -107,6 +107,21 @@ pub fn print_ghost_imports(
     let records = ["record_of", "record_tells", "record_reads", "about_record"];
     let records = records.map(|name| (name, found.records));
     print_ghost(alloc, out, "dynamo_record.specs.Records", &records)?;
+    print_newtype_imports(alloc, out, found)?;
+    print_unit_imports(alloc, out, found)?;
+    let choices = ["enum_of", "enum_tells", "enum_reads", "about_enum"];
+    let choices = choices.map(|name| (name, found.choices));
+    print_ghost(alloc, out, "dynamo_record.specs.Enums", &choices)?;
+    let branches = [("Left", found.branches), ("Right", found.branches)];
+    let path = "dynamo_record.specs.declared.variant_list.Choice.TheVariants";
+    print_ghost(alloc, out, path, &branches)
+}
+
+fn print_newtype_imports(
+    alloc: Global,
+    out: &mut String,
+    found: &Mentions,
+) -> Result<(), AllocError> {
     let newtypes = [
         ("about_newtype", found.newtypes),
         ("about_unit_struct", found.unit_structs),
@@ -117,7 +132,10 @@ pub fn print_ghost_imports(
         ("unit_struct_by_shape", found.unit_structs),
         ("unit_struct_reads", found.unit_structs),
     ];
-    print_ghost(alloc, out, "dynamo_record.specs.Newtypes", &newtypes)?;
+    print_ghost(alloc, out, "dynamo_record.specs.Newtypes", &newtypes)
+}
+
+fn print_unit_imports(alloc: Global, out: &mut String, found: &Mentions) -> Result<(), AllocError> {
     let units = [
         ("units_of", found.units),
         ("about_units", found.units),
@@ -125,13 +143,7 @@ pub fn print_ghost_imports(
         ("unit_enum_tells", found.units),
         ("unit_enum_reads", found.units),
     ];
-    print_ghost(alloc, out, "dynamo_record.specs.UnitEnums", &units)?;
-    let choices = ["enum_of", "enum_tells", "enum_reads", "about_enum"];
-    let choices = choices.map(|name| (name, found.choices));
-    print_ghost(alloc, out, "dynamo_record.specs.Enums", &choices)?;
-    let branches = [("Left", found.branches), ("Right", found.branches)];
-    let path = "dynamo_record.specs.declared.variant_list.Choice.TheVariants";
-    print_ghost(alloc, out, path, &branches)
+    print_ghost(alloc, out, "dynamo_record.specs.UnitEnums", &units)
 }
 
 fn print_ghost(
@@ -158,22 +170,17 @@ pub fn print_imports(alloc: Global, out: &mut String, found: &Mentions) -> Resul
         ("ShapedKey", found.keys()),
         ("StringSet", found.strings),
     ];
-    let is_alone = wanted(alloc, &shaped)?.len() == 1;
+    let shaped = wanted(alloc, &shaped)?;
+    let is_alone = shaped.len() == 1;
     if is_alone {
-        print_use(alloc, out, "serde_dynamo", &shaped)?;
+        print_use(alloc, out, "serde_dynamo", shaped.as_slice())?;
     }
-    let de = [
-        ("Deserialize", true),
-        ("Deserializer", true),
-        ("Error", true),
-    ];
-    print_use(alloc, out, "serde_dynamo::de", &de)?;
-    let ser = [("Serialize", true), ("Serializer", true)];
-    print_use(alloc, out, "serde_dynamo::ser", &ser)?;
+    out.push_str("use serde_dynamo::de::{Deserialize, Deserializer, Error};\n")?;
+    out.push_str("use serde_dynamo::ser::{Serialize, Serializer};\n")?;
     if !is_alone {
-        print_use(alloc, out, "serde_dynamo", &shaped)?;
+        print_use(alloc, out, "serde_dynamo", shaped.as_slice())?;
     }
-    print_use(alloc, out, "std::alloc", &[("Global", true)])
+    out.push_str("use std::alloc::Global;\n")
 }
 
 fn print_record_imports(
@@ -181,8 +188,17 @@ fn print_record_imports(
     out: &mut String,
     found: &Mentions,
 ) -> Result<(), AllocError> {
+    let mut names = wanted(alloc, &record_types(found))?;
+    for name in wanted(alloc, &record_functions(found))? {
+        names.push(name)?;
+    }
+    print_use(alloc, out, "dynamo_record", names.as_slice())
+}
+
+// The types and the traits of `dynamo_record`, and whether they are mentioned.
+fn record_types(found: &Mentions) -> [(&'static str, bool); 16] {
     let lists = found.records || found.several || found.named;
-    let names = [
+    [
         ("Choice", found.branches),
         ("Enumeration", found.choices),
         ("Field", lists),
@@ -199,6 +215,12 @@ fn print_record_imports(
         ("UnitEnum", found.units),
         ("VariantList", found.choices),
         ("WithDefault", found.defaults),
+    ]
+}
+
+// Its functions, and whether they are mentioned.
+fn record_functions(found: &Mentions) -> [(&'static str, bool); 19] {
+    [
         ("conform_unit_enum", found.units),
         ("named_conform", found.named),
         ("one_conforms", found.one),
@@ -218,26 +240,24 @@ fn print_record_imports(
         ("write_struct", found.named),
         ("write_unit", found.nothing),
         ("write_unit_enum", found.units),
-    ];
-    print_use(alloc, out, "dynamo_record", &names)
+    ]
 }
 
 fn print_use(
     alloc: Global,
     out: &mut String,
     path: &str,
-    names: &[(&str, bool)],
+    names: &[String],
 ) -> Result<(), AllocError> {
-    let wanted = wanted(alloc, names)?;
-    if let [name] = wanted.as_slice() {
+    if let [name] = names {
         return writeln!(out, "use {path}::{name};");
     }
-    let line = joined(alloc, wanted.as_slice(), ", ")?;
+    let line = joined(alloc, names, ", ")?;
     let line = format!(in alloc; "use {path}::{{{line}}};")?;
     if fits(line.as_str()) {
         return writeln!(out, "{line}");
     }
-    let lines = filled(alloc, "    ", wanted.as_slice())?;
+    let lines = filled(alloc, "    ", names)?;
     writeln!(out, "use {path}::{{\n{lines}}};")
 }
 

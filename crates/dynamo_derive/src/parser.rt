@@ -31,14 +31,7 @@ fn read_declaration(alloc: Global, item: &[Token]) -> Result<Declaration, Failur
     about.refuse_field_forms()?;
     let rest = after_visibility(rest);
     let line = line_of(rest, start);
-    let (is_struct, name, rest) = match rest {
-        [keyword, name, rest @ ..] if keyword.is("struct") => (true, name, rest),
-        [keyword, name, rest @ ..] if keyword.is("enum") => (false, name, rest),
-        _ => return Err(Failure::Refused(line, Reason::Item)),
-    };
-    if !name.is_word() {
-        return Err(Failure::Refused(name.line, Reason::Name));
-    }
+    let (is_struct, name, rest) = named_item(rest, line)?;
     let (parameters, rest) = match bracketed(rest, "<") {
         Some((inside, rest)) => (parameters(alloc, inside, line)?, rest),
         None => (Vec::new(alloc), rest),
@@ -59,10 +52,25 @@ fn read_declaration(alloc: Global, item: &[Token]) -> Result<Declaration, Failur
     Ok(Declaration {
         name,
         shown,
+        line,
         parameters,
         is_key,
         body,
     })
+}
+
+// Whether the item is a struct, its name, and what follows that.
+fn named_item(item: &[Token], line: u32) -> Result<(bool, &Token, &[Token]), Failure> {
+    let (is_struct, name, rest) = match item {
+        [keyword, name, rest @ ..] if keyword.is("struct") => (true, name, rest),
+        [keyword, name, rest @ ..] if keyword.is("enum") => (false, name, rest),
+        _ => return Err(Failure::Refused(line, Reason::Item)),
+    };
+    if name.is_word() {
+        Ok((is_struct, name, rest))
+    } else {
+        Err(Failure::Refused(name.line, Reason::Name))
+    }
 }
 
 fn parameters(alloc: Global, inside: &[Token], line: u32) -> Result<Vec<Parameter>, Failure> {

@@ -1,8 +1,11 @@
-use super::shared::{Heading, codes, print_deserialize, print_serialize, print_shaped};
+use super::shared::{
+    Heading, codes, name_function, names_function, print_deserialize, print_serialize,
+    print_shaped, variant_names,
+};
 use crate::branch::{choice_type, ghost_branch, pattern_branch};
 use crate::case::{Case, cases};
 use crate::declaration::{Contents, Field, Variant};
-use crate::layout::{arm, array, quoted};
+use crate::layout::arm;
 use crate::tree::{leaf_types, shown_names, tree};
 use std::alloc::{AllocError, Global};
 use std::fmt::Write;
@@ -26,6 +29,16 @@ pub fn print_choices(
     let list = choice_type(alloc, name, cases)?;
     writeln!(out, "{list}\n")?;
     print_description(alloc, out, about, variants, cases, alias)?;
+    print_traits(alloc, out, about, cases)
+}
+
+fn print_traits(
+    alloc: Global,
+    out: &mut String,
+    about: &Heading,
+    cases: &[Case],
+) -> Result<(), AllocError> {
+    let name = about.name.as_str();
     print_serialize(
         out,
         about,
@@ -61,11 +74,7 @@ fn print_named_fields(
     let types = tree(alloc, leaf_types(alloc, fields)?.as_slice())?;
     let shown = shown_names(alloc, fields)?;
     let codes = codes(alloc, shown.as_slice())?;
-    let texts = array(
-        alloc,
-        "        ",
-        quoted(alloc, shown.as_slice())?.as_slice(),
-    )?;
+    let names_function = names_function(alloc, shown.as_slice())?;
     writeln!(
         out,
         "/// The fields of [`{of}::{variant}`].
@@ -78,9 +87,7 @@ impl NamedFields for {variant}Fields {{
 
     ghost named = {{ (refl, refl) }};
 
-    fn names() -> &'static [&'static str] {{
-        {texts}
-    }}
+{names_function}
 }}
 "
     )
@@ -95,16 +102,10 @@ fn print_description(
     alias: &str,
 ) -> Result<(), AllocError> {
     let Heading { name, shown, .. } = about;
-    let mut shown_names = Vec::new(alloc);
-    for variant in variants {
-        shown_names.push(variant.shown.clone()?)?;
-    }
-    let codes = codes(alloc, shown_names.as_slice())?;
-    let texts = array(
-        alloc,
-        "        ",
-        quoted(alloc, shown_names.as_slice())?.as_slice(),
-    )?;
+    let names = variant_names(alloc, variants)?;
+    let codes = codes(alloc, names.as_slice())?;
+    let name_function = name_function(alloc, shown.as_str())?;
+    let names_function = names_function(alloc, names.as_slice())?;
     let parts = parts(alloc, cases, alias)?;
     let arms = make_arms(alloc, cases)?;
     writeln!(
@@ -117,13 +118,9 @@ fn print_description(
 
     ghost named = {{ (refl, refl) }};
 
-    fn name() -> &'static str {{
-        \"{shown}\"
-    }}
+{name_function}
 
-    fn names() -> &'static [&'static str] {{
-        {texts}
-    }}
+{names_function}
 
     fn make(variant: {name}Variants) -> {name} {{
         match variant {{

@@ -10,24 +10,14 @@ pub fn print_newtype(
     of: &str,
 ) -> Result<(), AllocError> {
     let Heading { name, shown, .. } = about;
-    let is_generic = !about.arguments.is_empty();
     let letter = letter(alloc, name.as_str())?;
     let field = format!(in alloc; "(codes \"{shown}\") (λ {letter}. {letter}.0)")?;
-    let known = if is_generic {
-        format!(in alloc; "{of}.about")?
-    } else {
-        format!(in alloc; "⟦<{of} as Shaped>⟧.about")?
-    };
-    let wants = if is_generic {
-        format!(in alloc; "λ {letter}. {of}.wants {letter}.0")?
-    } else {
-        String::from_str(alloc, "λ _. ⊥")?
-    };
+    let known = known(alloc, about, of)?;
     print_serialize(
         out,
         about,
         &format!(in alloc; "(about_newtype {field} {known}).tells")?,
-        &wants,
+        &wants(alloc, about, of, letter.as_str())?,
         &format!(in alloc; "write_newtype(\"{shown}\", &self.0, serializer)")?,
     )?;
     print_deserialize(
@@ -48,6 +38,24 @@ pub fn print_newtype(
         print_newtype_key(alloc, out, about, of, field.as_str())?;
     }
     Ok(())
+}
+
+// What is known of the field's type, which is a parameter of a generic newtype.
+fn known(alloc: Global, about: &Heading, of: &str) -> Result<String, AllocError> {
+    if about.arguments.is_empty() {
+        format!(in alloc; "⟦<{of} as Shaped>⟧.about")
+    } else {
+        format!(in alloc; "{of}.about")
+    }
+}
+
+// What writing asks for beside memory.
+fn wants(alloc: Global, about: &Heading, of: &str, letter: &str) -> Result<String, AllocError> {
+    if about.arguments.is_empty() {
+        String::from_str(alloc, "λ _. ⊥")
+    } else {
+        format!(in alloc; "λ {letter}. {of}.wants {letter}.0")
+    }
 }
 
 fn print_newtype_key(

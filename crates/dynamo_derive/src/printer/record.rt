@@ -1,6 +1,8 @@
-use super::shared::{Heading, codes, print_deserialize, print_serialize, print_shaped};
+use super::shared::{
+    Heading, codes, name_function, names_function, print_deserialize, print_serialize, print_shaped,
+};
 use crate::declaration::Field;
-use crate::layout::{array, literal, quoted};
+use crate::layout::literal;
 use crate::tree::{leaf_refs, leaf_types, names, shown_names, tree, wrapped};
 use std::alloc::{AllocError, Global};
 use std::fmt::Write;
@@ -60,45 +62,66 @@ fn print_description(
         shaped,
         ..
     } = about;
-    let names = names(alloc, fields)?;
-    let shown_names = shown_names(alloc, fields)?;
-    let codes = codes(alloc, shown_names.as_slice())?;
-    let parts = wrapped(alloc, names.as_slice(), "record { 0 = s.", " }")?;
-    let parts = tree(alloc, parts.as_slice())?;
-    let texts = array(
-        alloc,
-        "        ",
-        quoted(alloc, shown_names.as_slice())?.as_slice(),
-    )?;
-    let pattern = wrapped(alloc, names.as_slice(), "Field(", ")")?;
-    let pattern = tree(alloc, pattern.as_slice())?;
-    let made = literal(alloc, "        ", name, names.as_slice())?;
+    let list = format!(in alloc; "{name}Fields{arguments}")?;
+    let names = shown_names(alloc, fields)?;
+    let described = described(alloc, shown.as_str(), list.as_str(), fields)?;
+    let name_function = name_function(alloc, shown.as_str())?;
+    let names_function = names_function(alloc, names.as_slice())?;
+    let make = make_function(alloc, about, list.as_str(), fields)?;
     writeln!(
         out,
         "impl{shaped} Record for {ty} {{
-    type Fields = {name}Fields{arguments};
+    type Fields = {list};
 
-    ghost about = {{ record_of (codes \"{shown}\") ({codes}) (λ s. {parts}) ⟦<{name}Fields{arguments} as FieldList>⟧.about }};
+    ghost about = {{ {described} }};
 
     ghost named = {{ (refl, refl) }};
 
-    fn name() -> &'static str {{
-        \"{shown}\"
-    }}
+{name_function}
 
     fn expecting() -> &'static str {{
         \"struct {name}\"
     }}
 
-    fn names() -> &'static [&'static str] {{
-        {texts}
-    }}
+{names_function}
 
-    fn make(fields: {name}Fields{arguments}) -> {ty} {{
-        let {pattern} = fields;
-        {made}
-    }}
+{make}
 }}
 "
+    )
+}
+
+// What is known of the struct, by its name, the names of its fields and the list of these.
+fn described(
+    alloc: Global,
+    shown: &str,
+    list: &str,
+    fields: &[Field],
+) -> Result<String, AllocError> {
+    let codes = codes(alloc, shown_names(alloc, fields)?.as_slice())?;
+    let names = names(alloc, fields)?;
+    let parts = wrapped(alloc, names.as_slice(), "record { 0 = s.", " }")?;
+    let parts = tree(alloc, parts.as_slice())?;
+    let known = format!(in alloc; "⟦<{list} as FieldList>⟧.about")?;
+    format!(in alloc; "record_of (codes \"{shown}\") ({codes}) (λ s. {parts}) {known}")
+}
+
+// The function that makes a value of the list.
+fn make_function(
+    alloc: Global,
+    about: &Heading,
+    list: &str,
+    fields: &[Field],
+) -> Result<String, AllocError> {
+    let Heading { name, ty, .. } = about;
+    let names = names(alloc, fields)?;
+    let pattern = wrapped(alloc, names.as_slice(), "Field(", ")")?;
+    let pattern = tree(alloc, pattern.as_slice())?;
+    let made = literal(alloc, "        ", name.as_str(), names.as_slice())?;
+    format!(in alloc;
+        "    fn make(fields: {list}) -> {ty} {{
+        let {pattern} = fields;
+        {made}
+    }}"
     )
 }

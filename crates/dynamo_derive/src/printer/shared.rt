@@ -1,10 +1,10 @@
-use crate::declaration::{Declaration, Parameter};
-use crate::layout::{fits, joined};
+use crate::declaration::{Declaration, Parameter, Variant};
+use crate::layout::{array, fits, joined, quoted};
 use std::alloc::{AllocError, Global};
 use std::fmt::Write;
 
 /// How the impls of a type name it.
-#[derive(Debug, Drop)]
+#[derive(Drop)]
 pub struct Heading {
     /// Its own name.
     pub name: String,
@@ -74,6 +74,35 @@ pub fn codes(alloc: Global, names: &[String]) -> Result<String, AllocError> {
     }
     text.push_str("[]")?;
     Ok(text)
+}
+
+/// The names that the variants are written under.
+pub fn variant_names(alloc: Global, variants: &[Variant]) -> Result<Vec<String>, AllocError> {
+    let mut found = Vec::new(alloc);
+    for variant in variants {
+        found.push(variant.shown.clone()?)?;
+    }
+    Ok(found)
+}
+
+/// The function that answers the name.
+pub fn name_function(alloc: Global, name: &str) -> Result<String, AllocError> {
+    format!(in alloc;
+        "    fn name() -> &'static str {{
+        \"{name}\"
+    }}"
+    )
+}
+
+/// The function that answers the names.
+pub fn names_function(alloc: Global, names: &[String]) -> Result<String, AllocError> {
+    let texts = quoted(alloc, names)?;
+    let texts = array(alloc, "        ", texts.as_slice())?;
+    format!(in alloc;
+        "    fn names() -> &'static [&'static str] {{
+        {texts}
+    }}"
+    )
 }
 
 /// Prints the impl of `Serialize`, by its ghost members and its body.

@@ -1,6 +1,9 @@
-use super::shared::{Heading, codes, print_deserialize, print_key, print_serialize, print_shaped};
+use super::shared::{
+    Heading, codes, name_function, names_function, print_deserialize, print_key, print_serialize,
+    print_shaped, variant_names,
+};
 use crate::declaration::Variant;
-use crate::layout::{array, call_with_array, quoted};
+use crate::layout::call_with_array;
 use std::alloc::{AllocError, Global};
 use std::fmt::Write;
 
@@ -50,32 +53,24 @@ fn print_description(
     alias: &str,
 ) -> Result<(), AllocError> {
     let Heading { name, shown, .. } = about;
-    let mut shown_names = Vec::new(alloc);
+    let names = variant_names(alloc, variants)?;
     let mut paths = Vec::new(alloc);
     for variant in variants {
         let own = variant.name.as_str();
-        shown_names.push(variant.shown.clone()?)?;
         paths.push(format!(in alloc; "{name}::{own}")?)?;
     }
-    let codes = codes(alloc, shown_names.as_slice())?;
-    let texts = array(
-        alloc,
-        "        ",
-        quoted(alloc, shown_names.as_slice())?.as_slice(),
-    )?;
+    let codes = codes(alloc, names.as_slice())?;
+    let name_function = name_function(alloc, shown.as_str())?;
+    let names_function = names_function(alloc, names.as_slice())?;
     let variant_at = call_with_array(alloc, "        ", "variant_at", paths.as_slice(), "number")?;
     writeln!(
         out,
         "impl UnitEnum for {name} {{
     ghost about = {{ units_of {alias} (codes \"{shown}\") ({codes}) refl }};
 
-    fn name() -> &'static str {{
-        \"{shown}\"
-    }}
+{name_function}
 
-    fn names() -> &'static [&'static str] {{
-        {texts}
-    }}
+{names_function}
 
     fn number(&self) -> u32 {{
         *self as u32

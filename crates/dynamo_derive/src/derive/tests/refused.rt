@@ -39,7 +39,7 @@ fn texts_that_are_no_declarations(rt: HostRuntime) -> Result<(), Fail> {
 }
 
 #[test]
-fn forms_that_are_not_described(rt: HostRuntime) -> Result<(), Fail> {
+fn structs_that_are_not_described(rt: HostRuntime) -> Result<(), Fail> {
     let alloc = rt.alloc();
     for (text, wanted) in [
         (
@@ -74,6 +74,16 @@ fn forms_that_are_not_described(rt: HostRuntime) -> Result<(), Fail> {
             "struct A<T>(Vec<T>);",
             "line 1: a generic newtype is described where its field is a parameter",
         ),
+    ] {
+        refuses(&rt, alloc, text, wanted)?;
+    }
+    Ok(())
+}
+
+#[test]
+fn enums_that_are_not_described(rt: HostRuntime) -> Result<(), Fail> {
+    let alloc = rt.alloc();
+    for (text, wanted) in [
         (
             "enum E {}",
             "line 1: an enum without variants is not described",
@@ -116,6 +126,16 @@ fn attributes_that_are_not_described(rt: HostRuntime) -> Result<(), Fail> {
             "#[serde(default)]\nstruct A { a: u8 }",
             "line 1: the serde attribute `default` has no place here",
         ),
+    ] {
+        refuses(&rt, alloc, text, wanted)?;
+    }
+    Ok(())
+}
+
+#[test]
+fn uses_of_attributes_that_are_not_described(rt: HostRuntime) -> Result<(), Fail> {
+    let alloc = rt.alloc();
+    for (text, wanted) in [
         (
             "struct A {\n #[serde(with = \"other::set\")]\n a: Vec<u8> }",
             "line 2: fields with \"other::set\" are not described",
@@ -140,4 +160,21 @@ fn attributes_that_are_not_described(rt: HostRuntime) -> Result<(), Fail> {
         refuses(&rt, alloc, text, wanted)?;
     }
     Ok(())
+}
+
+#[test]
+fn lists_of_one_name(rt: HostRuntime) -> Result<(), Fail> {
+    let alloc = rt.alloc();
+    refuses(
+        &rt,
+        alloc,
+        "struct Made { a: u8 }\nenum Order { Made { a: u8 }, Gone }",
+        "line 2: `MadeFields` would be declared twice",
+    )?;
+    refuses(
+        &rt,
+        alloc,
+        "enum A { Made { a: u8 } }\n\nenum B { Made { b: u8 } }",
+        "line 3: `MadeFields` would be declared twice",
+    )
 }
