@@ -1,0 +1,13 @@
+use Rattle.std.proofs.Common.{length, ◌≤◌, ◌<◌}
+use Rattle.dynamo_derive.proofs.tree.+grouped.Given as goal
+
+abbrev pub decreases-grouped : goal.decreases-grouped
+decreases-grouped l = length l.leaves.now
+
+abbrev pub invariant-loop-done : goal.invariant-loop-done
+invariant-loop-done l = record {
+  several : 1 < l.groups;
+  leaves : 1 < length l.fn.leaves;
+  rest : length l.rest ≤ length l.fn.leaves;
+  fewer : 0 < l.done → length l.rest < length l.fn.leaves;
+}

@@ -1,0 +1,169 @@
+use crate::declaration::{Form, SetKind};
+use crate::failure::{Failure, Reason};
+use crate::parts::{bracketed, parts};
+use crate::rename::RenameRule;
+use crate::token::{Kind, Token};
+use std::alloc::Global;
+
+/// What the attributes at one place say.
+#[derive(Debug, Drop)]
+pub struct Attributes {
+    /// Whether `Ord` and `Hash` are derived.
+    pub is_key: bool,
+    pub rename: Option<String>,
+    pub rename_all: Option<RenameRule>,
+    pub is_default: bool,
+    pub set: Option<SetKind>,
+
+    /// The line of the last attribute of serde.
+    pub line: u32,
+}
+
+impl Attributes {
+    /// Refuses the attributes that have a place at fields alone.
+    pub fn refuse_field_forms(&self) -> Result<(), Failure> {
+        if self.is_default {
+            return Err(Failure::Refused(self.line, Reason::Misplaced("default")));
+        }
+        if self.set.is_some() {
+            return Err(Failure::Refused(self.line, Reason::Misplaced("with")));
+        }
+        Ok(())
+    }
+
+    /// Refuses a rule for the names of what stands inside, where nothing does.
+    pub fn refuse_rename_all(&self) -> Result<(), Failure> {
+        match self.rename_all {
+            Some(_) => Err(Failure::Refused(self.line, Reason::Misplaced("rename_all"))),
+            None => Ok(()),
+        }
+    }
+
+    /// How a field with these attributes is stored.
+    pub fn form(&self) -> Result<Form, Failure> {
+        match (self.set, self.is_default) {
+            (Some(_), true) => Err(Failure::Refused(self.line, Reason::DefaultSet)),
+            (Some(set), false) => Ok(Form::Set(set)),
+            (None, true) => Ok(Form::Defaulted),
+            (None, false) => Ok(Form::Plain),
+        }
+    }
+}
+
+/// Reads the attributes at one place. Those that are neither serde's nor derives are passed over.
+///
+/// # Errors
+///
+/// Refuses what serde has and the description doesn't, and `cfg`.
+pub fn read_attributes(alloc: Global, tokens: &[Token]) -> Result<Attributes, Failure> {
+    let mut found = Attributes {
+        is_key: false,
+        rename: None,
+        rename_all: None,
+        is_default: false,
+        set: None,
+        line: 0,
+    };
+    let depth = tokens.first().map_or(0, |token| token.depth);
+    let mut derives_ord = false;
+    let mut derives_hash = false;
+    for attribute in tokens.split(|token| token.depth == depth && token.is("#")) {
+        let Some((inside, _)) = bracketed(attribute, "[") else {
+            continue;
+        };
+        let Some((name, rest)) = inside.split_first() else {
+            continue;
+        };
+        if name.is("cfg") || name.is("cfg_attr") {
+            return Err(Failure::Refused(name.line, Reason::Conditional));
+        }
+        if name.is("derive") {
+            derives_ord = derives_ord || rest.iter().any(|token| token.is("Ord"));
+            derives_hash = derives_hash || rest.iter().any(|token| token.is("Hash"));
+        }
+        if name.is("serde") {
+            found.line = name.line;
+            read_serde(alloc, rest, &mut found)?;
+        }
+    }
+    found.is_key = derives_ord && derives_hash;
+    Ok(found)
+}
+
+fn read_serde(alloc: Global, tokens: &[Token], found: &mut Attributes) -> Result<(), Failure> {
+    let Some((inside, _)) = bracketed(tokens, "(") else {
+        return Ok(());
+    };
+    for part in parts(alloc, inside)? {
+        match part {
+            [name] if name.is("default") => {
+                if found.is_default {
+                    return Err(Failure::Refused(name.line, Reason::Twice("default")));
+                }
+                found.is_default = true;
+            }
+            [name, equals, text] if equals.is("=") && text.kind == Kind::Text => {
+                read_valued(alloc, name, text, found)?;
+            }
+            [name, ..] => return unknown(alloc, name),
+            [] => {}
+        }
+    }
+    Ok(())
+}
+
+// Reads an attribute that has a text.
+fn read_valued(
+    alloc: Global,
+    name: &Token,
+    text: &Token,
+    found: &mut Attributes,
+) -> Result<(), Failure> {
+    if name.is("rename") {
+        if found.rename.is_some() {
+            return Err(Failure::Refused(name.line, Reason::Twice("rename")));
+        }
+        if !text.text.chars().all(is_plain) {
+            return Err(Failure::Refused(text.line, Reason::Text));
+        }
+        found.rename = Some(text.text.clone()?);
+    } else if name.is("rename_all") {
+        if found.rename_all.is_some() {
+            return Err(Failure::Refused(name.line, Reason::Twice("rename_all")));
+        }
+        found.rename_all = Some(rule(text)?);
+    } else if name.is("with") {
+        if found.set.is_some() {
+            return Err(Failure::Refused(name.line, Reason::Twice("with")));
+        }
+        found.set = Some(set_kind(text)?);
+    } else {
+        return unknown(alloc, name);
+    }
+    Ok(())
+}
+
+fn is_plain(c: char) -> bool {
+    matches!(c, ' '..='~') && c != '"' && c != '\\'
+}
+
+fn rule(text: &Token) -> Result<RenameRule, Failure> {
+    match RenameRule::of(text.text.as_str()) {
+        Some(rule) => Ok(rule),
+        None => Err(Failure::Refused(text.line, Reason::Rule(text.text.clone()?))),
+    }
+}
+
+fn set_kind(text: &Token) -> Result<SetKind, Failure> {
+    match text.text.as_str() {
+        "serde_dynamo::string_set" => Ok(SetKind::Strings),
+        "serde_dynamo::number_set" => Ok(SetKind::Numbers),
+        "serde_dynamo::binary_set" => Ok(SetKind::Binaries),
+        _ => Err(Failure::Refused(text.line, Reason::With(text.text.clone()?))),
+    }
+}
+
+fn unknown(alloc: Global, name: &Token) -> Result<(), Failure> {
+    let text = String::from_str(alloc, name.text.as_str())?;
+    Err(Failure::Refused(name.line, Reason::Attribute(text)))
+}

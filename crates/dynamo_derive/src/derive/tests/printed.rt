@@ -1,0 +1,94 @@
+// What is printed for forms that the program's own input does not have.
+use super::prints;
+use std::test::Fail;
+
+#[test]
+fn fields_are_stored_by_their_attributes(rt: HostRuntime) -> Result<(), Fail> {
+    prints(
+        &rt,
+        rt.alloc(),
+        "#[serde(rename = \"page\", rename_all = \"camelCase\")]
+        pub(crate) struct Page<T> {
+            #[serde(default)]
+            first_name: Option<HashMap<String, (u8, [u8; 4])>>,
+            #[serde(rename = \"Names\", with = \"serde_dynamo::string_set\")]
+            pub names: Vec<T>, // the names
+        }",
+        &[
+            "type PageFields<T> = (Field<WithDefault<Option<HashMap<String, (u8, [u8; 4])>>>>, Field<InStringSet<T>>);",
+            "impl<T: Shaped> Record for Page<T> {",
+            "record_of (codes \"page\") (codes \"firstName\" ∷ codes \"Names\" ∷ [])",
+            "\"struct Page\"",
+            "&[\"firstName\", \"Names\"]",
+            "let (Field(first_name), Field(names)) = fields;",
+            "write_record::<Page<T>, _, S>(serializer, &(&self.first_name, StringSet(&self.names)))",
+            "InStringSet, Record, WithDefault, read_record",
+            "use serde_dynamo::{Shaped, StringSet};",
+        ],
+    )
+}
+
+#[test]
+fn five_fields_are_four_groups(rt: HostRuntime) -> Result<(), Fail> {
+    prints(
+        &rt,
+        rt.alloc(),
+        "struct Five { a: u8, b: u8, c: u8, d: u8, e: u8 }",
+        &["let ((Field(a), Field(b)), Field(c), Field(d), Field(e)) = fields;"],
+    )
+}
+
+#[test]
+fn generic_newtypes_want_what_they_hold(rt: HostRuntime) -> Result<(), Fail> {
+    prints(
+        &rt,
+        rt.alloc(),
+        "#[derive(PartialEq, Eq, PartialOrd, Ord, Hash)] pub struct Wrapped<T>(pub T);",
+        &[
+            "impl<T: Shaped> Serialize for Wrapped<T> {",
+            "ghost wants = { λ w. T.wants w.0 };",
+            "impl<T: ShapedKey> ShapedKey for Wrapped<T> {",
+            "ghost is_key = { newtype_is_key (codes \"Wrapped\") (λ w. w.0) T.about_key T.about.shape T.about.tells T.eq T.cmp T.is_key };",
+        ],
+    )
+}
+
+#[test]
+fn several_enums_have_their_own_aliases(rt: HostRuntime) -> Result<(), Fail> {
+    prints(
+        &rt,
+        rt.alloc(),
+        "enum Side { Left, Right } struct Marker; enum DarkColor { Blue, Black }",
+        &[
+            "ghost use Rattle.my_crate.specs.contracts.my_module.Side.{enum as variants_of_side};",
+            "ghost use Rattle.my_crate.specs.contracts.my_module.DarkColor.{enum as variants_of_dark_color};",
+            "units_of variants_of_side (codes \"Side\")",
+            "    fn conforms(&self) {}\n",
+        ],
+    )
+}
+
+#[test]
+fn variants_are_renamed_and_nest(rt: HostRuntime) -> Result<(), Fail> {
+    prints(
+        &rt,
+        rt.alloc(),
+        "#[serde(rename_all = \"snake_case\")]
+        enum Shape {
+            Point,
+            #[serde(rename = \"O\")]
+            RoundOne(u8),
+            #[serde(rename_all = \"UPPERCASE\")]
+            Boxed { data: u8 },
+        }",
+        &[
+            "type ShapeVariants = Choice<Choice<Nothing, One<u8>>, Named<BoxedFields>>;",
+            "(codes \"point\" ∷ codes \"O\" ∷ codes \"boxed\" ∷ [])",
+            "    ghost names = { codes \"DATA\" ∷ [] };",
+            "      | is.Point ↦ Left (Left _)\n",
+            "      | is.RoundOne n ↦ Left (Right (record { 0 = n }))\n",
+            "      | is.Boxed «data» ↦ Right (record { 0 = record { 0 = «data» } })\n",
+            "Choice::Right(Named(Field(data))) => Shape::Boxed { data },",
+        ],
+    )
+}

@@ -1,0 +1,125 @@
+use std::alloc::{AllocError, AllocFailed};
+use std::fmt;
+
+/// Why a declaration is not described.
+#[derive(Debug, Drop)]
+pub enum Reason {
+    Character(char),
+    BlockComment,
+    Lifetime,
+    Unclosed,
+    Unopened,
+    OpenText,
+    NoEnd,
+    Item,
+    Name,
+    ConstParameter,
+    ParameterDefault,
+    Where,
+    Body,
+    NoFields,
+    TupleStruct,
+    GenericUnit,
+    WrappedType,
+    NoVariants,
+    GenericEnum,
+    Discriminant,
+    NoContents,
+    ManyContents,
+    ContentAttribute,
+    Field,
+    Type,
+    Conditional,
+    Attribute(String),
+    Misplaced(&'static str),
+    Twice(&'static str),
+    Rule(String),
+    Text,
+    With(String),
+    SameList(String),
+    NoSet,
+    DefaultSet,
+}
+
+/// Why nothing is printed.
+#[derive(Debug, Drop)]
+pub enum Failure {
+    /// What stands on the line is not described.
+    Refused(u32, Reason),
+
+    /// There is no memory.
+    Memory,
+}
+
+impl From<AllocError> for Failure {
+    fn from(_: AllocError) -> Failure {
+        Failure::Memory
+    }
+}
+
+impl<T: Drop> From<AllocFailed<T>> for Failure {
+    fn from(_: AllocFailed<T>) -> Failure {
+        Failure::Memory
+    }
+}
+
+impl fmt::Display for Failure {
+    fn fmt<W: fmt::Write>(&self, f: &mut fmt::Formatter<W>) -> fmt::Result {
+        match self {
+            Failure::Refused(line, reason) => write!(f, "line {line}: {reason}"),
+            Failure::Memory => f.write_str("out of memory"),
+        }
+    }
+}
+
+impl fmt::Display for Reason {
+    fn fmt<W: fmt::Write>(&self, f: &mut fmt::Formatter<W>) -> fmt::Result {
+        match self {
+            Reason::Character(c) => write!(f, "no declaration has the character {c:?} here"),
+            Reason::Attribute(name) => write!(f, "the serde attribute `{name}` is not described"),
+            Reason::Misplaced(name) => write!(f, "the serde attribute `{name}` has no place here"),
+            Reason::Twice(name) => write!(f, "the serde attribute `{name}` stands here twice"),
+            Reason::Rule(rule) => write!(f, "`{rule}` is none of serde's rules for names"),
+            Reason::With(path) => write!(f, "fields with {path:?} are not described"),
+            Reason::SameList(name) => write!(f, "`{name}Fields` would be declared twice"),
+            reason => f.write_str(reason.text()),
+        }
+    }
+}
+
+impl Reason {
+    // The text of a reason that names nothing of what is refused.
+    fn text(&self) -> &'static str {
+        match self {
+            Reason::BlockComment => "block comments are not read, write `//`",
+            Reason::Lifetime => "types with lifetimes are not described",
+            Reason::Unclosed => "this bracket is not closed",
+            Reason::Unopened => "this bracket closes none that is open",
+            Reason::OpenText => "this text is not ended",
+            Reason::NoEnd => "this declaration is not ended",
+            Reason::Item => "only structs and enums are described",
+            Reason::Name => "a name is missing",
+            Reason::ConstParameter => "const parameters are not described",
+            Reason::ParameterDefault => "a default of a type parameter is not described",
+            Reason::Where => "`where` is not described, write the bound at the parameter",
+            Reason::Body => "the struct or enum has no such body",
+            Reason::NoFields => "a struct without fields is declared by `struct Name;`",
+            Reason::TupleStruct => "tuple structs of several fields are not described",
+            Reason::GenericUnit => "a unit struct with type parameters is not described",
+            Reason::WrappedType => "a generic newtype is described where its field is a parameter",
+            Reason::NoVariants => "an enum without variants is not described",
+            Reason::GenericEnum => "enums with type parameters are not described",
+            Reason::Discriminant => "variants with a number are not described",
+            Reason::NoContents => "a variant with empty brackets is declared by its name alone",
+            Reason::ManyContents => "a variant has at most 26 fields without names",
+            Reason::ContentAttribute => "serde attributes have no place at a field without a name",
+            Reason::Field => "a field is written `name: Type`",
+            Reason::Type => "this is no type",
+            Reason::Conditional => "declarations that depend on `cfg` are not described",
+            Reason::Text => "a name is plain ASCII without quotes and backslashes",
+            Reason::NoSet => "only a field of type `Vec<T>` is stored as a set",
+            Reason::DefaultSet => "a field that is stored as a set has no default",
+            _ => "this is not described",
+        }
+    }
+}

@@ -1,0 +1,273 @@
+// The imports that the printed impls need.
+use crate::declaration::{Body, Contents, Declaration, Field, Form, SetKind, Variant};
+use crate::layout::{filled, fits, joined};
+use std::alloc::{AllocError, Global};
+use std::fmt::Write;
+
+/// What the printed impls mention.
+#[derive(Clone, Copy, Default)]
+pub struct Mentions {
+    pub records: bool,
+    pub units: bool,
+    pub unit_keys: bool,
+    pub newtypes: bool,
+    pub newtype_keys: bool,
+    pub generic_keys: bool,
+    pub unit_structs: bool,
+    pub choices: bool,
+    pub branches: bool,
+    pub nothing: bool,
+    pub one: bool,
+    pub several: bool,
+    pub named: bool,
+    pub defaults: bool,
+    pub strings: bool,
+    pub numbers: bool,
+    pub binaries: bool,
+}
+
+/// What the impls of these declarations mention.
+pub fn mentioned(declarations: &[Declaration]) -> Mentions {
+    let mut found = Mentions::default();
+    for declaration in declarations {
+        let is_generic = !declaration.parameters.is_empty();
+        match &declaration.body {
+            Body::Record(fields) => {
+                found.records = true;
+                found.mention_fields(fields);
+            }
+            Body::Newtype(_) => {
+                found.newtypes = true;
+                found.newtype_keys = found.newtype_keys || (declaration.is_key && !is_generic);
+                found.generic_keys = found.generic_keys || (declaration.is_key && is_generic);
+            }
+            Body::Unit => found.unit_structs = true,
+            Body::Units(_) => {
+                found.units = true;
+                found.unit_keys = found.unit_keys || declaration.is_key;
+            }
+            Body::Choices(variants) => {
+                found.choices = true;
+                found.branches = found.branches || variants.len() > 1;
+                found.mention_variants(variants);
+            }
+        }
+    }
+    found
+}
+
+impl Mentions {
+    fn mention_fields(&mut self, fields: &[Field]) {
+        for field in fields {
+            match field.form {
+                Form::Plain => {}
+                Form::Defaulted => self.defaults = true,
+                Form::Set(SetKind::Strings) => self.strings = true,
+                Form::Set(SetKind::Numbers) => self.numbers = true,
+                Form::Set(SetKind::Binaries) => self.binaries = true,
+            }
+        }
+    }
+
+    fn mention_variants(&mut self, variants: &[Variant]) {
+        for variant in variants {
+            match &variant.contents {
+                Contents::Nothing => self.nothing = true,
+                Contents::One(_) => self.one = true,
+                Contents::Several(_) => self.several = true,
+                Contents::Named(fields) => {
+                    self.named = true;
+                    self.mention_fields(fields);
+                }
+            }
+        }
+    }
+
+    fn keys(&self) -> bool {
+        self.unit_keys || self.newtype_keys || self.generic_keys
+    }
+}
+
+/// Prints the imports of definitions.
+pub fn print_ghost_imports(
+    alloc: Global,
+    out: &mut String,
+    found: &Mentions,
+) -> Result<(), AllocError> {
+    let lists = found.records || found.units || found.choices;
+    let prelude = [
+        ("[]", lists),
+        ("◌∷◌", lists),
+        ("codes", true),
+        ("refl", true),
+    ];
+    print_ghost(alloc, out, "std.specs.Prelude", &prelude)?;
+    let own_key = [("own_key", found.unit_keys || found.newtype_keys)];
+    print_ghost(alloc, out, "dynamo_types.specs.Keys", &own_key)?;
+    let records = ["record_of", "record_tells", "record_reads", "about_record"];
+    let records = records.map(|name| (name, found.records));
+    print_ghost(alloc, out, "dynamo_record.specs.Records", &records)?;
+    print_newtype_imports(alloc, out, found)?;
+    print_unit_imports(alloc, out, found)?;
+    let choices = ["enum_of", "enum_tells", "enum_reads", "about_enum"];
+    let choices = choices.map(|name| (name, found.choices));
+    print_ghost(alloc, out, "dynamo_record.specs.Enums", &choices)?;
+    let branches = [("Left", found.branches), ("Right", found.branches)];
+    let path = "dynamo_record.specs.declared.variant_list.Choice.TheVariants";
+    print_ghost(alloc, out, path, &branches)
+}
+
+fn print_newtype_imports(
+    alloc: Global,
+    out: &mut String,
+    found: &Mentions,
+) -> Result<(), AllocError> {
+    let newtypes = [
+        ("about_newtype", found.newtypes),
+        ("about_unit_struct", found.unit_structs),
+        ("key_newtype", found.newtype_keys || found.generic_keys),
+        ("newtype_by_shape", found.newtypes),
+        ("newtype_is_key", found.generic_keys),
+        ("newtype_reads", found.newtypes),
+        ("unit_struct_by_shape", found.unit_structs),
+        ("unit_struct_reads", found.unit_structs),
+    ];
+    print_ghost(alloc, out, "dynamo_record.specs.Newtypes", &newtypes)
+}
+
+fn print_unit_imports(alloc: Global, out: &mut String, found: &Mentions) -> Result<(), AllocError> {
+    let units = [
+        ("units_of", found.units),
+        ("about_units", found.units),
+        ("key_units", found.unit_keys),
+        ("unit_enum_tells", found.units),
+        ("unit_enum_reads", found.units),
+    ];
+    print_ghost(alloc, out, "dynamo_record.specs.UnitEnums", &units)
+}
+
+fn print_ghost(
+    alloc: Global,
+    out: &mut String,
+    path: &str,
+    names: &[(&str, bool)],
+) -> Result<(), AllocError> {
+    let wanted = wanted(alloc, names)?;
+    if wanted.is_empty() {
+        return Ok(());
+    }
+    let line = joined(alloc, wanted.as_slice(), ", ")?;
+    writeln!(out, "ghost use Rattle.{path}.{{{line}}};")
+}
+
+/// Prints the imports of types, traits and functions.
+pub fn print_imports(alloc: Global, out: &mut String, found: &Mentions) -> Result<(), AllocError> {
+    print_record_imports(alloc, out, found)?;
+    let shaped = [
+        ("BinarySet", found.binaries),
+        ("NumberSet", found.numbers),
+        ("Shaped", true),
+        ("ShapedKey", found.keys()),
+        ("StringSet", found.strings),
+    ];
+    let shaped = wanted(alloc, &shaped)?;
+    let is_alone = shaped.len() == 1;
+    if is_alone {
+        print_use(alloc, out, "serde_dynamo", shaped.as_slice())?;
+    }
+    out.push_str("use serde_dynamo::de::{Deserialize, Deserializer, Error};\n")?;
+    out.push_str("use serde_dynamo::ser::{Serialize, Serializer};\n")?;
+    if !is_alone {
+        print_use(alloc, out, "serde_dynamo", shaped.as_slice())?;
+    }
+    out.push_str("use std::alloc::Global;\n")
+}
+
+fn print_record_imports(
+    alloc: Global,
+    out: &mut String,
+    found: &Mentions,
+) -> Result<(), AllocError> {
+    let mut names = wanted(alloc, &record_types(found))?;
+    for name in wanted(alloc, &record_functions(found))? {
+        names.push(name)?;
+    }
+    print_use(alloc, out, "dynamo_record", names.as_slice())
+}
+
+// The types and the traits of `dynamo_record`, and whether they are mentioned.
+fn record_types(found: &Mentions) -> [(&'static str, bool); 16] {
+    let lists = found.records || found.several || found.named;
+    [
+        ("Choice", found.branches),
+        ("Enumeration", found.choices),
+        ("Field", lists),
+        ("FieldList", found.records),
+        ("InBinarySet", found.binaries),
+        ("InNumberSet", found.numbers),
+        ("InStringSet", found.strings),
+        ("Named", found.named),
+        ("NamedFields", found.named),
+        ("Nothing", found.nothing),
+        ("One", found.one),
+        ("Record", found.records),
+        ("Several", found.several),
+        ("UnitEnum", found.units),
+        ("VariantList", found.choices),
+        ("WithDefault", found.defaults),
+    ]
+}
+
+// Its functions, and whether they are mentioned.
+fn record_functions(found: &Mentions) -> [(&'static str, bool); 19] {
+    [
+        ("conform_unit_enum", found.units),
+        ("named_conform", found.named),
+        ("one_conforms", found.one),
+        ("read_enum", found.choices),
+        ("read_newtype", found.newtypes),
+        ("read_record", found.records),
+        ("read_unit_enum", found.units),
+        ("read_unit_struct", found.unit_structs),
+        ("record_conforms", found.records),
+        ("several_conform", found.several),
+        ("unit_conforms", found.nothing),
+        ("variant_at", found.units),
+        ("write_newtype", found.newtypes),
+        ("write_one", found.one),
+        ("write_record", found.records),
+        ("write_several", found.several),
+        ("write_struct", found.named),
+        ("write_unit", found.nothing),
+        ("write_unit_enum", found.units),
+    ]
+}
+
+fn print_use(
+    alloc: Global,
+    out: &mut String,
+    path: &str,
+    names: &[String],
+) -> Result<(), AllocError> {
+    if let [name] = names {
+        return writeln!(out, "use {path}::{name};");
+    }
+    let line = joined(alloc, names, ", ")?;
+    let line = format!(in alloc; "use {path}::{{{line}}};")?;
+    if fits(line.as_str()) {
+        return writeln!(out, "{line}");
+    }
+    let lines = filled(alloc, "    ", names)?;
+    writeln!(out, "use {path}::{{\n{lines}}};")
+}
+
+// The names that are marked.
+fn wanted(alloc: Global, names: &[(&str, bool)]) -> Result<Vec<String>, AllocError> {
+    let mut found = Vec::new(alloc);
+    for (name, is_wanted) in names {
+        if *is_wanted {
+            found.push(String::from_str(alloc, name)?)?;
+        }
+    }
+    Ok(found)
+}

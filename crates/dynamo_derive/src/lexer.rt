@@ -1,0 +1,188 @@
+use crate::failure::{Failure, Reason};
+use crate::token::{Kind, Token};
+use std::alloc::Global;
+use std::mem;
+
+// Where the next character falls.
+#[derive(Clone, Copy)]
+enum Place {
+    Between,
+    Word,
+    Text,
+    Escape,
+    Slash,
+    Comment,
+}
+
+// A bracket that is open, and the line that it stands on.
+#[derive(Clone, Copy)]
+struct Open {
+    closing: char,
+    line: u32,
+}
+
+#[derive(Drop)]
+struct Lexer {
+    alloc: Global,
+    tokens: Vec<Token>,
+    open: Vec<Open>,
+    place: Place,
+    text: String,
+    line: u32,
+
+    // The line that the text of a token began on.
+    began: u32,
+}
+
+/// The tokens of the declarations, without their comments.
+///
+/// # Errors
+///
+/// Refuses what no declaration has, brackets that do not pair and a text that does not end; fails for want of memory.
+pub fn tokens(alloc: Global, declarations: &str) -> Result<Vec<Token>, Failure> {
+    let mut lexer = Lexer {
+        alloc,
+        tokens: Vec::new(alloc),
+        open: Vec::new(alloc),
+        place: Place::Between,
+        text: String::new(alloc),
+        line: 1,
+        began: 1,
+    };
+    for c in declarations.chars() {
+        lexer.read(c)?;
+    }
+    lexer.finish()
+}
+
+impl Lexer {
+    fn read(&mut self, c: char) -> Result<(), Failure> {
+        match self.place {
+            Place::Between => self.read_between(c)?,
+            Place::Word if is_of_word(c) => self.text.push(c)?,
+            Place::Word => {
+                self.end(Kind::Word)?;
+                self.read_between(c)?;
+            }
+            Place::Text => self.read_text(c)?,
+            Place::Escape => {
+                self.text.push(c)?;
+                self.place = Place::Text;
+            }
+            Place::Slash => self.read_comment(c)?,
+            Place::Comment if c == '\n' => self.place = Place::Between,
+            Place::Comment => {}
+        }
+        if c == '\n' {
+            self.line = self.line.saturating_add(1);
+        }
+        Ok(())
+    }
+
+    fn read_between(&mut self, c: char) -> Result<(), Failure> {
+        self.began = self.line;
+        match c {
+            ' ' | '\t' | '\r' | '\n' => Ok(()),
+            '"' => {
+                self.place = Place::Text;
+                Ok(())
+            }
+            '/' => {
+                self.place = Place::Slash;
+                Ok(())
+            }
+            '\'' => self.refuse(Reason::Lifetime),
+            _ if is_of_word(c) => {
+                self.text.push(c)?;
+                self.place = Place::Word;
+                Ok(())
+            }
+            _ => self.read_mark(c),
+        }
+    }
+
+    fn read_mark(&mut self, c: char) -> Result<(), Failure> {
+        let closing = match c {
+            '(' => Some(')'),
+            '[' => Some(']'),
+            '{' => Some('}'),
+            '<' => Some('>'),
+            _ => None,
+        };
+        match c {
+            ')' | ']' | '}' | '>' => match self.open.pop() {
+                Some(open) if open.closing == c => {}
+                _ => return self.refuse(Reason::Unopened),
+            },
+            '(' | '[' | '{' | '<' | '#' | ',' | ';' | ':' | '=' | '+' | '&' | '*' | '!' | '?' => {}
+            _ => return self.refuse(Reason::Character(c)),
+        }
+        self.text.push(c)?;
+        self.end(Kind::Mark)?;
+        if let Some(closing) = closing {
+            let line = self.line;
+            self.open.push(Open { closing, line })?;
+        }
+        Ok(())
+    }
+
+    fn read_text(&mut self, c: char) -> Result<(), Failure> {
+        match c {
+            '"' => self.end(Kind::Text),
+            '\\' => {
+                self.place = Place::Escape;
+                Ok(self.text.push(c)?)
+            }
+            _ => Ok(self.text.push(c)?),
+        }
+    }
+
+    fn read_comment(&mut self, c: char) -> Result<(), Failure> {
+        match c {
+            '/' => {
+                self.place = Place::Comment;
+                Ok(())
+            }
+            '*' => self.refuse(Reason::BlockComment),
+            _ => self.refuse(Reason::Character('/')),
+        }
+    }
+
+    // Ends a token, whose text was read.
+    fn end(&mut self, kind: Kind) -> Result<(), Failure> {
+        let text = mem::replace(&mut self.text, String::new(self.alloc));
+        let line = self.began;
+        let depth = self.open.len();
+        self.tokens.push(Token {
+            kind,
+            text,
+            line,
+            depth,
+        })?;
+        self.place = Place::Between;
+        Ok(())
+    }
+
+    fn refuse(&self, reason: Reason) -> Result<(), Failure> {
+        Err(Failure::Refused(self.line, reason))
+    }
+
+    fn finish(mut self) -> Result<Vec<Token>, Failure> {
+        match self.place {
+            Place::Between | Place::Comment => {}
+            Place::Word => self.end(Kind::Word)?,
+            Place::Slash => return Err(Failure::Refused(self.line, Reason::Character('/'))),
+            Place::Text | Place::Escape => {
+                return Err(Failure::Refused(self.began, Reason::OpenText));
+            }
+        }
+        match self.open.pop() {
+            Some(open) => Err(Failure::Refused(open.line, Reason::Unclosed)),
+            None => Ok(self.tokens),
+        }
+    }
+}
+
+fn is_of_word(c: char) -> bool {
+    c == '_' || c.is_ascii_alphanumeric()
+}

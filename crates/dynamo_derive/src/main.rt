@@ -1,0 +1,67 @@
+//! Reads structs and enums from standard input, and prints the impls by which `dynamo_record` describes them.
+#![tactic(auto)]
+
+mod attributes;
+mod branch;
+mod case;
+mod declaration;
+mod derive;
+mod failure;
+mod imports;
+mod layout;
+mod lexer;
+mod module_path;
+mod parser;
+mod parts;
+mod printer;
+mod rename;
+mod token;
+mod tree;
+mod variants;
+
+use failure::Failure;
+use module_path::ModulePath;
+use std::process::ExitCode;
+use std::{env, io};
+
+const USAGE: &str = "usage: dynamo_derive [CRATE::MODULE] < DECLARATIONS";
+
+// The module that the words after the program's name give; none where they are no path.
+fn given_path(rt: &HostRuntime) -> io::Result<Option<ModulePath>> {
+    let mut words = env::args(rt)?.skip(1);
+    match (words.next(), words.next()) {
+        (None, _) => Ok(Some(ModulePath::unknown(rt.alloc())?)),
+        (Some(word), None) => Ok(ModulePath::of(rt.alloc(), word.as_str())?),
+        _ => Ok(None),
+    }
+}
+
+// Prints the impls, or the failure, and answers the status that the program ends with.
+fn run(rt: &HostRuntime) -> io::Result<u8> {
+    let Some(path) = given_path(rt)? else {
+        eprintln!(rt; "{USAGE}")?;
+        return Ok(2);
+    };
+    let text = io::read_to_string(rt.alloc(), rt.reader())?;
+    match derive::derive(rt.alloc(), &path, text.as_str()) {
+        Ok(impls) => {
+            print!(rt; "{impls}")?;
+            Ok(0)
+        }
+        Err(failure) => {
+            report(rt, &failure)?;
+            Ok(1)
+        }
+    }
+}
+
+fn report(rt: &HostRuntime, failure: &Failure) -> io::Result<()> {
+    eprintln!(rt; "error: {failure}")
+}
+
+fn main(rt: HostRuntime) -> ExitCode {
+    match run(&rt) {
+        Ok(status) => ExitCode::from(status),
+        Err(_) => ExitCode::from(1),
+    }
+}

@@ -1,0 +1,53 @@
+use std::alloc::{AllocError, Global};
+
+/// The crate and the module that the declarations stand in, as antt names them.
+#[derive(Debug, Drop)]
+pub struct ModulePath {
+    pub krate: String,
+
+    /// The module inside the crate, with a dot behind each part.
+    pub inside: String,
+
+    /// Whether the user gave them.
+    pub is_given: bool,
+}
+
+impl ModulePath {
+    /// The path that stands for a crate and a module that were not given.
+    pub fn unknown(alloc: Global) -> Result<ModulePath, AllocError> {
+        Ok(ModulePath {
+            krate: String::from_str(alloc, "my_crate")?,
+            inside: String::from_str(alloc, "my_module.")?,
+            is_given: false,
+        })
+    }
+
+    /// Reads `crate::module`; none where that is no path.
+    pub fn of(alloc: Global, text: &str) -> Result<Option<ModulePath>, AllocError> {
+        let mut krate = None;
+        let mut inside = String::new(alloc);
+        for part in text.split("::") {
+            if part.is_empty() || !part.chars().all(is_of_name) {
+                return Ok(None);
+            }
+            if krate.is_none() {
+                krate = Some(String::from_str(alloc, part)?);
+            } else {
+                inside.push_str(part)?;
+                inside.push('.')?;
+            }
+        }
+        match krate {
+            Some(krate) => Ok(Some(ModulePath {
+                krate,
+                inside,
+                is_given: true,
+            })),
+            None => Ok(None),
+        }
+    }
+}
+
+fn is_of_name(c: char) -> bool {
+    c == '_' || c.is_ascii_alphanumeric()
+}

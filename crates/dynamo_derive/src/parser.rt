@@ -1,0 +1,218 @@
+use crate::attributes::{Attributes, read_attributes};
+use crate::declaration::{Body, Declaration, Field, Form, Parameter};
+use crate::failure::{Failure, Reason};
+use crate::parts::{after_visibility, attributed, bracketed, line_of, parts, type_text};
+use crate::rename::RenameRule;
+use crate::token::Token;
+use crate::variants::enum_body;
+use std::alloc::Global;
+
+/// The declarations that the tokens write.
+///
+/// # Errors
+///
+/// Refuses what is not described, with its line; fails for want of memory.
+pub fn read_declarations(alloc: Global, tokens: &[Token]) -> Result<Vec<Declaration>, Failure> {
+    let mut found = Vec::new(alloc);
+    for item in tokens.split_inclusive(ends_item) {
+        found.push(read_declaration(alloc, item)?)?;
+    }
+    Ok(found)
+}
+
+fn ends_item(token: &Token) -> bool {
+    token.depth == 0 && (token.is(";") || token.is("}"))
+}
+
+fn read_declaration(alloc: Global, item: &[Token]) -> Result<Declaration, Failure> {
+    let start = line_of(item, 1);
+    let (above, rest) = attributed(item);
+    let about = read_attributes(alloc, above)?;
+    about.refuse_field_forms()?;
+    let rest = after_visibility(rest);
+    let line = line_of(rest, start);
+    let (is_struct, name, rest) = named_item(rest, line)?;
+    let (parameters, rest) = match bracketed(rest, "<") {
+        Some((inside, rest)) => (parameters(alloc, inside, line)?, rest),
+        None => (Vec::new(alloc), rest),
+    };
+    let body = if is_struct {
+        struct_body(alloc, rest, &parameters, &about, line)?
+    } else if parameters.is_empty() {
+        enum_body(alloc, rest, about.rename_all, line)?
+    } else {
+        return Err(Failure::Refused(line, Reason::GenericEnum));
+    };
+    let Attributes { is_key, rename, .. } = about;
+    let name = name.text.clone()?;
+    let shown = match rename {
+        Some(rename) => rename,
+        None => name.clone()?,
+    };
+    Ok(Declaration {
+        name,
+        shown,
+        line,
+        parameters,
+        is_key,
+        body,
+    })
+}
+
+// Whether the item is a struct, its name, and what follows that.
+fn named_item(item: &[Token], line: u32) -> Result<(bool, &Token, &[Token]), Failure> {
+    let (is_struct, name, rest) = match item {
+        [keyword, name, rest @ ..] if keyword.is("struct") => (true, name, rest),
+        [keyword, name, rest @ ..] if keyword.is("enum") => (false, name, rest),
+        _ => return Err(Failure::Refused(line, Reason::Item)),
+    };
+    if name.is_word() {
+        Ok((is_struct, name, rest))
+    } else {
+        Err(Failure::Refused(name.line, Reason::Name))
+    }
+}
+
+fn parameters(alloc: Global, inside: &[Token], line: u32) -> Result<Vec<Parameter>, Failure> {
+    let mut found = Vec::new(alloc);
+    for part in parts(alloc, inside)? {
+        if part.iter().any(|token| token.is("=")) {
+            return Err(Failure::Refused(line, Reason::ParameterDefault));
+        }
+        let (name, bounds) = match part {
+            [name] => (name, String::new(alloc)),
+            [name, colon, bounds @ ..] if colon.is(":") => {
+                (name, type_text(alloc, bounds, line)?)
+            }
+            _ => return Err(Failure::Refused(line, Reason::ConstParameter)),
+        };
+        if !name.is_word() {
+            return Err(Failure::Refused(name.line, Reason::Name));
+        }
+        let name = name.text.clone()?;
+        found.push(Parameter { name, bounds })?;
+    }
+    Ok(found)
+}
+
+fn struct_body(
+    alloc: Global,
+    rest: &[Token],
+    parameters: &[Parameter],
+    about: &Attributes,
+    line: u32,
+) -> Result<Body, Failure> {
+    match rest {
+        [] => Err(Failure::Refused(line, Reason::NoEnd)),
+        [word, ..] if word.is("where") => Err(Failure::Refused(word.line, Reason::Where)),
+        [end] if end.is(";") => {
+            about.refuse_rename_all()?;
+            if !parameters.is_empty() {
+                return Err(Failure::Refused(line, Reason::GenericUnit));
+            }
+            Ok(Body::Unit)
+        }
+        [open, ..] if open.is("(") => {
+            about.refuse_rename_all()?;
+            newtype_body(alloc, rest, parameters, line)
+        }
+        [open, ..] if open.is("{") => {
+            let (inside, _) = bracketed(rest, "{").unwrap_or((&[], &[]));
+            let fields = named_fields(alloc, inside, about.rename_all, line)?;
+            if fields.is_empty() {
+                return Err(Failure::Refused(line, Reason::NoFields));
+            }
+            Ok(Body::Record(fields))
+        }
+        _ => Err(Failure::Refused(line, Reason::Body)),
+    }
+}
+
+fn newtype_body(
+    alloc: Global,
+    rest: &[Token],
+    parameters: &[Parameter],
+    line: u32,
+) -> Result<Body, Failure> {
+    let inside = match bracketed(rest, "(") {
+        Some((inside, [end])) if end.is(";") => inside,
+        Some((_, [word, ..])) if word.is("where") => {
+            return Err(Failure::Refused(word.line, Reason::Where));
+        }
+        _ => return Err(Failure::Refused(line, Reason::NoEnd)),
+    };
+    let fields = parts(alloc, inside)?;
+    let of = match fields.as_slice() {
+        [field] => unnamed_field(alloc, field, line)?,
+        _ => return Err(Failure::Refused(line, Reason::TupleStruct)),
+    };
+    let is_described = parameters.is_empty()
+        || parameters
+            .iter()
+            .any(|parameter| parameter.name.as_str() == of.as_str());
+    if !is_described {
+        return Err(Failure::Refused(line, Reason::WrappedType));
+    }
+    Ok(Body::Newtype(of))
+}
+
+/// The text of the type of a field without a name.
+pub fn unnamed_field(alloc: Global, tokens: &[Token], line: u32) -> Result<String, Failure> {
+    let (above, rest) = attributed(tokens);
+    let about = read_attributes(alloc, above)?;
+    if about.line != 0 {
+        return Err(Failure::Refused(about.line, Reason::ContentAttribute));
+    }
+    type_text(alloc, after_visibility(rest), line_of(tokens, line))
+}
+
+/// The named fields between braces. Where they have no names of their own, those that they are written under go by the rule.
+pub fn named_fields(
+    alloc: Global,
+    inside: &[Token],
+    rule: Option<RenameRule>,
+    line: u32,
+) -> Result<Vec<Field>, Failure> {
+    let mut fields = Vec::new(alloc);
+    for part in parts(alloc, inside)? {
+        fields.push(named_field(alloc, part, rule, line)?)?;
+    }
+    Ok(fields)
+}
+
+fn named_field(
+    alloc: Global,
+    tokens: &[Token],
+    rule: Option<RenameRule>,
+    line: u32,
+) -> Result<Field, Failure> {
+    let line = line_of(tokens, line);
+    let (above, rest) = attributed(tokens);
+    let about = read_attributes(alloc, above)?;
+    about.refuse_rename_all()?;
+    let (name, of) = match after_visibility(rest) {
+        [name, colon, of @ ..] if name.is_word() && colon.is(":") => (name, of),
+        _ => return Err(Failure::Refused(line_of(rest, line), Reason::Field)),
+    };
+    let form = about.form()?;
+    let of = match (form, of) {
+        (Form::Set(_), [vec, ..]) if vec.is("Vec") => match bracketed(&of[1..], "<") {
+            Some((item, [])) => type_text(alloc, item, name.line)?,
+            _ => return Err(Failure::Refused(name.line, Reason::NoSet)),
+        },
+        (Form::Set(_), _) => return Err(Failure::Refused(name.line, Reason::NoSet)),
+        _ => type_text(alloc, of, name.line)?,
+    };
+    let name = name.text.clone()?;
+    let shown = match (about.rename, rule) {
+        (Some(rename), _) => rename,
+        (None, Some(rule)) => rule.of_field(alloc, name.as_str())?,
+        (None, None) => name.clone()?,
+    };
+    Ok(Field {
+        name,
+        shown,
+        of,
+        form,
+    })
+}

@@ -1,0 +1,27 @@
+pub mod choices;
+pub mod newtype;
+pub mod record;
+pub mod shared;
+pub mod unit_enum;
+pub mod unit_struct;
+
+use crate::declaration::{Body, Declaration};
+use shared::heading_of;
+use std::alloc::{AllocError, Global};
+
+/// Prints the impls of a declaration. The imports name the variants of an enum by the alias.
+pub fn print_impls(
+    alloc: Global,
+    out: &mut String,
+    declaration: &Declaration,
+    alias: &str,
+) -> Result<(), AllocError> {
+    let about = heading_of(alloc, declaration)?;
+    match &declaration.body {
+        Body::Record(fields) => record::print_record(alloc, out, &about, fields),
+        Body::Newtype(of) => newtype::print_newtype(alloc, out, &about, of),
+        Body::Unit => unit_struct::print_unit(alloc, out, &about),
+        Body::Units(variants) => unit_enum::print_units(alloc, out, &about, variants, alias),
+        Body::Choices(variants) => choices::print_choices(alloc, out, &about, variants, alias),
+    }
+}

@@ -1,0 +1,32 @@
+/// What a token is.
+#[derive(Clone, Copy, Debug, PartialEq, Eq)]
+pub enum Kind {
+    /// A name, a keyword or a number.
+    Word,
+
+    /// What stands between the quotes of a text.
+    Text,
+
+    /// A single mark, as a bracket or a comma.
+    Mark,
+}
+
+/// A token, the line that it stands on, and how many brackets are open around it. Angle brackets count.
+#[derive(Debug, Drop)]
+pub struct Token {
+    pub kind: Kind,
+    pub text: String,
+    pub line: u32,
+    pub depth: usize,
+}
+
+impl Token {
+    /// Whether this is the word or the mark.
+    pub fn is(&self, word: &str) -> bool {
+        self.kind != Kind::Text && self.text.as_str() == word
+    }
+
+    pub fn is_word(&self) -> bool {
+        self.kind == Kind::Word
+    }
+}

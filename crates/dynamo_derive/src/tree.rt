@@ -1,0 +1,107 @@
+ghost use Rattle.std.specs.Prelude.{◌≤◌, ◌<◌};
+
+use crate::declaration::{Field, Form, SetKind};
+use std::alloc::{AllocError, Global};
+
+/// The list of these fields, as `dynamo_record` groups them: one stands alone, and more are a pair, four or eight groups, of which
+/// the first are the larger.
+pub fn grouped(out: &mut String, leaves: &[String]) -> Result<(), AllocError> {
+    let groups = match leaves {
+        [] => return Ok(()),
+        [leaf] => return out.push_str(leaf.as_str()),
+        _ if leaves.len() < 4 => 2,
+        _ if leaves.len() < 8 => 4,
+        _ => 8,
+    };
+    out.push('(')?;
+    let mut rest = leaves;
+    for done in 0..groups {
+        let (group, after) = rest.split_at(share(rest.len(), groups - done));
+        if done > 0 {
+            out.push_str(", ")?;
+        }
+        grouped(out, group)?;
+        rest = after;
+    }
+    out.push(')')
+}
+
+// How many leaves the first of so many groups has.
+fn share(leaves: usize, groups: usize) -> usize
+    requires { 0 < groups }
+    ensures within { result ≤ leaves }
+    ensures some { 0 < leaves → 0 < result }
+    ensures fewer { 1 < groups → 1 < leaves → result < leaves }
+{
+    leaves.div_ceil(groups)
+}
+
+/// The text of the grouped list.
+pub fn tree(alloc: Global, leaves: &[String]) -> Result<String, AllocError> {
+    let mut text = String::new(alloc);
+    grouped(&mut text, leaves)?;
+    Ok(text)
+}
+
+/// Each text between these two.
+pub fn wrapped(
+    alloc: Global,
+    texts: &[String],
+    before: &str,
+    after: &str,
+) -> Result<Vec<String>, AllocError> {
+    let mut found = Vec::new(alloc);
+    for text in texts {
+        found.push(format!(in alloc; "{before}{text}{after}")?)?;
+    }
+    Ok(found)
+}
+
+/// The names of the fields.
+pub fn names(alloc: Global, fields: &[Field]) -> Result<Vec<String>, AllocError> {
+    let mut found = Vec::new(alloc);
+    for field in fields {
+        found.push(field.name.clone()?)?;
+    }
+    Ok(found)
+}
+
+/// The names that the fields are written under.
+pub fn shown_names(alloc: Global, fields: &[Field]) -> Result<Vec<String>, AllocError> {
+    let mut found = Vec::new(alloc);
+    for field in fields {
+        found.push(field.shown.clone()?)?;
+    }
+    Ok(found)
+}
+
+/// The types of the fields in the list.
+pub fn leaf_types(alloc: Global, fields: &[Field]) -> Result<Vec<String>, AllocError> {
+    let mut found = Vec::new(alloc);
+    for field in fields {
+        let of = field.of.as_str();
+        found.push(match field.form {
+            Form::Plain => format!(in alloc; "Field<{of}>")?,
+            Form::Defaulted => format!(in alloc; "Field<WithDefault<{of}>>")?,
+            Form::Set(SetKind::Strings) => format!(in alloc; "Field<InStringSet<{of}>>")?,
+            Form::Set(SetKind::Numbers) => format!(in alloc; "Field<InNumberSet<{of}>>")?,
+            Form::Set(SetKind::Binaries) => format!(in alloc; "Field<InBinarySet<{of}>>")?,
+        })?;
+    }
+    Ok(found)
+}
+
+/// What is written of the fields, each of which is borrowed by its name after this.
+pub fn leaf_refs(alloc: Global, fields: &[Field], before: &str) -> Result<Vec<String>, AllocError> {
+    let mut found = Vec::new(alloc);
+    for field in fields {
+        let name = field.name.as_str();
+        found.push(match field.form {
+            Form::Plain | Form::Defaulted => format!(in alloc; "{before}{name}")?,
+            Form::Set(SetKind::Strings) => format!(in alloc; "StringSet({before}{name})")?,
+            Form::Set(SetKind::Numbers) => format!(in alloc; "NumberSet({before}{name})")?,
+            Form::Set(SetKind::Binaries) => format!(in alloc; "BinarySet({before}{name})")?,
+        })?;
+    }
+    Ok(found)
+}

@@ -1,0 +1,116 @@
+use crate::attributes::read_attributes;
+use crate::declaration::{Body, Contents, Variant};
+use crate::failure::{Failure, Reason};
+use crate::parser::{named_fields, unnamed_field};
+use crate::parts::{attributed, bracketed, line_of, parts};
+use crate::rename::RenameRule;
+use crate::token::Token;
+use std::alloc::Global;
+
+// The fields of a variant that have no names are called by the letters.
+const LETTERS: usize = 26;
+
+/// The body of an enum. Where variants have no names of their own, those that they are written under go by the rule.
+pub fn enum_body(
+    alloc: Global,
+    rest: &[Token],
+    rule: Option<RenameRule>,
+    line: u32,
+) -> Result<Body, Failure> {
+    if let [word, ..] = rest
+        && word.is("where")
+    {
+        return Err(Failure::Refused(word.line, Reason::Where));
+    }
+    let Some((inside, _)) = bracketed(rest, "{") else {
+        return Err(Failure::Refused(line, Reason::Body));
+    };
+    let mut variants = Vec::new(alloc);
+    for part in parts(alloc, inside)? {
+        variants.push(read_variant(alloc, part, rule, line)?)?;
+    }
+    if variants.is_empty() {
+        return Err(Failure::Refused(line, Reason::NoVariants));
+    }
+    if variants.iter().all(|variant| variant.is_unit()) {
+        Ok(Body::Units(variants))
+    } else {
+        Ok(Body::Choices(variants))
+    }
+}
+
+fn read_variant(
+    alloc: Global,
+    tokens: &[Token],
+    rule: Option<RenameRule>,
+    line: u32,
+) -> Result<Variant, Failure> {
+    let line = line_of(tokens, line);
+    let (above, rest) = attributed(tokens);
+    let about = read_attributes(alloc, above)?;
+    about.refuse_field_forms()?;
+    let (name, rest) = match rest {
+        [name, rest @ ..] if name.is_word() => (name, rest),
+        _ => return Err(Failure::Refused(line_of(rest, line), Reason::Name)),
+    };
+    let contents = read_contents(alloc, rest, about.rename_all, name.line)?;
+    if !matches!(contents, Contents::Named(_)) {
+        about.refuse_rename_all()?;
+    }
+    let name = name.text.clone()?;
+    let shown = match (about.rename, rule) {
+        (Some(rename), _) => rename,
+        (None, Some(rule)) => rule.of_variant(alloc, name.as_str())?,
+        (None, None) => name.clone()?,
+    };
+    Ok(Variant {
+        name,
+        shown,
+        contents,
+    })
+}
+
+fn read_contents(
+    alloc: Global,
+    tokens: &[Token],
+    rule: Option<RenameRule>,
+    line: u32,
+) -> Result<Contents, Failure> {
+    if let Some((inside, [])) = bracketed(tokens, "{") {
+        let fields = named_fields(alloc, inside, rule, line)?;
+        if fields.is_empty() {
+            return Err(Failure::Refused(line, Reason::NoContents));
+        }
+        return Ok(Contents::Named(fields));
+    }
+    if let Some((inside, [])) = bracketed(tokens, "(") {
+        return unnamed_contents(alloc, inside, line);
+    }
+    match tokens {
+        [] => Ok(Contents::Nothing),
+        [equals, ..] if equals.is("=") => Err(Failure::Refused(line, Reason::Discriminant)),
+        _ => Err(Failure::Refused(line, Reason::Body)),
+    }
+}
+
+fn unnamed_contents(alloc: Global, inside: &[Token], line: u32) -> Result<Contents, Failure> {
+    let mut types = Vec::new(alloc);
+    for part in parts(alloc, inside)? {
+        types.push(unnamed_field(alloc, part, line)?)?;
+    }
+    match types.len() {
+        0 => Err(Failure::Refused(line, Reason::NoContents)),
+        1 => match types.pop() {
+            Some(of) => Ok(Contents::One(of)),
+            None => Err(Failure::Refused(line, Reason::NoContents)),
+        },
+        2..=LETTERS => Ok(Contents::Several(types)),
+        _ => Err(Failure::Refused(line, Reason::ManyContents)),
+    }
+}
+
+impl Variant {
+    fn is_unit(&self) -> bool {
+        matches!(self.contents, Contents::Nothing)
+    }
+}
