@@ -1,21 +1,31 @@
 //! Types of several kinds that are described by the lists of their fields and variants, as a user describes them: with no proof.
-//! Of each, what was stored reads back, field by field.
+//! Of each a function states that what was stored reads back: of structs field by field.
 #![tactic(auto)]
 
 mod address;
 mod code;
+#[cfg(test)]
+mod enum_rows;
 mod lots;
 mod order;
 mod page;
 mod parcel;
+#[cfg(test)]
+mod rows;
 mod sealed;
 mod sensor;
 mod shelf;
 mod shipment;
 mod side;
 mod station;
+#[cfg(test)]
+mod struct_rows;
 mod weight;
 mod wide_20;
+mod wide_40;
+mod wide_40_stored;
+#[cfg(test)]
+mod wide_rows;
 
 pub use address::{Address, stored_address};
 pub use code::Code;
@@ -31,3 +41,5 @@ pub use side::Side;
 pub use station::{Station, stored_station};
 pub use weight::Weight;
 pub use wide_20::{Wide20, stored_wide_20};
+pub use wide_40::Wide40;
+pub use wide_40_stored::{stored_wide_40_first, stored_wide_40_last};
