@@ -1,4 +1,6 @@
 // Cuts of token lists, by the brackets that are open around each token.
+ghost use Rattle.std.specs.Prelude.{◌≡◌, ◌++◌};
+
 use crate::failure::{Failure, Reason};
 use crate::token::{Kind, Token};
 use std::alloc::{AllocError, Global};
@@ -29,7 +31,9 @@ pub fn bracketed<'a>(tokens: &'a [Token], bracket: &str) -> Option<(&'a [Token],
 }
 
 /// The attributes that the list begins with, and what they stand at.
-pub fn attributed(tokens: &[Token]) -> (&[Token], &[Token]) {
+pub fn attributed(tokens: &[Token]) -> (&[Token], &[Token])
+    ensures { result.0.now ++ result.1.now ≡ tokens.now }
+{
     let depth = tokens.first().map_or(0, |token| token.depth);
     let is_after = |token: &Token| {
         token.depth == depth && !token.is("#") && !token.is("[") && !token.is("]")
