@@ -2,7 +2,6 @@
 ghost use Rattle.std.specs.Prelude.{codes, map, pos};
 ghost use Rattle.serde_dynamo.specs.Datum as datum;
 ghost use Rattle.serde_dynamo.specs.Options.{option_tells};
-ghost use Rattle.serde_dynamo.specs.Samples.{sets_told, user_told};
 ghost use Rattle.serde_dynamo.specs.Visitors.{claims_map};
 
 use serde_dynamo::ByteBuf;
@@ -57,9 +56,9 @@ impl Account {
 
 impl Serialize for Account {
     ghost tells = { λ a. datum.struct (codes "Account")
-        (datum.field (codes "user") (user_told a.user)
+        (datum.field (codes "user") (⟦<User as Serialize>⟧.tells a.user)
         (datum.field (codes "events") (datum.seq (datum.elements_of (map ⟦<Event as Serialize>⟧.tells a.events.items)))
-        (datum.field (codes "sets") (sets_told a.sets)
+        (datum.field (codes "sets") (⟦<Sets as Serialize>⟧.tells a.sets)
         (datum.field (codes "answers") (datum.map (datum.pairs_of (map (λ e. (datum.integer datum.u8 (pos e.0), option_tells (λ b. datum.boolean b) e.1)) a.answers.entries)))
         datum.no_fields)))) };
 
