@@ -50,7 +50,7 @@ pub trait FieldList: Sized {
         ensures { (ss : Shapes) → MakesOrFails A.Error.fault about.shapes about.told (read_fields (about.shapes ss) (A.left seq.old)) (read_fields ss (A.left seq.new)) result };
 
     /// The number of the first field that is missed.
-    fn missed(slots: &Self::Slots) -> Option<usize>;
+    fn missed<E: Error>(slots: &Self::Slots, alloc: Global) -> Option<usize>;
 
     /// Lets go of what was read.
     fn discard_slots(slots: Self::Slots);
@@ -122,8 +122,14 @@ impl<F: FieldType> FieldList for Field<F> {
         }
     }
 
-    fn missed(slots: &Option<F::Value>) -> Option<usize> {
-        if slots.is_some() { None } else { Some(0) }
+    fn missed<E: Error>(slots: &Option<F::Value>, alloc: Global) -> Option<usize> {
+        if slots.is_some() {
+            return None;
+        }
+        match F::absent::<E>(alloc) {
+            Ok(None) => Some(0),
+            _ => None,
+        }
     }
 
     fn discard_slots(slots: Option<F::Value>) {
@@ -214,10 +220,10 @@ impl<L: FieldList, R: FieldList> FieldList for (L, R) {
         }
     }
 
-    fn missed(slots: &(L::Slots, R::Slots)) -> Option<usize> {
-        match L::missed(&slots.0) {
+    fn missed<E: Error>(slots: &(L::Slots, R::Slots), alloc: Global) -> Option<usize> {
+        match L::missed::<E>(&slots.0, alloc) {
             Some(place) => Some(place),
-            None => match R::missed(&slots.1) {
+            None => match R::missed::<E>(&slots.1, alloc) {
                 Some(place) => Some(L::count().saturating_add(place)),
                 None => None,
             },

@@ -66,8 +66,11 @@ impl<A: FieldList, B: FieldList, C: FieldList, D: FieldList> FieldList for (A, B
         }
     }
 
-    fn missed(slots: &((A::Slots, B::Slots), (C::Slots, D::Slots))) -> Option<usize> {
-        <((A, B), (C, D)) as FieldList>::missed(slots)
+    fn missed<X: Error>(
+        slots: &((A::Slots, B::Slots), (C::Slots, D::Slots)),
+        alloc: Global,
+    ) -> Option<usize> {
+        <((A, B), (C, D)) as FieldList>::missed::<X>(slots, alloc)
     }
 
     fn discard_slots(slots: ((A::Slots, B::Slots), (C::Slots, D::Slots))) {
@@ -159,13 +162,14 @@ impl<
         }
     }
 
-    fn missed(
+    fn missed<X: Error>(
         slots: &(
             ((A::Slots, B::Slots), (C::Slots, D::Slots)),
             ((E::Slots, F::Slots), (G::Slots, H::Slots)),
         ),
+        alloc: Global,
     ) -> Option<usize> {
-        <((A, B, C, D), (E, F, G, H)) as FieldList>::missed(slots)
+        <((A, B, C, D), (E, F, G, H)) as FieldList>::missed::<X>(slots, alloc)
     }
 
     fn discard_slots(

@@ -127,11 +127,14 @@ fn missing_field<E: Error>(alloc: Global, name: &str) -> E
 const OTHER_FIELDS: &str = "a struct is described by other fields than it has";
 
 /// The name of the first field that is missed.
-fn missed_name<R: Record>(slots: &<R::Fields as FieldList>::Slots) -> &'static str
+fn missed_name<R: Record, E: Error>(
+    slots: &<R::Fields as FieldList>::Slots,
+    alloc: Global,
+) -> &'static str
 where
     R::Fields: FieldList,
 {
-    match <R::Fields as FieldList>::missed(slots) {
+    match <R::Fields as FieldList>::missed::<E>(slots, alloc) {
         Some(place) => match R::names().get(place) {
             Some(name) => *name,
             None => "",
@@ -188,7 +191,7 @@ where
             return Err(error);
         }
     }
-    let missed = missed_name::<R>(&slots);
+    let missed = missed_name::<R, A::Error>(&slots, alloc);
     match <R::Fields as FieldList>::complete::<A::Error>(slots, alloc)? {
         Some(fields) => Ok(R::make(fields)),
         None => Err(missing_field(alloc, missed)),
