@@ -47,7 +47,7 @@ fn the_fields_of_a_station_are_read_by_name(rt: HostRuntime) -> Result<(), Fail>
     reads::<Station>(
         &rt,
         alloc,
-        r#"{"M":{"id":{"S":"a"},"reading":{"N":"1"}}}"#,
+        r#"{"M":{"id":{"S":"a"}}}"#,
         "missing field `tags`",
     )?;
     reads::<Station>(
