@@ -48,8 +48,6 @@ impl Record for Address {
 impl Serialize for Address {
     ghost tells = { record_tells ⟦<Address as Record>⟧.about };
 
-    ghost wants = { λ _. ⊥ };
-
     fn serialize<S: Serializer>(&self, serializer: S) -> Result<S::Ok, S::Error> {
         write_record::<Address, _, S>(serializer, &(&self.city, &self.zip))
     }

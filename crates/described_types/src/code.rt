@@ -16,8 +16,6 @@ pub struct Code(pub String);
 impl Serialize for Code {
     ghost tells = { (about_newtype (codes "Code") (λ c. c.0) ⟦<String as Shaped>⟧.about).tells };
 
-    ghost wants = { λ _. ⊥ };
-
     fn serialize<S: Serializer>(&self, serializer: S) -> Result<S::Ok, S::Error> {
         write_newtype("Code", &self.0, serializer)
     }

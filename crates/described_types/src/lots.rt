@@ -52,8 +52,6 @@ impl Record for Lots {
 impl Serialize for Lots {
     ghost tells = { record_tells ⟦<Lots as Record>⟧.about };
 
-    ghost wants = { λ _. ⊥ };
-
     fn serialize<S: Serializer>(&self, serializer: S) -> Result<S::Ok, S::Error> {
         write_record::<Lots, _, S>(serializer, &(&self.hashed, &self.sorted))
     }

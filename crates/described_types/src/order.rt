@@ -69,8 +69,6 @@ impl Record for Order {
 impl Serialize for Order {
     ghost tells = { record_tells ⟦<Order as Record>⟧.about };
 
-    ghost wants = { λ _. ⊥ };
-
     fn serialize<S: Serializer>(&self, serializer: S) -> Result<S::Ok, S::Error> {
         write_record::<Order, _, S>(
             serializer,

@@ -49,8 +49,6 @@ impl<T: Shaped> Record for Page<T> {
 impl<T: Shaped> Serialize for Page<T> {
     ghost tells = { record_tells ⟦<Page<T> as Record>⟧.about };
 
-    ghost wants = { λ _. ⊥ };
-
     fn serialize<S: Serializer>(&self, serializer: S) -> Result<S::Ok, S::Error> {
         write_record::<Page<T>, _, S>(serializer, &(&self.items, &self.next))
     }

@@ -48,8 +48,6 @@ impl Record for Parcel {
 impl Serialize for Parcel {
     ghost tells = { record_tells ⟦<Parcel as Record>⟧.about };
 
-    ghost wants = { λ _. ⊥ };
-
     fn serialize<S: Serializer>(&self, serializer: S) -> Result<S::Ok, S::Error> {
         write_record::<Parcel, _, S>(serializer, &(&self.seal, &self.weight))
     }

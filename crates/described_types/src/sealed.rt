@@ -15,8 +15,6 @@ pub struct Sealed;
 impl Serialize for Sealed {
     ghost tells = { (about_unit_struct (codes "Sealed") (λ _ _. refl)).tells };
 
-    ghost wants = { λ _. ⊥ };
-
     fn serialize<S: Serializer>(&self, serializer: S) -> Result<S::Ok, S::Error> {
         serializer.serialize_unit_struct("Sealed")
     }

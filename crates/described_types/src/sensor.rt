@@ -61,8 +61,6 @@ impl Record for Sensor {
 impl Serialize for Sensor {
     ghost tells = { record_tells ⟦<Sensor as Record>⟧.about };
 
-    ghost wants = { λ _. ⊥ };
-
     fn serialize<S: Serializer>(&self, serializer: S) -> Result<S::Ok, S::Error> {
         write_record::<Sensor, _, S>(
             serializer,

@@ -52,8 +52,6 @@ impl Record for Shelf {
 impl Serialize for Shelf {
     ghost tells = { record_tells ⟦<Shelf as Record>⟧.about };
 
-    ghost wants = { λ _. ⊥ };
-
     fn serialize<S: Serializer>(&self, serializer: S) -> Result<S::Ok, S::Error> {
         write_record::<Shelf, _, S>(serializer, &(&self.name, &self.articles))
     }

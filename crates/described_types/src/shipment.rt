@@ -62,6 +62,10 @@ impl Enumeration for Shipment {
         "Shipment"
     }
 
+    fn expecting() -> &'static str {
+        "enum Shipment"
+    }
+
     fn names() -> &'static [&'static str] {
         &["Waiting", "Tracked", "Between", "Delivered"]
     }
@@ -82,8 +86,6 @@ impl Enumeration for Shipment {
 
 impl Serialize for Shipment {
     ghost tells = { enum_tells ⟦<Shipment as Enumeration>⟧.about };
-
-    ghost wants = { λ _. ⊥ };
 
     fn serialize<S: Serializer>(&self, serializer: S) -> Result<S::Ok, S::Error> {
         match self {

@@ -24,6 +24,10 @@ impl UnitEnum for Side {
         "Side"
     }
 
+    fn expecting() -> &'static str {
+        "enum Side"
+    }
+
     fn names() -> &'static [&'static str] {
         &["Left", "Right"]
     }
@@ -39,8 +43,6 @@ impl UnitEnum for Side {
 
 impl Serialize for Side {
     ghost tells = { unit_enum_tells ⟦<Side as UnitEnum>⟧.about };
-
-    ghost wants = { λ _. ⊥ };
 
     fn serialize<S: Serializer>(&self, serializer: S) -> Result<S::Ok, S::Error> {
         write_unit_enum(self, serializer)

@@ -49,8 +49,6 @@ impl Record for Station {
 impl Serialize for Station {
     ghost tells = { record_tells ⟦<Station as Record>⟧.about };
 
-    ghost wants = { λ _. ⊥ };
-
     fn serialize<S: Serializer>(&self, serializer: S) -> Result<S::Ok, S::Error> {
         write_record::<Station, _, S>(serializer, &((&self.id, &self.reading), &self.tags))
     }

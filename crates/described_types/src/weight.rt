@@ -15,8 +15,6 @@ pub struct Weight(pub u64);
 impl Serialize for Weight {
     ghost tells = { (about_newtype (codes "Weight") (λ c. c.0) ⟦<u64 as Shaped>⟧.about).tells };
 
-    ghost wants = { λ _. ⊥ };
-
     fn serialize<S: Serializer>(&self, serializer: S) -> Result<S::Ok, S::Error> {
         write_newtype("Weight", &self.0, serializer)
     }

@@ -126,8 +126,6 @@ impl Record for Wide20 {
 impl Serialize for Wide20 {
     ghost tells = { record_tells ⟦<Wide20 as Record>⟧.about };
 
-    ghost wants = { λ _. ⊥ };
-
     fn serialize<S: Serializer>(&self, serializer: S) -> Result<S::Ok, S::Error> {
         write_record::<Wide20, _, S>(
             serializer,

@@ -222,8 +222,6 @@ impl Record for Wide40 {
 impl Serialize for Wide40 {
     ghost tells = { record_tells ⟦<Wide40 as Record>⟧.about };
 
-    ghost wants = { λ _. ⊥ };
-
     fn serialize<S: Serializer>(&self, serializer: S) -> Result<S::Ok, S::Error> {
         write_record::<Wide40, _, S>(
             serializer,

@@ -4,14 +4,14 @@ use Rattle.dynamo_value.specs.Fault.{Fault}
 use Rattle.dynamo_de.specs.Access.{NextValue}
 use Rattle.dynamo_de.specs.Answer as answer
 use Rattle.dynamo_de.specs.Answer.{Answer, After}
-use Rattle.dynamo_de.specs.Source.{Source, Entry}
+use Rattle.dynamo_de.specs.Source.{Source, Entry, Text}
 use Rattle.dynamo_shape.specs.Permits.{Permits}
 use Rattle.dynamo_shape.specs.Read.{into}
 use Rattle.dynamo_shape.proofs.Answered.{stops}
 use Rattle.dynamo_shape.proofs.ByHand.{into_into}
 use Rattle.dynamo_shape.proofs.FieldsByName.{Slots, fill_slot}
 use Rattle.dynamo_record.specs.Fields.{SameData, read_nth}
-use Rattle.dynamo_record.specs.Listed.{Shapes, Data, AboutList, both_shapes, both_told, Makes, MakesOrFails, Holds, HoldsBoth, HoldsBehind, ReadBehind, Fills, IfRead}
+use Rattle.dynamo_record.specs.Listed.{Shapes, Data, AboutList, both_shapes, both_told, Makes, MakesOrFails, Completes, Holds, HoldsBoth, HoldsBehind, ReadBehind, Fills, IfRead}
 use Rattle.dynamo_record.proofs.Answering.{after_more, after_err, value_taken, value_refused}
 
 -- ---- what both are made of
@@ -24,9 +24,6 @@ module _ {L R : Type 0} (l : AboutList L) (r : AboutList R) (all between others 
     λ ss ds es c same. h.2 (r.shapes ss) (k.0 ds) (r.told w es) c (λ x. k.2 ss ds es x same),
   )
 
-  pub first_missed : Makes l.shapes l.told all between None → Makes {L = L × R} (both_shapes l r) (both_told l r) all others None
-  first_missed h = h
-
   pub second_missed : (v : L) → Makes l.shapes l.told all between (Some v) → Makes r.shapes r.told between others None → Makes {L = L × R} (both_shapes l r) (both_told l r) all others None
   second_missed v h k = h.1 ∙ ap (into h.0) k
 
@@ -34,6 +31,25 @@ module _ {L R : Type 0} (l : AboutList L) (r : AboutList R) (all between others 
     pub second_fails : (v : L) → Makes l.shapes l.told all between (Some v) → MakesOrFails {L = R} fault r.shapes r.told between others (Err e) → MakesOrFails {L = L × R} fault (both_shapes l r) (both_told l r) all others (Err e)
     second_fails v h (inl lacks) = inl lacks
     second_fails v h (inr failed) = inr (subst (λ a. Permits SameData a (Err (fault e))) (sym h.1) (stops SameData SameData between (λ ds. answer.value (h.0 ds)) (fault e) failed))
+
+-- ---- both, completed
+
+module _ {L R N E : Type 0} (l : AboutList L) (r : AboutList R) (fault : E → Fault) (all between others : Answer Data) (missed : Option Text) (later behind : N → Option Text) where
+  abbrev Left : Result (L × N) E → Type 0
+  Left = Completes fault l.shapes l.told all between missed later
+
+  abbrev Right : N → Result (R × N) E → Type 0
+  Right names = Completes fault r.shapes r.told between others (later names) behind
+
+  abbrev Whole : Result ((L × R) × N) E → Type 0
+  Whole = Completes fault (both_shapes l r) (both_told l r) all others missed behind
+
+  pub both_completed : (v : L) (w : R) (ns ms : N) → Left (Ok (v, ns)) → Right ns (Ok (w, ms)) → Whole (Ok ((v, w), ms))
+  both_completed v w ns ms h k = (both_made l r all between others v w h.0 k.0, h.1 ∙ k.1)
+
+  pub second_stops : (v : L) (ns : N) (e : E) → Left (Ok (v, ns)) → Right ns (Err e) → Whole (Err e)
+  second_stops v ns e h (inl lacks) = inl lacks
+  second_stops v ns e h (inr k) = inr (k.0, h.0.1 ∙ ap (into h.0.0) k.1, h.1 ∙ k.2, k.3)
 
 -- ---- a value of the one or of the other
 

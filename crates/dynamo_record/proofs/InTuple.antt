@@ -1,5 +1,5 @@
 -- A tuple struct is read by its fields in order.
-use Rattle.std.proofs.Common.{[], List, Result, Ok, Err, refl, sym, ap, subst, inl, inr}
+use Rattle.std.proofs.Common.{[], List, Result, refl, sym, ap, subst}
 use Rattle.dynamo_value.specs.Fault.{Fault}
 use Rattle.dynamo_ser.specs.Datum as datum
 use Rattle.dynamo_ser.specs.Datum.{Datum, elements_of}

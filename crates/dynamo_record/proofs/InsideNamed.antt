@@ -10,7 +10,7 @@ use Rattle.dynamo_de.specs.Answer.{Answer, After, ◌>>=◌}
 use Rattle.dynamo_de.specs.Contents.{Parts, by_name, read_entries}
 use Rattle.dynamo_de.specs.Meets.{Meets}
 use Rattle.dynamo_de.specs.Shown.{shown}
-use Rattle.dynamo_de.specs.Source.{Source, attribute, key_text, number_text, plain_text, byte_string}
+use Rattle.dynamo_de.specs.Source.{Source, Text, attribute, key_text, number_text, plain_text, byte_string}
 use Rattle.dynamo_de.specs.Takes as takes
 use Rattle.dynamo_de.specs.Takes.{Takes}
 use Rattle.dynamo_de.specs.Visitors.{claims_struct, take_parts}
@@ -62,11 +62,11 @@ pub named_given : {V E : Type 0} (C : Type 0) (P : Parts → Result V Fault → 
 named_given C P fault None r k h = h
 named_given C P fault (Some s) r k h = meets_more fault (After (read_entries s) (λ es r. C → P (by_name es) r)) (After (read_entries s) (λ es. P (by_name es))) (after_given C (read_entries s) (λ es. P (by_name es)) k) r h
 
--- ---- and the fields are those of the struct without a name that they would be
+-- ---- and the fields are those of the struct that they would be
 
-module _ {C L : Type 0} (names : Names) (list : C → L) (l : AboutList L) (v : Variant) where
+module _ {C L : Type 0} (own : Text) (names : Names) (list : C → L) (l : AboutList L) (v : Variant) where
   abbrev Struct : AboutRecord C L
-  Struct = record_of [] names list l
+  Struct = record_of own names list l
 
   abbrev Told : C → Fields
   Told w = named_fields names (l.told (list w) [])
@@ -77,13 +77,13 @@ module _ {C L : Type 0} (names : Names) (list : C → L) (l : AboutList L) (v : 
   abbrev by_names : FieldShapes → Source → Answer Fields
   by_names fs s = read_entries s >>= fields_by_name fs (read_field fs)
 
-  fields_answered : (a : Answer Fields) (r : Result C Fault) → RecordAnswers Struct (into (datum.struct []) a) r → FieldAnswers a r
+  fields_answered : (a : Answer Fields) (r : Result C Fault) → RecordAnswers Struct (into (datum.struct own) a) r → FieldAnswers a r
   fields_answered (answer.value gs) (Ok w) h = (
     gs,
     refl,
     λ c.
         let e = h.2 (Told w, refl, c) in
-        let k = subst (λ d. Same d (datum.struct [] (Told w))) (sym (value_same h.1)) e in
+        let k = subst (λ d. Same d (datum.struct own (Told w))) (sym (value_same h.1)) e in
         subst (SameFields gs) (sym (ap fields_in k.1)) k.2,
   )
   fields_answered (answer.value gs) (Err f) h = h

@@ -1,6 +1,6 @@
 -- One field: what is read of it, and what it is made of.
-use Rattle.std.proofs.Common.{◌≡◌, ℕ, List, [], ◌∷◌, Option, Some, None, Result, Ok, Err, refl, inl, inr}
-use Rattle.dynamo_value.specs.Fault.{Fault}
+use Rattle.std.proofs.Common.{◌≡◌, ◌⊎◌, ℕ, List, [], ◌∷◌, Option, Some, None, Result, Ok, Err, refl, inl, inr}
+use Rattle.dynamo_value.specs.Fault.{Fault, message, out_of_memory}
 use Rattle.dynamo_ser.specs.Datum.{Datum}
 use Rattle.dynamo_de.specs.Access.{NextElement, NextValue}
 use Rattle.dynamo_de.specs.Answer as answer
@@ -14,8 +14,9 @@ use Rattle.dynamo_shape.specs.Shape.{Shape}
 use Rattle.dynamo_shape.proofs.Alike.{same_refl}
 use Rattle.dynamo_shape.proofs.Answered.{stops}
 use Rattle.dynamo_shape.proofs.FieldsByName.{Slots, first_slot, other_slots}
-use Rattle.dynamo_record.specs.Fields.{SameData, Defaults, complete, read_fields}
-use Rattle.dynamo_record.specs.Listed.{Shapes, Data, AlikeFront, Makes, MakesOrFails, IsRead, HoldsField, Fills}
+use Rattle.dynamo_record.specs.Fields.{SameData, Defaults, complete, missed_name, read_fields}
+use Rattle.dynamo_record.specs.Listed.{Shapes, Data, AlikeFront, MakesOrFails, Completes, IsRead, HoldsField, Fills}
+use Rattle.dynamo_record.specs.Names.{Names, first_name, other_names, missing_text}
 use Rattle.dynamo_record.proofs.Answering.{after_read, after_more, after_err, value_taken, value_refused}
 
 -- a datum in front of what follows
@@ -34,32 +35,34 @@ module _ {T : Type 0} (s : Shape) (tells : T → Datum) where
 
   -- ---- the field of what was read so far
 
-  module _ (default : Option Datum) (ss : Shapes) (gs : Defaults) (os more : Slots) where
-    abbrev All : Option T → Type 0
-    All = Makes shapes told (complete (s ∷ ss) (default ∷ gs) os) (complete ss gs more)
+  module _ {N E : Type 0} (fault : E → Fault) (default : Option Datum) (ns : Names) (named : N → Names) (ss : Shapes) (gs : Defaults) (os more : Slots) where
+    abbrev All : Result (T × N) E → Type 0
+    All = Completes fault shapes told (complete (s ∷ ss) (default ∷ gs) os) (complete ss gs more) (missed_name ns (s ∷ ss) (default ∷ gs) os) (λ others. missed_name (named others) ss gs more)
 
-    made : (v : T) (d : Datum) → value_or (first_slot os) (missing s default) ≡ answer.value d → (conforms s (tells v) → Same d (tells v)) → more ≡ other_slots os → All (Some v)
-    made v d is same at = (front_of d, rw (is, at) refl, alike v d same)
+    module _ (others : N) (behind : named others ≡ other_names ns) where
+      made : (v : T) (d : Datum) → value_or (first_slot os) (missing s default) ≡ answer.value d → (conforms s (tells v) → Same d (tells v)) → more ≡ other_slots os → All (Ok (v, others))
+      made v d is same at = ((front_of d, rw (is, at) refl, alike v d same), rw (is, at, behind) refl)
 
-    pub field_there : (v : T) → HoldsField s tells (Some v) os more → All (Some v)
-    field_there v h = along (first_slot os) refl h.0
+      pub field_there : (v : T) → HoldsField s tells (Some v) os more → All (Ok (v, others))
+      field_there v h = along (first_slot os) refl h.0
+        where
+          along : (o : Option Datum) → first_slot os ≡ o → IsRead s tells (Some v) o → All (Ok (v, others))
+          along None is r = absurd r
+          along (Some d) is r = made v d (rw is refl) r h.1
+
+      pub field_absent : (v : T) → missing s default ≡ answer.value (tells v) → HoldsField s tells None os more → All (Ok (v, others))
+      field_absent v is h = along (first_slot os) refl h.0
+        where
+          along : (o : Option Datum) → first_slot os ≡ o → IsRead s tells None o → All (Ok (v, others))
+          along None at r = made v (tells v) (rw at is) (λ _. same_refl (tells v)) h.1
+          along (Some d) at r = absurd r
+
+    pub field_missed : (e : E) → missing s default ≡ answer.refused → HoldsField s tells None os more → (fault e ≡ message (missing_text (first_name ns))) ⊎ (fault e ≡ out_of_memory) → All (Err e)
+    field_missed e is h (inr lacks) = inl lacks
+    field_missed e is h (inl told) = along (first_slot os) refl h.0
       where
-        along : (o : Option Datum) → first_slot os ≡ o → IsRead s tells (Some v) o → All (Some v)
-        along None is r = absurd r
-        along (Some d) is r = made v d (rw is refl) r h.1
-
-    pub field_absent : (v : T) → missing s default ≡ answer.value (tells v) → HoldsField s tells None os more → All (Some v)
-    field_absent v is h = along (first_slot os) refl h.0
-      where
-        along : (o : Option Datum) → first_slot os ≡ o → IsRead s tells None o → All (Some v)
-        along None at r = made v (tells v) (rw at is) (λ _. same_refl (tells v)) h.1
-        along (Some d) at r = absurd r
-
-    pub field_missed : missing s default ≡ answer.refused → HoldsField s tells None os more → All None
-    field_missed is h = along (first_slot os) refl h.0
-      where
-        along : (o : Option Datum) → first_slot os ≡ o → IsRead s tells None o → All None
-        along None at r = rw (at, is) refl
+        along : (o : Option Datum) → first_slot os ≡ o → IsRead s tells None o → All (Err e)
+        along None at r = inr (first_name ns, rw (at, is) refl, rw (at, is) refl, told)
         along (Some d) at r = absurd r
 
   -- ---- the field in order

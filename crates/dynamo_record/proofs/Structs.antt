@@ -8,13 +8,13 @@ use Rattle.dynamo_de.specs.Answer.{Answer, After}
 use Rattle.dynamo_de.specs.Contents.{by_name, in_order}
 use Rattle.dynamo_de.specs.Fields.{NamesOne}
 use Rattle.dynamo_de.specs.Meets.{Meets, IsMessage}
-use Rattle.dynamo_de.specs.Source.{Source, Entry}
+use Rattle.dynamo_de.specs.Source.{Source, Entry, Text}
 use Rattle.dynamo_shape.specs.Read.{into}
 use Rattle.dynamo_shape.proofs.FieldsByName.{Slots}
 use Rattle.dynamo_record.specs.Entries.{FillsAt, finish, StructSoFar}
 use Rattle.dynamo_record.specs.Fields.{unread, complete, read_fields}
-use Rattle.dynamo_record.specs.Listed.{Data, Holds, MakesOrLacks, MakesOrFails}
-use Rattle.dynamo_record.specs.Names.{place_of}
+use Rattle.dynamo_record.specs.Listed.{Data, Holds, Completes, MakesOrFails}
+use Rattle.dynamo_record.specs.Names.{place_of, missing_text}
 use Rattle.dynamo_record.specs.Records.{AboutRecord, AreNamed, record_fields, FromParts, RecordAnswers, IsAlike, place_in}
 use Rattle.dynamo_record.proofs.Described.{names_differ, place_named, empty_unread, close_complete, in_order_listed, answer_of, struct_made, struct_missed, struct_fails, after_struct, by_entries}
 use Rattle.dynamo_record.proofs.Entries as entries
@@ -85,19 +85,21 @@ module _ {V L : Type 0} (a : AboutRecord V L) where
         last : (os : Slots) × front x os × ((r : Result V Fault) → After (finish (datum.struct a.name) (record_fields a) os) (IsAlike a) r → After (entries.answered (datum.struct a.name) (record_fields a) es) (IsAlike a) r)
         last = entries.ends fault (datum.struct a.name) (record_fields a) (IsAlike a) front es l l2 p p2 x so_far (by_place l l2 p p2 (Ok None) key)
 
-        abbrev Ends : Result (Option L) E → Type 0
-        Ends r = (os : Slots) → holds x os [] → MakesOrLacks fault a.list.shapes a.list.told (complete (a.list.shapes []) (a.list.defaults []) os) (answer.value []) r
-
         closed : (r : Result V Fault) → RecordAnswers a (answer_of a (complete (a.list.shapes []) (a.list.defaults []) last.0)) r → FromParts a (by_name es) r
         closed r h =
             let shut = subst (λ fs. RecordAnswers a (into (datum.struct a.name) fs) r) (sym (close_complete a.names (a.list.shapes []) (a.list.defaults []) last.0)) h in
             whole r (last.2 r (after_struct a (finish (datum.struct a.name) (record_fields a) last.0) r shut))
 
-        pub all_made : (m : L) (v : V) → a.parts v ≡ m → Ends (Ok (Some m)) → FromParts a (by_name es) (Ok v)
-        all_made m v e h = closed (Ok v) (struct_made a (complete (a.list.shapes []) (a.list.defaults []) last.0) m v e (h last.0 last.1))
+        -- all fields are there, or one is missed
+        module _ (N : Type 0) (missed : Slots → Option Text) where
+          abbrev Ends : Result (L × N) E → Type 0
+          Ends r = (os : Slots) → holds x os [] → Completes fault a.list.shapes a.list.told (complete (a.list.shapes []) (a.list.defaults []) os) (answer.value []) (missed os) (λ _. None) r
 
-        pub one_missed : (e : E) → Ends (Ok None) → IsMessage {V = V} (Err (fault e)) → FromParts a (by_name es) (Err (fault e))
-        one_missed e h m = closed (Err (fault e)) (struct_missed a (complete (a.list.shapes []) (a.list.defaults []) last.0) (fault e) (h last.0 last.1) m)
+          pub all_made : (m : L) (others : N) (v : V) → a.parts v ≡ m → Ends (Ok (m, others)) → FromParts a (by_name es) (Ok v)
+          all_made m others v e h = closed (Ok v) (struct_made a (complete (a.list.shapes []) (a.list.defaults []) last.0) m v e (h last.0 last.1).0)
 
-        pub lacks : (e : E) → Ends (Err e) → fault e ≡ out_of_memory
-        lacks e h = h last.0 last.1
+          pub one_missed : (e : E) → Ends (Err e) → Meets {V = V} fault (FromParts a (by_name es)) (Err e)
+          one_missed e h = elim (h last.0 last.1) [
+            | inl lacks ↦ inl lacks
+            | inr told ↦ inr (closed (Err (fault e)) (struct_missed a (complete (a.list.shapes []) (a.list.defaults []) last.0) (fault e) told.1 (missing_text told.0, told.3)))
+          ]

@@ -1,9 +1,9 @@
 -- Fields in order: their shapes, what a missing one reads as, and the data that are told; and the same under names.
-use Rattle.std.specs.Prelude.{ℕ, suc, List, [], ◌∷◌, Option, None, ⊤}
+use Rattle.std.specs.Prelude.{ℕ, suc, List, [], ◌∷◌, Option, Some, None, ⊤}
 use Rattle.std.proofs.Common.{zero}
 use Rattle.dynamo_ser.specs.Datum.{Datum, Fields, no_fields, field}
-use Rattle.dynamo_de.specs.Answer.{Answer, value, refused, ◌>>=◌, value_or}
-use Rattle.dynamo_de.specs.Source.{Source}
+use Rattle.dynamo_de.specs.Answer.{Answer, value, fault, refused, ◌>>=◌, value_or}
+use Rattle.dynamo_de.specs.Source.{Source, Text}
 use Rattle.dynamo_shape.specs.Conforms.{conforms}
 use Rattle.dynamo_shape.specs.Read.{read, missing}
 use Rattle.dynamo_shape.specs.Same.{Same}
@@ -52,10 +52,21 @@ abbrev pub unread : List Shape → Slots
 unread [] = []
 unread (s ∷ ss) = None ∷ unread ss
 
+-- this name, where a field is not read; else that of a later one
+abbrev pub unless_read : Text → Answer Datum → Option Text → Option Text
+unless_read n (value d) later = later
+unless_read n (fault f) later = Some n
+unless_read n refused later = Some n
+
 -- where nothing was read of a field, its default is read; without one an option is none, and any other field is missed
 abbrev pub complete : List Shape → Defaults → Slots → Answer (List Datum)
 complete [] gs os = value []
 complete (s ∷ ss) gs os = value_or (first_slot os) (missing s (first_default gs)) >>= λ d. complete ss (other_defaults gs) (other_slots os) >>= λ ds. value (d ∷ ds)
+
+-- the name of the first field that is missed, where the names are these
+abbrev pub missed_name : Names → List Shape → Defaults → Slots → Option Text
+missed_name ns [] gs os = None
+missed_name ns (s ∷ ss) gs os = unless_read (first_name ns) (value_or (first_slot os) (missing s (first_default gs))) (missed_name (other_names ns) ss (other_defaults gs) (other_slots os))
 
 -- ---- under names, and as elements
 

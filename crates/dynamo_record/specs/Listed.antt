@@ -1,10 +1,10 @@
 -- Lists of fields by their types, each put in front of whatever follows, so that two lists are one list by going on with the
 -- second behind the first.
 use Rattle.std.specs.Prelude.{◌≡◌, ◌⊎◌, ◌+◌, ℕ, List, ◌∷◌, Option, Some, None, Result, Ok, Err, length, ⊤}
-use Rattle.dynamo_value.specs.Fault.{Fault, out_of_memory}
+use Rattle.dynamo_value.specs.Fault.{Fault, message, out_of_memory}
 use Rattle.dynamo_ser.specs.Datum.{Datum}
 use Rattle.dynamo_de.specs.Answer.{Answer, refused, After}
-use Rattle.dynamo_de.specs.Source.{Source}
+use Rattle.dynamo_de.specs.Source.{Source, Text}
 use Rattle.dynamo_shape.specs.Conforms.{conforms}
 use Rattle.dynamo_shape.specs.Permits.{Permits}
 use Rattle.dynamo_shape.specs.Read.{into}
@@ -12,6 +12,7 @@ use Rattle.dynamo_shape.specs.Same.{Same}
 use Rattle.dynamo_shape.specs.Shape.{Shape}
 use Rattle.dynamo_shape.proofs.FieldsByName.{Slots, first_slot, other_slots, fill_slot}
 use Rattle.dynamo_types.specs.About.{About}
+use Rattle.dynamo_record.specs.Names.{missing_text}
 use Rattle.dynamo_record.specs.Fields.{ConformEach, SameData, Defaults, read_nth}
 
 abbrev pub Shapes : Type 0
@@ -124,15 +125,20 @@ Fills holds ss i os more new source r = After (read_nth i ss source) (λ d. IfRe
 abbrev pub AlikeFront : {L : Type 0} → (Shapes → Shapes) → (L → Data → Data) → (Data → Data) → L → Type 0
 AlikeFront shapes told front v = (ss : Shapes) (ds es : Data) → ConformEach (shapes ss) (told v es) → (ConformEach ss es → SameData ds es) → SameData (front ds) (told v es)
 
+-- a field is missed, and the fault names it
+abbrev pub IsMissed : Answer Data → Option Text → Fault → Type 0
+IsMissed all missed f = (name : Text) × (all ≡ refused) × (missed ≡ Some name) × (f ≡ message (missing_text name))
+
 -- the fields are made of what is read first, and the others are what is read then; where a field is missed all is refused
 abbrev pub Makes : {L : Type 0} → (Shapes → Shapes) → (L → Data → Data) → Answer Data → Answer Data → Option L → Type 0
 Makes shapes told all others None = all ≡ refused
 Makes shapes told all others (Some v) = (front : Data → Data) × (all ≡ into front others) × AlikeFront shapes told front v
 
--- the same of a call that may want memory
-abbrev pub MakesOrLacks : {L E : Type 0} → (E → Fault) → (Shapes → Shapes) → (L → Data → Data) → Answer Data → Answer Data → Result (Option L) E → Type 0
-MakesOrLacks fault shapes told all others (Ok o) = Makes shapes told all others o
-MakesOrLacks fault shapes told all others (Err e) = fault e ≡ out_of_memory
+-- the same where no field of the list is missed, so that the first which is missed stands behind; one that is missed is refused by
+-- its name
+abbrev pub Completes : {L N E : Type 0} → (E → Fault) → (Shapes → Shapes) → (L → Data → Data) → Answer Data → Answer Data → Option Text → (N → Option Text) → Result (L × N) E → Type 0
+Completes fault shapes told all others missed behind (Ok p) = Makes shapes told all others (Some p.0) × (missed ≡ behind p.1)
+Completes fault shapes told all others missed behind (Err e) = (fault e ≡ out_of_memory) ⊎ IsMissed all missed (fault e)
 
 -- the same of a call that reads, and so may meet a fault
 abbrev pub MakesOrFails : {L E : Type 0} → (E → Fault) → (Shapes → Shapes) → (L → Data → Data) → Answer Data → Answer Data → Result (Option L) E → Type 0

@@ -1,5 +1,5 @@
 -- The names of fields or variants, in order.
-use Rattle.std.specs.Prelude.{ℕ, suc, Bool, true, false, ◌&&◌, ◌||◌, not, List, [], ◌∷◌, bytes_eq, if◌then◌else◌}
+use Rattle.std.specs.Prelude.{ℕ, suc, Bool, true, false, ◌&&◌, ◌||◌, not, List, [], ◌∷◌, ◌++◌, codes, bytes_eq, if◌then◌else◌}
 use Rattle.std.proofs.Common.{zero}
 use Rattle.dynamo_de.specs.Source.{Text}
 
@@ -32,3 +32,7 @@ place_of i (n ∷ ns) t = if bytes_eq t n then i else place_of (suc i) ns t
 abbrev pub names_from : ℕ → Names → Names
 names_from zero ns = ns
 names_from (suc i) ns = other_names (names_from i ns)
+
+-- the refusal of a map that has no entry for the field of this name
+abbrev pub missing_text : Text → Text
+missing_text n = codes "missing field `" ++ (n ++ codes "`")

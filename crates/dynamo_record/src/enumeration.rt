@@ -1,4 +1,4 @@
-ghost use Rattle.std.specs.Prelude.{◌≡◌, map};
+ghost use Rattle.std.specs.Prelude.{◌≡◌, ◌++◌, codes, map};
 ghost use Rattle.dynamo_de.specs.Answer.{After};
 ghost use Rattle.dynamo_de.specs.Meets.{Meets};
 ghost use Rattle.dynamo_de.specs.Scalars.{read_identifier};
@@ -24,6 +24,10 @@ pub trait Enumeration: Sized + Drop {
     /// The name of the enum.
     fn name() -> &'static str
         ensures { result.now ≡ about.name };
+
+    /// What reading it expects, as `enum Event`.
+    fn expecting() -> &'static str
+        ensures { result.now ≡ codes "enum " ++ about.name };
 
     /// The names of the variants, as they are stored.
     fn names() -> &'static [&'static str]
@@ -109,7 +113,7 @@ where
     ghost takes = { λ _ s. After (take_variant s) (FromVariants T.about T.Variants.about) };
 
     fn expecting(&self) -> &'static str {
-        "enum"
+        T::expecting()
     }
 
     fn alloc(&self) -> Global {

@@ -1,10 +1,13 @@
-ghost use Rattle.std.specs.Prelude.{◌≡◌, ◌<◌, ◌≤◌, ◌+◌, ◌^◌};
+ghost use Rattle.std.specs.Prelude.{◌≡◌, ◌⊎◌, ◌<◌, ◌≤◌, ◌+◌, ◌^◌, map};
+ghost use Rattle.dynamo_value.specs.Fault.{message, out_of_memory};
 ghost use Rattle.dynamo_de.specs.Access.{NextValue};
 ghost use Rattle.dynamo_shape.proofs.FieldsByName.{Slots};
-ghost use Rattle.dynamo_record.specs.Fields.{Defaults, unread, complete, read_fields};
-ghost use Rattle.dynamo_record.specs.Listed.{AboutList, about_field, about_both, Shapes, Holds, HoldsField, HoldsBoth, HoldsBehind, ReadBehind, Counts, Fills, MakesOrLacks, MakesOrFails};
+ghost use Rattle.dynamo_record.specs.Fields.{Defaults, unread, complete, missed_name, read_fields};
+ghost use Rattle.dynamo_record.specs.Listed.{AboutList, about_field, about_both, Shapes, Holds, HoldsField, HoldsBoth, HoldsBehind, ReadBehind, Counts, Fills, Completes, MakesOrFails};
 ghost use Rattle.dynamo_record.specs.Behind.{both_behind, both_read, both_counted, field_behind, field_read, field_counted};
+ghost use Rattle.dynamo_record.specs.Names.{missing_text};
 
+use crate::names::first_of;
 use crate::{Field, FieldType};
 use dynamo_de::{Error, MapAccess, SeqAccess};
 use std::alloc::Global;
@@ -41,16 +44,21 @@ pub trait FieldList: Sized {
     ) -> Result<(), A::Error>
         ensures { place < about.count → place + 1 < 2 ^ 64 → (ss : Shapes) (os more : Slots) → holds slots.old os more → NextValue A.Error.fault (Fills holds (about.shapes ss) place os more slots.new) (A.left map.old) (A.pending map.old) (A.left map.new) (A.pending map.new) result };
 
-    /// The fields, where none is missed.
-    fn complete<E: Error>(slots: Self::Slots, alloc: Global) -> Result<Option<Self>, E>
-        ensures { (ss : Shapes) (gs : Defaults) (os more : Slots) → holds slots os more → MakesOrLacks E.fault about.shapes about.told (complete (about.shapes ss) (about.defaults gs) os) (complete ss gs more) result };
+    /// The fields, where none is missed, and the names behind theirs, with which these names begin.
+    ///
+    /// # Errors
+    ///
+    /// Refuses the first field that is missed by a message with its name, as serde does.
+    fn complete<E: Error>(
+        slots: Self::Slots,
+        names: &'static [&'static str],
+        alloc: Global,
+    ) -> Result<(Self, &'static [&'static str]), E>
+        ensures { (ss : Shapes) (gs : Defaults) (os more : Slots) → holds slots os more → Completes E.fault about.shapes about.told (complete (about.shapes ss) (about.defaults gs) os) (complete ss gs more) (missed_name (map (λ n. n.now) names.now) (about.shapes ss) (about.defaults gs) os) (λ others. missed_name (map (λ n. n.now) others.now) ss gs more) result };
 
     /// Reads the fields in order; none where the elements end before.
     fn read_in_order<A: SeqAccess>(seq: &mut A, alloc: Global) -> Result<Option<Self>, A::Error>
         ensures { (ss : Shapes) → MakesOrFails A.Error.fault about.shapes about.told (read_fields (about.shapes ss) (A.left seq.old)) (read_fields ss (A.left seq.new)) result };
-
-    /// The number of the first field that is missed.
-    fn missed<E: Error>(slots: &Self::Slots, alloc: Global) -> Option<usize>;
 
     /// Lets go of what was read.
     fn discard_slots(slots: Self::Slots);
@@ -66,6 +74,16 @@ pub trait FieldList: Sized {
 
     // There are so many shapes.
     ghost counted: { Counts about.count about.shapes };
+}
+
+/// The refusal of a map that has no entry for the field of this name.
+fn missing_field<E: Error>(alloc: Global, name: &str) -> E
+    ensures { (E.fault result ≡ message (missing_text name.now)) ⊎ (E.fault result ≡ out_of_memory) }
+{
+    match format!(in alloc; "missing field `{name}`") {
+        Ok(text) => E::custom(alloc, &text),
+        Err(_) => E::out_of_memory(),
+    }
 }
 
 impl<F: FieldType> FieldList for Field<F> {
@@ -100,12 +118,17 @@ impl<F: FieldType> FieldList for Field<F> {
         Ok(())
     }
 
-    fn complete<E: Error>(slots: Option<F::Value>, alloc: Global) -> Result<Option<Field<F>>, E> {
+    fn complete<E: Error>(
+        slots: Option<F::Value>,
+        names: &'static [&'static str],
+        alloc: Global,
+    ) -> Result<(Field<F>, &'static [&'static str]), E> {
+        let (name, others) = first_of(names);
         match slots {
-            Some(value) => Ok(Some(Field(value))),
+            Some(value) => Ok((Field(value), others)),
             None => match F::absent::<E>(alloc) {
-                Ok(Some(value)) => Ok(Some(Field(value))),
-                Ok(None) => Ok(None),
+                Ok(Some(value)) => Ok((Field(value), others)),
+                Ok(None) => Err(missing_field(alloc, name)),
                 Err(error) => Err(error),
             },
         }
@@ -119,16 +142,6 @@ impl<F: FieldType> FieldList for Field<F> {
             Ok(Some(value)) => Ok(Some(Field(value))),
             Ok(None) => Ok(None),
             Err(error) => Err(error),
-        }
-    }
-
-    fn missed<E: Error>(slots: &Option<F::Value>, alloc: Global) -> Option<usize> {
-        if slots.is_some() {
-            return None;
-        }
-        match F::absent::<E>(alloc) {
-            Ok(None) => Some(0),
-            _ => None,
         }
     }
 
@@ -177,23 +190,25 @@ impl<L: FieldList, R: FieldList> FieldList for (L, R) {
         }
     }
 
-    fn complete<E: Error>(slots: (L::Slots, R::Slots), alloc: Global) -> Result<Option<(L, R)>, E> {
+    fn complete<E: Error>(
+        slots: (L::Slots, R::Slots),
+        names: &'static [&'static str],
+        alloc: Global,
+    ) -> Result<((L, R), &'static [&'static str]), E> {
         let (left, right) = slots;
-        match L::complete::<E>(left, alloc) {
-            Ok(Some(left)) => match R::complete::<E>(right, alloc) {
-                Ok(Some(right)) => Ok(Some((left, right))),
-                Ok(None) => {
-                    left.discard();
-                    Ok(None)
+        match L::complete::<E>(left, names, alloc) {
+            Ok(first) => {
+                let (left, names) = first;
+                match R::complete::<E>(right, names, alloc) {
+                    Ok(second) => {
+                        let (right, names) = second;
+                        Ok(((left, right), names))
+                    }
+                    Err(error) => {
+                        left.discard();
+                        Err(error)
+                    }
                 }
-                Err(error) => {
-                    left.discard();
-                    Err(error)
-                }
-            },
-            Ok(None) => {
-                R::discard_slots(right);
-                Ok(None)
             }
             Err(error) => {
                 R::discard_slots(right);
@@ -217,16 +232,6 @@ impl<L: FieldList, R: FieldList> FieldList for (L, R) {
             },
             Ok(None) => Ok(None),
             Err(error) => Err(error),
-        }
-    }
-
-    fn missed<E: Error>(slots: &(L::Slots, R::Slots), alloc: Global) -> Option<usize> {
-        match L::missed::<E>(&slots.0, alloc) {
-            Some(place) => Some(place),
-            None => match R::missed::<E>(&slots.1, alloc) {
-                Some(place) => Some(L::count().saturating_add(place)),
-                None => None,
-            },
         }
     }
 

@@ -40,14 +40,14 @@ impl<A: FieldList, B: FieldList, C: FieldList, D: FieldList> FieldList for (A, B
 
     fn complete<X: Error>(
         slots: ((A::Slots, B::Slots), (C::Slots, D::Slots)),
+        names: &'static [&'static str],
         alloc: Global,
-    ) -> Result<Option<(A, B, C, D)>, X> {
-        match <((A, B), (C, D)) as FieldList>::complete::<X>(slots, alloc) {
-            Ok(Some(halves)) => {
-                let ((a, b), (c, d)) = halves;
-                Ok(Some((a, b, c, d)))
+    ) -> Result<((A, B, C, D), &'static [&'static str]), X> {
+        match <((A, B), (C, D)) as FieldList>::complete::<X>(slots, names, alloc) {
+            Ok(completed) => {
+                let (((a, b), (c, d)), names) = completed;
+                Ok(((a, b, c, d), names))
             }
-            Ok(None) => Ok(None),
             Err(error) => Err(error),
         }
     }
@@ -64,13 +64,6 @@ impl<A: FieldList, B: FieldList, C: FieldList, D: FieldList> FieldList for (A, B
             Ok(None) => Ok(None),
             Err(error) => Err(error),
         }
-    }
-
-    fn missed<X: Error>(
-        slots: &((A::Slots, B::Slots), (C::Slots, D::Slots)),
-        alloc: Global,
-    ) -> Option<usize> {
-        <((A, B), (C, D)) as FieldList>::missed::<X>(slots, alloc)
     }
 
     fn discard_slots(slots: ((A::Slots, B::Slots), (C::Slots, D::Slots))) {
@@ -136,14 +129,14 @@ impl<
             ((A::Slots, B::Slots), (C::Slots, D::Slots)),
             ((E::Slots, F::Slots), (G::Slots, H::Slots)),
         ),
+        names: &'static [&'static str],
         alloc: Global,
-    ) -> Result<Option<(A, B, C, D, E, F, G, H)>, X> {
-        match <((A, B, C, D), (E, F, G, H)) as FieldList>::complete::<X>(slots, alloc) {
-            Ok(Some(halves)) => {
-                let ((a, b, c, d), (e, f, g, h)) = halves;
-                Ok(Some((a, b, c, d, e, f, g, h)))
+    ) -> Result<((A, B, C, D, E, F, G, H), &'static [&'static str]), X> {
+        match <((A, B, C, D), (E, F, G, H)) as FieldList>::complete::<X>(slots, names, alloc) {
+            Ok(completed) => {
+                let (((a, b, c, d), (e, f, g, h)), names) = completed;
+                Ok(((a, b, c, d, e, f, g, h), names))
             }
-            Ok(None) => Ok(None),
             Err(error) => Err(error),
         }
     }
@@ -160,16 +153,6 @@ impl<
             Ok(None) => Ok(None),
             Err(error) => Err(error),
         }
-    }
-
-    fn missed<X: Error>(
-        slots: &(
-            ((A::Slots, B::Slots), (C::Slots, D::Slots)),
-            ((E::Slots, F::Slots), (G::Slots, H::Slots)),
-        ),
-        alloc: Global,
-    ) -> Option<usize> {
-        <((A, B, C, D), (E, F, G, H)) as FieldList>::missed::<X>(slots, alloc)
     }
 
     fn discard_slots(

@@ -1,4 +1,4 @@
-ghost use Rattle.std.specs.Prelude.{◌≡◌, [], map, true, length};
+ghost use Rattle.std.specs.Prelude.{◌≡◌, [], codes, map, true, length};
 ghost use Rattle.dynamo_de.specs.Access.{OfContent};
 ghost use Rattle.dynamo_de.specs.Answer.{After};
 ghost use Rattle.dynamo_de.specs.Contents.{by_name, read_entries};
@@ -37,12 +37,12 @@ pub struct Named<N: NamedFields>(pub N::Fields);
 impl<N: NamedFields> Record for Named<N> {
     type Fields = N::Fields;
 
-    ghost about = { record_of [] N.names (λ v. v.0) N.Fields.about };
+    ghost about = { record_of (codes "variant") N.names (λ v. v.0) N.Fields.about };
 
     ghost named = { N.named };
 
     fn name() -> &'static str {
-        ""
+        "variant"
     }
 
     fn expecting() -> &'static str {

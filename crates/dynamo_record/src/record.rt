@@ -1,4 +1,4 @@
-ghost use Rattle.std.specs.Prelude.{◌≡◌, ◌⊎◌, Ok, map, []};
+ghost use Rattle.std.specs.Prelude.{◌≡◌, ◌⊎◌, ◌++◌, Ok, codes, map, []};
 ghost use Rattle.dynamo_value.specs.Fault.{out_of_memory};
 ghost use Rattle.dynamo_ser.specs.Datum as datum;
 ghost use Rattle.dynamo_ser.specs.Writes.{Writes};
@@ -40,7 +40,8 @@ pub trait Record: Sized + Drop {
         ensures { result.now ≡ about.name };
 
     /// What reading it expects, as `struct User`.
-    fn expecting() -> &'static str;
+    fn expecting() -> &'static str
+        ensures { result.now ≡ codes "struct " ++ about.name };
 
     /// The names of the fields, as they are stored.
     fn names() -> &'static [&'static str]
@@ -113,35 +114,8 @@ fn too_few<E: Error>(alloc: Global, expecting: &str) -> E
     }
 }
 
-/// The refusal of a map that has no entry for a field.
-fn missing_field<E: Error>(alloc: Global, name: &str) -> E
-    ensures { IsMessageFault (E.fault result) ⊎ (E.fault result ≡ out_of_memory) }
-{
-    match format!(in alloc; "missing field `{name}`") {
-        Ok(text) => E::custom(alloc, &text),
-        Err(_) => E::out_of_memory(),
-    }
-}
-
 /// Why no struct is read whose description names other fields than it lists.
 const OTHER_FIELDS: &str = "a struct is described by other fields than it has";
-
-/// The name of the first field that is missed.
-fn missed_name<R: Record, E: Error>(
-    slots: &<R::Fields as FieldList>::Slots,
-    alloc: Global,
-) -> &'static str
-where
-    R::Fields: FieldList,
-{
-    match <R::Fields as FieldList>::missed::<E>(slots, alloc) {
-        Some(place) => match R::names().get(place) {
-            Some(name) => *name,
-            None => "",
-        },
-        None => "",
-    }
-}
 
 /// Reads the value that is pending as the field at this place; behind the last it is ignored.
 fn read_entry<R: Record, A: MapAccess>(
@@ -191,10 +165,9 @@ where
             return Err(error);
         }
     }
-    let missed = missed_name::<R, A::Error>(&slots, alloc);
-    match <R::Fields as FieldList>::complete::<A::Error>(slots, alloc)? {
-        Some(fields) => Ok(R::make(fields)),
-        None => Err(missing_field(alloc, missed)),
+    match <R::Fields as FieldList>::complete::<A::Error>(slots, R::names(), alloc) {
+        Ok(completed) => Ok(R::make(completed.0)),
+        Err(error) => Err(error),
     }
 }
 

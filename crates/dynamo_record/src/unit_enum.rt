@@ -1,4 +1,4 @@
-ghost use Rattle.std.specs.Prelude.{◌≡◌, ℕ, map, length};
+ghost use Rattle.std.specs.Prelude.{◌≡◌, ◌++◌, ℕ, codes, map, length};
 ghost use Rattle.std.specs.List.{range_with_len};
 ghost use Rattle.dynamo_de.specs.Answer.{After};
 ghost use Rattle.dynamo_de.specs.Meets.{Meets};
@@ -22,6 +22,10 @@ pub trait UnitEnum: Copy {
     /// The name of the enum.
     fn name() -> &'static str
         ensures { result.now ≡ about.name };
+
+    /// What reading it expects, as `enum Side`.
+    fn expecting() -> &'static str
+        ensures { result.now ≡ codes "enum " ++ about.name };
 
     /// The names of the variants.
     fn names() -> &'static [&'static str]
@@ -114,7 +118,7 @@ impl<T: UnitEnum> Visitor for UnitEnumVisitor<T> {
     ghost takes = { λ _ s. After (take_variant s) (FromVariant T.about) };
 
     fn expecting(&self) -> &'static str {
-        T::name()
+        T::expecting()
     }
 
     fn alloc(&self) -> Global {

@@ -11,8 +11,8 @@ pub trait Serialize {
     // The datum that a value tells.
     ghost tells: { Self → Datum };
 
-    // Where writing the value takes memory of its own, apart from what the serializer takes.
-    ghost wants: { Self → Type 0 };
+    // Where writing the value takes memory of its own, apart from what the serializer takes: nowhere, unless a type says so.
+    ghost wants: { Self → Type 0 } = { λ _. ⊥ };
 
     /// Writes the value: the answer is one that the serializer may give to the datum that the value tells.
     fn serialize<S: Serializer>(&self, serializer: S) -> Result<S::Ok, S::Error>

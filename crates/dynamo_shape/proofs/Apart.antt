@@ -4,9 +4,8 @@ use Rattle.std.specs.Prelude.{◌&&◌}
 use Rattle.std.proofs.lemmas.Bool.{true≢false, and_parts}
 use Rattle.dynamo_ser.specs.Datum as datum
 use Rattle.dynamo_ser.specs.Datum.{Datum, Elements, Fields}
-use Rattle.dynamo_shape.specs.Laws.{IsToldByValue, ToldApart}
+use Rattle.dynamo_shape.specs.Laws.{ToldApart}
 use Rattle.dynamo_shape.specs.Same.{Same, SameElements, SameFields}
-use Rattle.dynamo_shape.specs.Shape.{Shape}
 
 abbrev mutual
   pub holds_no_map : Datum → Bool
@@ -62,7 +61,3 @@ mutual
 
 pub told_apart : {V : Type 0} (tells : V → Datum) → ((v : V) → holds_no_map (tells v) ≡ true) → ToldApart tells
 told_apart tells none v w h = equal (tells v) (tells w) (none v) h
-
--- what can be made of its own data again is told by them
-pub told_again : {V : Type 0} (s : Shape) (tells : V → Datum) (again : Datum → V) → ((v : V) → holds_no_map (tells v) ≡ true) → ((v : V) → again (tells v) ≡ v) → IsToldByValue s tells (λ v w. v ≡ w)
-told_again s tells again none back v w c d h = sym (back v) ∙ ap again (equal (tells v) (tells w) (none v) h) ∙ back w

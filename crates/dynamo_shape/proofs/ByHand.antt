@@ -1,5 +1,5 @@
 -- Reading by hand as a shape says: answers in step.
-use Rattle.std.proofs.Common.{◌≡◌, Option, Some, None, Result, Ok, Err, refl, sym, ap, subst, ◌∙◌}
+use Rattle.std.proofs.Common.{◌≡◌, Option, Some, None, Result, Ok, Err, refl, sym, ap, subst}
 use Rattle.std.specs.Prelude.{⊤}
 use Rattle.dynamo_value.specs.Fault.{Fault}
 use Rattle.dynamo_ser.specs.Datum as datum
@@ -30,12 +30,6 @@ pub same_next : {X A B : Type 0} (K : A → B) (a : Answer X) (f : X → Answer 
 same_next K (answer.value x) f g h = h x
 same_next K (answer.fault e) f g h = refl
 same_next K answer.refused f g h = refl
-
--- one step made of another's parts
-pub same_made : {A B : Type 0} (make : A → B) (r : Answer A) (a : Answer B) → a ≡ into make r → {C : Type 0} (f : A → Answer C) (g : B → Answer C) → ((x : A) → f x ≡ g (make x)) → r >>= f ≡ a >>= g
-same_made make (answer.value x) a e f g h = h x ∙ ap (λ b. b >>= g) (sym e)
-same_made make (answer.fault e') a e f g h = ap (λ b. b >>= g) (sym e)
-same_made make answer.refused a e f g h = ap (λ b. b >>= g) (sym e)
 
 -- two values that are so, the same fault, or two refusals
 abbrev pub Both : {A B : Type 0} → (A → B → Type 0) → Answer A → Answer B → Type 0

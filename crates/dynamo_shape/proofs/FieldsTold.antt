@@ -107,14 +107,6 @@ set_told k s tells same h v w c d e =
 pub set_alike : {T : Type 0} (k : SetKind) (s : Shape) (tells : T → Datum) (same : T → T → Type 0) → ToldAlike s tells same → ToldAlike {T = Vec T Global} (shape.set k s) (λ v. datum.newtype_struct (symbol k) (datum.seq (told_each tells v.items))) (λ v w. SameEach same v.items w.items)
 set_alike k s tells same h v w c d e = (datum.seq (told_each tells w.items), refl, list_alike s tells same h v w (in_set k s (told_each tells v.items) c) (in_set k s (told_each tells w.items) d) e)
 
--- what conforms as a list conforms as a set
-pub set_conforms : (k : SetKind) (s : Shape) (ds : Elements) → conforms (shape.list s) (datum.seq ds) → conforms (shape.set k s) (datum.newtype_struct (symbol k) (datum.seq ds))
-set_conforms k s ds c = (ds, refl, subst (AllElements (conforms s)) (sym (ap list_in c.1)) c.2)
-  where
-    list_in : Datum → Elements
-    list_in (datum.seq es) = es
-    list_in _ = datum.no_elements
-
 -- ---- newtypes
 
 pub newtype_told : {V : Type 0} (name : Text) (s : Shape) (tells : V → Datum) (same : V → V → Type 0) → IsToldByValue s tells same → IsToldByValue (shape.newtype name s) (λ v. datum.newtype_struct name (tells v)) same

@@ -62,8 +62,6 @@ impl Serialize for Account {
         (datum.field (codes "answers") (datum.map (datum.pairs_of (map (λ e. (datum.integer datum.u8 (pos e.0), option_tells (λ b. datum.boolean b) e.1)) a.answers.entries)))
         datum.no_fields)))) };
 
-    ghost wants = { λ _. ⊥ };
-
     fn serialize<S: Serializer>(&self, serializer: S) -> Result<S::Ok, S::Error> {
         let mut state = serializer.serialize_struct("Account", 4)?;
         state.serialize_field("user", &self.user)?;

@@ -111,8 +111,6 @@ struct Nothing;
 impl Serialize for Nothing {
     ghost tells = { λ _. datum.unit_struct (codes "Nothing") };
 
-    ghost wants = { λ _. ⊥ };
-
     fn serialize<S: Serializer>(&self, serializer: S) -> std::result::Result<S::Ok, S::Error> {
         serializer.serialize_unit_struct("Nothing")
     }

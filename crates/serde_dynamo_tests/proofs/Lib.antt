@@ -1,4 +1,3 @@
-pub mod InOrder
 pub mod PointRows
-pub mod StationFields
-pub mod StationRows
+pub mod GaugeFields
+pub mod GaugeRows

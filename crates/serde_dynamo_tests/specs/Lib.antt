@@ -1,4 +1,2 @@
 pub mod Inside
-pub mod Newtypes
-pub mod PointShape
-pub mod StationShape
+pub mod GaugeShape

@@ -1,5 +1,4 @@
-use crate::by_hand::Count;
-use crate::kinds::Name;
+use crate::forms::{Count, Name};
 use crate::notation;
 use crate::reading::{reads, reads_back};
 use serde_dynamo::de::Deserialize;

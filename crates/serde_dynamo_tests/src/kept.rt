@@ -21,8 +21,6 @@ pub(crate) struct Kept {
 impl Serialize for Kept {
     ghost tells = { λ k. datum.struct (codes "Kept") (datum.field (codes "id") (datum.integer datum.u64 (pos k.id)) (datum.field (codes "value") (attribute_datum k.value) datum.no_fields)) };
 
-    ghost wants = { λ _. ⊥ };
-
     fn serialize<S: Serializer>(&self, serializer: S) -> Result<S::Ok, S::Error> {
         let mut state = serializer.serialize_struct("Kept", 2)?;
         state.serialize_field("id", &self.id)?;

@@ -6,28 +6,12 @@ use serde_dynamo::ser::{
     Serialize, SerializeMap, SerializeStruct, SerializeTupleStruct, Serializer,
 };
 
-/// `struct UnitStruct;`.
-#[derive(Clone, Copy, Debug, Drop, PartialEq, Eq, Hash)]
-pub struct UnitStruct;
-
-impl Serialize for UnitStruct {
-    ghost tells = { λ _. datum.unit_struct (codes "UnitStruct") };
-
-    ghost wants = { λ _. ⊥ };
-
-    fn serialize<S: Serializer>(&self, serializer: S) -> Result<S::Ok, S::Error> {
-        serializer.serialize_unit_struct("UnitStruct")
-    }
-}
-
 /// `struct Empty {}`.
 #[derive(Clone, Copy, PartialEq, Eq, Hash)]
 pub struct Empty {}
 
 impl Serialize for Empty {
     ghost tells = { λ _. datum.struct (codes "Empty") datum.no_fields };
-
-    ghost wants = { λ _. ⊥ };
 
     fn serialize<S: Serializer>(&self, serializer: S) -> Result<S::Ok, S::Error> {
         serializer.serialize_struct("Empty", 0)?.end()
@@ -41,24 +25,8 @@ pub struct EmptyMap {}
 impl Serialize for EmptyMap {
     ghost tells = { λ _. datum.map datum.no_pairs };
 
-    ghost wants = { λ _. ⊥ };
-
     fn serialize<S: Serializer>(&self, serializer: S) -> Result<S::Ok, S::Error> {
         serializer.serialize_map(Some(0))?.end()
-    }
-}
-
-/// `struct Name(String)`, a newtype.
-#[derive(Debug, Drop, PartialEq, Eq, Hash)]
-pub struct Name(pub String);
-
-impl Serialize for Name {
-    ghost tells = { λ n. datum.newtype_struct (codes "Name") (datum.string (string_bytes n.0)) };
-
-    ghost wants = { λ _. ⊥ };
-
-    fn serialize<S: Serializer>(&self, serializer: S) -> Result<S::Ok, S::Error> {
-        serializer.serialize_newtype_struct("Name", &self.0)
     }
 }
 
@@ -68,8 +36,6 @@ pub struct Pair(pub String, pub String);
 
 impl Serialize for Pair {
     ghost tells = { λ p. datum.tuple_struct (codes "Pair") (datum.element (datum.string (string_bytes p.0)) (datum.element (datum.string (string_bytes p.1)) datum.no_elements)) };
-
-    ghost wants = { λ _. ⊥ };
 
     fn serialize<S: Serializer>(&self, serializer: S) -> Result<S::Ok, S::Error> {
         let mut state = serializer.serialize_tuple_struct("Pair", 2)?;
@@ -88,8 +54,6 @@ pub struct Twice<T, U> {
 
 impl<T: Serialize, U: Serialize> Serialize for Twice<T, U> {
     ghost tells = { λ t. datum.struct (codes "Twice") (datum.field (codes "a") (T.tells t.first) (datum.field (codes "a") (U.tells t.second) datum.no_fields)) };
-
-    ghost wants = { λ _. ⊥ };
 
     fn serialize<S: Serializer>(&self, serializer: S) -> Result<S::Ok, S::Error> {
         let mut state = serializer.serialize_struct("Twice", 2)?;

@@ -21,6 +21,9 @@ pub mod equal;
 mod faults;
 #[cfg(test)]
 mod floats;
+pub mod forms;
+#[cfg(test)]
+mod gauges;
 #[cfg(test)]
 mod idle;
 #[cfg(test)]
@@ -71,9 +74,9 @@ mod samples;
 mod sequences;
 #[cfg(test)]
 mod sets;
-pub mod shaped_by_hand;
 #[cfg(test)]
 mod show;
+pub mod station;
 #[cfg(test)]
 mod stations;
 #[cfg(test)]

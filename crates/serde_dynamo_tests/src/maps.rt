@@ -1,5 +1,5 @@
-use crate::by_hand::Count;
-use crate::kinds::{Empty, EmptyMap, Name, Pair, UnitStruct};
+use crate::forms::{Count, Name, UnitStruct};
+use crate::kinds::{Empty, EmptyMap, Pair};
 use crate::refuses::Refuses;
 use crate::writing::writes;
 use serde_dynamo::samples::Event;

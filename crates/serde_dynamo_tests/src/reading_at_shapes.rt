@@ -1,8 +1,8 @@
 use crate::at_shapes::{item_at_shape, items_at_shape, value_at_shape};
-use crate::by_hand::Point;
+use crate::forms::Point;
 use crate::notation;
 use crate::reading::{answer, item};
-use crate::shaped_by_hand::Station;
+use crate::station::Station;
 use serde_dynamo::{Item, Items, Shaped};
 use std::alloc::Global;
 use std::fmt::Debug;

@@ -142,7 +142,7 @@ fn the_samples_tell_what_they_expect(rt: HostRuntime) -> Result<(), Fail> {
     let texts = r#"Ss ["a"]"#;
     expects::<Vec<User>>(&rt, alloc, texts, ", expected struct User")?;
     expects::<Vec<Sets>>(&rt, alloc, texts, ", expected struct Sets")?;
-    expects::<Vec<Event>>(&rt, alloc, "Bs [[1]]", ", expected enum")
+    expects::<Vec<Event>>(&rt, alloc, "Bs [[1]]", ", expected enum Event")
 }
 
 #[test]

@@ -1,5 +1,5 @@
 use crate::at_shapes::read_twice;
-use crate::kinds::Name;
+use crate::forms::Name;
 use crate::reading::{answer, reads};
 use crate::{notation, show};
 use serde_dynamo::{ByteBuf, Shaped, StringSet, from_attribute_value, reread, to_attribute_value};

@@ -1,4 +1,4 @@
-use crate::kinds::Name;
+use crate::forms::Name;
 use crate::reading::{reads, reads_back};
 use serde_dynamo::samples::Event;
 use serde_dynamo::{

@@ -1,4 +1,4 @@
-use crate::kinds::Name;
+use crate::forms::Name;
 use crate::reading::{agrees, answer};
 use crate::refuses::Refuses;
 use crate::writing::writes_directly;

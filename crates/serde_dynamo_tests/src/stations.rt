@@ -1,7 +1,7 @@
-use crate::by_hand::{Count, Point};
+use crate::forms::{Count, Point};
 use crate::reading::reads;
 use crate::rereading::{gives_back, rereads};
-use crate::shaped_by_hand::Station;
+use crate::station::Station;
 use std::test::Fail;
 
 #[test]

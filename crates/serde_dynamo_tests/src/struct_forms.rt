@@ -1,6 +1,5 @@
 // Structs of each form read from what their form says.
-use crate::by_hand::{Count, Point};
-use crate::kinds::{Name, UnitStruct};
+use crate::forms::{Count, Name, Point, UnitStruct};
 use crate::reading::{reads, reads_back};
 use std::test::Fail;
 

@@ -29,8 +29,6 @@ impl Serialize for Tree {
       | Tree-F.Many children ↦ datum.seq (datum.elements_of children.items)
     ]) };
 
-    ghost wants = { λ _. ⊥ };
-
     fn serialize<S: Serializer>(&self, serializer: S) -> Result<S::Ok, S::Error> {
         match self {
             Tree::Leaf(n) => serializer.serialize_u64(*n),

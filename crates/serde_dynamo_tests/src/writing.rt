@@ -1,4 +1,5 @@
-use crate::kinds::{Name, Pair, Twice, UnitStruct};
+use crate::forms::{Name, UnitStruct};
+use crate::kinds::{Pair, Twice};
 use crate::refuses::Refuses;
 use crate::show;
 use serde_dynamo::samples::{Event, Sets, User};

@@ -12,8 +12,6 @@ use dynamo_value::{AttributeValue, Item, Prefix, Text, base64_text};
 impl Serialize for AttributeValue {
     ghost tells = { attribute_datum };
 
-    ghost wants = { λ _. ⊥ };
-
     fn serialize<S: Serializer>(&self, serializer: S) -> Result<S::Ok, S::Error> {
         match self {
             AttributeValue::N(text) => under(Prefix::N, text, serializer),
@@ -32,8 +30,6 @@ impl Serialize for AttributeValue {
 
 impl Serialize for Item {
     ghost tells = { item_datum };
-
-    ghost wants = { λ _. ⊥ };
 
     fn serialize<S: Serializer>(&self, serializer: S) -> Result<S::Ok, S::Error> {
         self.inner().serialize(serializer)
@@ -77,8 +73,6 @@ struct Base64List<'a>(&'a Vec<Vec<u8>>);
 
 impl Serialize for Base64List<'_> {
     ghost tells = { λ list. seq_of (map bytes_datum list.0.now.items) };
-
-    ghost wants = { λ _. ⊥ };
 
     fn serialize<S: Serializer>(&self, serializer: S) -> Result<S::Ok, S::Error> {
         let mut elements = serializer.serialize_seq(Some(self.0.len()))?;

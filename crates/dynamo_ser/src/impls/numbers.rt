@@ -6,8 +6,6 @@ use crate::{Serialize, Serializer};
 impl Serialize for bool {
     ghost tells = { λ b. datum.boolean b };
 
-    ghost wants = { λ _. ⊥ };
-
     fn serialize<S: Serializer>(&self, serializer: S) -> Result<S::Ok, S::Error> {
         serializer.serialize_bool(*self)
     }
@@ -15,8 +13,6 @@ impl Serialize for bool {
 
 impl Serialize for i8 {
     ghost tells = { λ n. datum.integer datum.i8 n };
-
-    ghost wants = { λ _. ⊥ };
 
     fn serialize<S: Serializer>(&self, serializer: S) -> Result<S::Ok, S::Error> {
         serializer.serialize_i8(*self)
@@ -26,8 +22,6 @@ impl Serialize for i8 {
 impl Serialize for i16 {
     ghost tells = { λ n. datum.integer datum.i16 n };
 
-    ghost wants = { λ _. ⊥ };
-
     fn serialize<S: Serializer>(&self, serializer: S) -> Result<S::Ok, S::Error> {
         serializer.serialize_i16(*self)
     }
@@ -35,8 +29,6 @@ impl Serialize for i16 {
 
 impl Serialize for i32 {
     ghost tells = { λ n. datum.integer datum.i32 n };
-
-    ghost wants = { λ _. ⊥ };
 
     fn serialize<S: Serializer>(&self, serializer: S) -> Result<S::Ok, S::Error> {
         serializer.serialize_i32(*self)
@@ -46,8 +38,6 @@ impl Serialize for i32 {
 impl Serialize for i64 {
     ghost tells = { λ n. datum.integer datum.i64 n };
 
-    ghost wants = { λ _. ⊥ };
-
     fn serialize<S: Serializer>(&self, serializer: S) -> Result<S::Ok, S::Error> {
         serializer.serialize_i64(*self)
     }
@@ -55,8 +45,6 @@ impl Serialize for i64 {
 
 impl Serialize for i128 {
     ghost tells = { λ n. datum.integer datum.i128 n };
-
-    ghost wants = { λ _. ⊥ };
 
     fn serialize<S: Serializer>(&self, serializer: S) -> Result<S::Ok, S::Error> {
         serializer.serialize_i128(*self)
@@ -66,8 +54,6 @@ impl Serialize for i128 {
 impl Serialize for u8 {
     ghost tells = { λ n. datum.integer datum.u8 (pos n) };
 
-    ghost wants = { λ _. ⊥ };
-
     fn serialize<S: Serializer>(&self, serializer: S) -> Result<S::Ok, S::Error> {
         serializer.serialize_u8(*self)
     }
@@ -75,8 +61,6 @@ impl Serialize for u8 {
 
 impl Serialize for u16 {
     ghost tells = { λ n. datum.integer datum.u16 (pos n) };
-
-    ghost wants = { λ _. ⊥ };
 
     fn serialize<S: Serializer>(&self, serializer: S) -> Result<S::Ok, S::Error> {
         serializer.serialize_u16(*self)
@@ -86,8 +70,6 @@ impl Serialize for u16 {
 impl Serialize for u32 {
     ghost tells = { λ n. datum.integer datum.u32 (pos n) };
 
-    ghost wants = { λ _. ⊥ };
-
     fn serialize<S: Serializer>(&self, serializer: S) -> Result<S::Ok, S::Error> {
         serializer.serialize_u32(*self)
     }
@@ -96,8 +78,6 @@ impl Serialize for u32 {
 impl Serialize for u64 {
     ghost tells = { λ n. datum.integer datum.u64 (pos n) };
 
-    ghost wants = { λ _. ⊥ };
-
     fn serialize<S: Serializer>(&self, serializer: S) -> Result<S::Ok, S::Error> {
         serializer.serialize_u64(*self)
     }
@@ -105,8 +85,6 @@ impl Serialize for u64 {
 
 impl Serialize for u128 {
     ghost tells = { λ n. datum.integer datum.u128 (pos n) };
-
-    ghost wants = { λ _. ⊥ };
 
     fn serialize<S: Serializer>(&self, serializer: S) -> Result<S::Ok, S::Error> {
         serializer.serialize_u128(*self)

@@ -6,8 +6,6 @@ use crate::{Serialize, Serializer};
 impl Serialize for () {
     ghost tells = { λ _. datum.unit };
 
-    ghost wants = { λ _. ⊥ };
-
     fn serialize<S: Serializer>(&self, serializer: S) -> Result<S::Ok, S::Error> {
         serializer.serialize_unit()
     }

@@ -6,8 +6,6 @@ use crate::{Serialize, SerializeSeq, SerializeTuple, Serializer};
 impl<T: Serialize> Serialize for Vec<T> {
     ghost tells = { λ v. datum.seq (datum.elements_of (map T.tells v.items)) };
 
-    ghost wants = { λ _. ⊥ };
-
     fn serialize<S: Serializer>(&self, serializer: S) -> Result<S::Ok, S::Error> {
         let mut elements = serializer.serialize_seq(Some(self.len()))?;
         for element in self {
@@ -20,8 +18,6 @@ impl<T: Serialize> Serialize for Vec<T> {
 impl<A: Serialize, B: Serialize> Serialize for (A, B) {
     ghost tells = { λ t. datum.tuple (datum.elements_of (A.tells t.0 ∷ B.tells t.1 ∷ [])) };
 
-    ghost wants = { λ _. ⊥ };
-
     fn serialize<S: Serializer>(&self, serializer: S) -> Result<S::Ok, S::Error> {
         let mut pair = serializer.serialize_tuple(2)?;
         pair.serialize_element(&self.0)?;
@@ -32,8 +28,6 @@ impl<A: Serialize, B: Serialize> Serialize for (A, B) {
 
 impl<A: Serialize, B: Serialize, C: Serialize> Serialize for (A, B, C) {
     ghost tells = { λ t. datum.tuple (datum.elements_of (A.tells t.0 ∷ B.tells t.1 ∷ C.tells t.2 ∷ [])) };
-
-    ghost wants = { λ _. ⊥ };
 
     fn serialize<S: Serializer>(&self, serializer: S) -> Result<S::Ok, S::Error> {
         let mut triple = serializer.serialize_tuple(3)?;
@@ -46,8 +40,6 @@ impl<A: Serialize, B: Serialize, C: Serialize> Serialize for (A, B, C) {
 
 impl<A: Serialize, B: Serialize, C: Serialize, D: Serialize> Serialize for (A, B, C, D) {
     ghost tells = { λ t. datum.tuple (datum.elements_of (A.tells t.0 ∷ B.tells t.1 ∷ C.tells t.2 ∷ D.tells t.3 ∷ [])) };
-
-    ghost wants = { λ _. ⊥ };
 
     fn serialize<S: Serializer>(&self, serializer: S) -> Result<S::Ok, S::Error> {
         let mut quadruple = serializer.serialize_tuple(4)?;

@@ -9,8 +9,6 @@ use dynamo_value::{ByteBuf, Bytes, Text};
 impl Serialize for char {
     ghost tells = { λ c. datum.char c };
 
-    ghost wants = { λ _. ⊥ };
-
     fn serialize<S: Serializer>(&self, serializer: S) -> Result<S::Ok, S::Error> {
         serializer.serialize_char(*self)
     }
@@ -18,8 +16,6 @@ impl Serialize for char {
 
 impl Serialize for String {
     ghost tells = { λ s. datum.string (string_bytes s) };
-
-    ghost wants = { λ _. ⊥ };
 
     fn serialize<S: Serializer>(&self, serializer: S) -> Result<S::Ok, S::Error> {
         serializer.serialize_str(self)
@@ -29,8 +25,6 @@ impl Serialize for String {
 impl Serialize for Text<'_> {
     ghost tells = { λ t. datum.string (lent_text t) };
 
-    ghost wants = { λ _. ⊥ };
-
     fn serialize<S: Serializer>(&self, serializer: S) -> Result<S::Ok, S::Error> {
         serializer.serialize_str(self.as_str())
     }
@@ -39,8 +33,6 @@ impl Serialize for Text<'_> {
 impl Serialize for Bytes<'_> {
     ghost tells = { λ b. datum.bytes (lent_octets b) };
 
-    ghost wants = { λ _. ⊥ };
-
     fn serialize<S: Serializer>(&self, serializer: S) -> Result<S::Ok, S::Error> {
         serializer.serialize_bytes(self.as_slice())
     }
@@ -48,8 +40,6 @@ impl Serialize for Bytes<'_> {
 
 impl Serialize for ByteBuf {
     ghost tells = { λ b. datum.bytes (octets_of b) };
-
-    ghost wants = { λ _. ⊥ };
 
     fn serialize<S: Serializer>(&self, serializer: S) -> Result<S::Ok, S::Error> {
         Bytes::new(self.as_slice()).serialize(serializer)

@@ -58,6 +58,10 @@ impl Enumeration for Event {
         "Event"
     }
 
+    fn expecting() -> &'static str {
+        "enum Event"
+    }
+
     fn names() -> &'static [&'static str] {
         &["Unit", "Newtype", "Tuple", "Structy"]
     }
@@ -76,8 +80,6 @@ impl Enumeration for Event {
 
 impl Serialize for Event {
     ghost tells = { enum_tells ⟦<Event as Enumeration>⟧.about };
-
-    ghost wants = { λ _. ⊥ };
 
     fn serialize<S: Serializer>(&self, serializer: S) -> Result<S::Ok, S::Error> {
         match self {

@@ -56,8 +56,6 @@ impl Record for Sets {
 impl Serialize for Sets {
     ghost tells = { record_tells ⟦<Sets as Record>⟧.about };
 
-    ghost wants = { λ _. ⊥ };
-
     fn serialize<S: Serializer>(&self, serializer: S) -> Result<S::Ok, S::Error> {
         let sets = (NumberSet(&self.numbers), BinarySet(&self.blobs));
         write_record::<Sets, _, S>(serializer, &(StringSet(&self.names), sets))

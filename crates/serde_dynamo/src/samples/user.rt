@@ -45,8 +45,6 @@ impl Record for User {
 impl Serialize for User {
     ghost tells = { record_tells ⟦<User as Record>⟧.about };
 
-    ghost wants = { λ _. ⊥ };
-
     fn serialize<S: Serializer>(&self, serializer: S) -> Result<S::Ok, S::Error> {
         write_record::<User, _, S>(serializer, &(&self.id, (&self.name, &self.age)))
     }

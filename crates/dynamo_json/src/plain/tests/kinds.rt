@@ -14,8 +14,6 @@ pub struct Nothing;
 impl Serialize for Nothing {
     ghost tells = { λ _. datum.unit_struct (codes "Nothing") };
 
-    ghost wants = { λ _. ⊥ };
-
     fn serialize<S: Serializer>(&self, serializer: S) -> Result<S::Ok, S::Error> {
         serializer.serialize_unit_struct("Nothing")
     }
@@ -27,8 +25,6 @@ pub struct Unit;
 
 impl Serialize for Unit {
     ghost tells = { λ _. datum.unit_variant (datum.variant (codes "Event") 0 (codes "Unit")) };
-
-    ghost wants = { λ _. ⊥ };
 
     fn serialize<S: Serializer>(&self, serializer: S) -> Result<S::Ok, S::Error> {
         serializer.serialize_unit_variant("Event", 0, "Unit")
@@ -70,8 +66,6 @@ pub struct Both<T, U>(pub T, pub U);
 impl<T: Serialize, U: Serialize> Serialize for Both<T, U> {
     ghost tells = { λ b. datum.tuple_struct (codes "Both") (datum.element (T.tells b.0) (datum.element (U.tells b.1) datum.no_elements)) };
 
-    ghost wants = { λ _. ⊥ };
-
     fn serialize<S: Serializer>(&self, serializer: S) -> Result<S::Ok, S::Error> {
         let mut both = serializer.serialize_tuple_struct("Both", 2)?;
         both.serialize_field(&self.0)?;
@@ -86,8 +80,6 @@ pub struct Tuple<T, U>(pub T, pub U);
 
 impl<T: Serialize, U: Serialize> Serialize for Tuple<T, U> {
     ghost tells = { λ t. datum.tuple_variant (datum.variant (codes "Event") 2 (codes "Tuple")) (datum.element (T.tells t.0) (datum.element (U.tells t.1) datum.no_elements)) };
-
-    ghost wants = { λ _. ⊥ };
 
     fn serialize<S: Serializer>(&self, serializer: S) -> Result<S::Ok, S::Error> {
         let mut tuple = serializer.serialize_tuple_variant("Event", 2, "Tuple", 2)?;
@@ -108,8 +100,6 @@ pub struct Fields<T, U> {
 impl<T: Serialize, U: Serialize> Serialize for Fields<T, U> {
     ghost tells = { λ f. datum.struct (codes "Fields") (datum.field f.names.0.now (T.tells f.first) (datum.field f.names.1.now (U.tells f.second) datum.no_fields)) };
 
-    ghost wants = { λ _. ⊥ };
-
     fn serialize<S: Serializer>(&self, serializer: S) -> Result<S::Ok, S::Error> {
         let mut fields = serializer.serialize_struct("Fields", 2)?;
         fields.serialize_field(self.names.0, &self.first)?;
@@ -127,8 +117,6 @@ pub struct Structy<T, U> {
 
 impl<T: Serialize, U: Serialize> Serialize for Structy<T, U> {
     ghost tells = { λ s. datum.struct_variant (datum.variant (codes "Event") 3 (codes "Structy")) (datum.field (codes "one") (T.tells s.one) (datum.field (codes "two") (U.tells s.two) datum.no_fields)) };
-
-    ghost wants = { λ _. ⊥ };
 
     fn serialize<S: Serializer>(&self, serializer: S) -> Result<S::Ok, S::Error> {
         let mut structy = serializer.serialize_struct_variant("Event", 3, "Structy", 2)?;

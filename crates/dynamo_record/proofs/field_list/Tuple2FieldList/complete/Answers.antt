@@ -1,40 +1,23 @@
-use Rattle.std.proofs.Common.{Some, subst}
-use Rattle.dynamo_record.specs.Fields.{complete}
-use Rattle.dynamo_record.specs.Listed.{Makes}
-use Rattle.dynamo_record.proofs.BothLists.{both_made, second_missed}
+use Rattle.std.proofs.Common.{map}
+use Rattle.dynamo_record.specs.Fields.{complete, missed_name}
+use Rattle.dynamo_record.proofs.BothLists.{both_completed, second_stops}
 use Rattle.dynamo_record.proofs.field_list.Tuple2FieldList.complete.Goals as goal
 
-pub returns-in-Ok-Some-complete : goal.returns-in-Ok-Some-complete
-returns-in-Ok-Some-complete g c = λ ss gs os more h.
+pub returns-in-Ok-complete : goal.returns-in-Ok-complete
+returns-in-Ok-complete g c = λ ss gs os more h.
     let l = g.L.FieldList.about in
     let r = g.R.FieldList.about in
-    let all = complete (l.shapes (r.shapes ss)) (l.defaults (r.defaults gs)) os in
-    let between = complete (r.shapes ss) (r.defaults gs) h.0 in
-    let others = complete ss gs more in
-    let left : Makes l.shapes l.told all between (Some c.in-Ok-Some.left) = subst (λ o. Makes l.shapes l.told all between o) c.in-Ok-Some.field-0-is (c.in-Ok-Some.ensures (r.shapes ss) (r.defaults gs) os h.0 h.1) in
-    both_made l r all between others c.in-Ok-Some.left c.in-Ok-Some-complete.right left (subst (λ o. Makes r.shapes r.told between others o) c.in-Ok-Some-complete.field-0-is (c.in-Ok-Some-complete.ensures ss gs h.0 more h.2))
-
-pub returns-in-Ok-None-complete : goal.returns-in-Ok-None-complete
-returns-in-Ok-None-complete g c = λ ss gs os more h.
-    let l = g.L.FieldList.about in
-    let r = g.R.FieldList.about in
-    let all = complete (l.shapes (r.shapes ss)) (l.defaults (r.defaults gs)) os in
-    let between = complete (r.shapes ss) (r.defaults gs) h.0 in
-    let others = complete ss gs more in
-    let left : Makes l.shapes l.told all between (Some c.in-Ok-Some.left) = subst (λ o. Makes l.shapes l.told all between o) c.in-Ok-Some.field-0-is (c.in-Ok-Some.ensures (r.shapes ss) (r.defaults gs) os h.0 h.1) in
-    second_missed l r all between others c.in-Ok-Some.left left (subst (λ o. Makes r.shapes r.told between others o) c.in-Ok-None-complete.field-0-is (c.in-Ok-None-complete.ensures ss gs h.0 more h.2))
+    both_completed l r g.E.Error.fault (complete (l.shapes (r.shapes ss)) (l.defaults (r.defaults gs)) os) (complete (r.shapes ss) (r.defaults gs) h.0) (complete ss gs more)
+    (missed_name (map (λ n. n.now) c.args.names.now) (l.shapes (r.shapes ss)) (l.defaults (r.defaults gs)) os) (λ names. missed_name (map (λ n. n.now) names.now) (r.shapes ss) (r.defaults gs) h.0) (λ names. missed_name (map (λ n. n.now) names.now) ss gs more)
+    c.in-Ok.first.0 c.in-Ok-complete.second.0 c.in-Ok.first.1 c.in-Ok-complete.second.1 (c.in-Ok.ensures (r.shapes ss) (r.defaults gs) os h.0 h.1) (c.in-Ok-complete.ensures ss gs h.0 more h.2)
 
 pub returns-in-Err-complete : goal.returns-in-Err-complete
-returns-in-Err-complete g c = λ ss gs os more h. c.in-Err-complete.ensures ss gs h.0 more h.2
-
-pub returns-in-Ok-None : goal.returns-in-Ok-None
-returns-in-Ok-None g c = λ ss gs os more h.
+returns-in-Err-complete g c = λ ss gs os more h.
     let l = g.L.FieldList.about in
     let r = g.R.FieldList.about in
-    let all = complete (l.shapes (r.shapes ss)) (l.defaults (r.defaults gs)) os in
-    let between = complete (r.shapes ss) (r.defaults gs) h.0 in
-    let others = complete ss gs more in
-    subst (λ o. Makes l.shapes l.told all between o) c.in-Ok-None.field-0-is (c.in-Ok-None.ensures (r.shapes ss) (r.defaults gs) os h.0 h.1)
+    second_stops l r g.E.Error.fault (complete (l.shapes (r.shapes ss)) (l.defaults (r.defaults gs)) os) (complete (r.shapes ss) (r.defaults gs) h.0) (complete ss gs more)
+    (missed_name (map (λ n. n.now) c.args.names.now) (l.shapes (r.shapes ss)) (l.defaults (r.defaults gs)) os) (λ names. missed_name (map (λ n. n.now) names.now) (r.shapes ss) (r.defaults gs) h.0) (λ names. missed_name (map (λ n. n.now) names.now) ss gs more)
+    c.in-Ok.first.0 c.in-Ok.first.1 c.in-Err-complete.error (c.in-Ok.ensures (r.shapes ss) (r.defaults gs) os h.0 h.1) (c.in-Err-complete.ensures ss gs h.0 more h.2)
 
 pub returns-in-Err : goal.returns-in-Err
 returns-in-Err g c = λ ss gs os more h. c.in-Err.ensures (g.R.FieldList.about.shapes ss) (g.R.FieldList.about.defaults gs) os h.0 h.1

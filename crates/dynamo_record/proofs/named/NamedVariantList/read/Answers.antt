@@ -1,3 +1,4 @@
+use Rattle.std.specs.Prelude.{codes}
 use Rattle.dynamo_record.specs.Contents.{about_named}
 use Rattle.dynamo_record.specs.Variants.{tag}
 use Rattle.dynamo_record.specs.declared.named.Named.{Named}
@@ -11,4 +12,4 @@ returns g c = λ inside fits name ns i cs.
     let names = g.N.NamedFields.names in
     let s = g.A.VariantAccess.content c.args.content in
     content_read {C = Named g.row.N.Denot g.row.N-Fields.Denot g.row.N-Fields-Slots.Denot} g.A.Error.Error.fault (about_named names (λ v. v.0) l) name ns i cs c.args._place inside s c.read_named.result
-    (named_read {C = Named g.row.N.Denot g.row.N-Fields.Denot g.row.N-Fields-Slots.Denot} names (λ v. v.0) l (tag name ns i) g.A.Error.Error.fault s c.read_named.result c.read_named.ensures)
+    (named_read {C = Named g.row.N.Denot g.row.N-Fields.Denot g.row.N-Fields-Slots.Denot} (codes "variant") names (λ v. v.0) l (tag name ns i) g.A.Error.Error.fault s c.read_named.result c.read_named.ensures)
