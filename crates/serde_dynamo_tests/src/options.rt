@@ -1,4 +1,4 @@
-use crate::kinds::UnitStruct;
+use crate::forms::UnitStruct;
 use crate::reading::{reads, reads_back};
 use serde_dynamo::{from_attribute_value, to_attribute_value};
 use std::test::Fail;
