@@ -24,7 +24,8 @@ use Rattle.dynamo_write.specs.Collect.{collect, collect_onto}
 use Rattle.dynamo_write.specs.Written.{single, written, written_elements, written_pairs}
 use Rattle.dynamo_write.proofs.Collected.{Alike, sorted_alike, collect-sorted}
 use Rattle.dynamo_json.specs.AttributeBack.{EachDatumBack, EachItemDatumBack}
-use Rattle.dynamo_json.specs.AttributeTells.{strings, HasPair, Tells, ElementsTell, MembersTell}
+use Rattle.dynamo_ser.specs.Without.{Without}
+use Rattle.dynamo_json.specs.AttributeTells.{strings, Tells, ElementsTell, MembersTell}
 use Rattle.dynamo_json.specs.Json.{json_of, elements_json, members_json, item_json}
 use Rattle.dynamo_json.specs.KeyOrder.{entries, InOrder, ElementsInOrder, EachInOrder}
 use Rattle.dynamo_json.specs.Plain.{plain}
@@ -145,7 +146,7 @@ mutual
 
 -- ---- in whatever order it is told
 
-pair_in_square : (ps : datum.Pairs) (key : List ℕ) (d : Datum) (others : datum.Pairs) → HasPair ps key d others → InSquare d → PairsInSquare others → PairsInSquare ps
+pair_in_square : (ps : datum.Pairs) (key : List ℕ) (d : Datum) (others : datum.Pairs) → Without ps (datum.string key) d others → InSquare d → PairsInSquare others → PairsInSquare ps
 pair_in_square datum.no_pairs key d others w h k = absurd w
 pair_in_square (datum.pair l e ps) key d others w h k = elim w [
   | inl x ↦ (subst InSquare (sym x.1) h, subst PairsInSquare x.2 k)

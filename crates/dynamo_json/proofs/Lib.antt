@@ -5,11 +5,11 @@ pub mod Builders
 pub mod Bytes
 pub mod Differ
 pub mod Each
+pub mod EveryValue
 pub mod Floats
 pub mod JsonBack
 pub mod Messages
 pub mod Objects
-pub mod Orders
 mod PlainRows
 pub mod PlainWritten
 pub mod ReadBack

@@ -18,13 +18,14 @@ use Rattle.dynamo_ser.specs.Datum.{Datum}
 use Rattle.dynamo_ser.specs.Key.{key_text}
 use Rattle.dynamo_write.specs.Collect.{collect}
 use Rattle.dynamo_write.proofs.Collected.{Alike, sorted_alike}
-use Rattle.dynamo_json.specs.AttributeTells.{strings, HasPair, Tells, ElementsTell, MembersTell}
+use Rattle.dynamo_ser.specs.Without.{Without}
+use Rattle.dynamo_json.specs.AttributeTells.{strings, Tells, ElementsTell, MembersTell}
 use Rattle.dynamo_json.specs.Json.{json_of, elements_json, members_json, under}
 use Rattle.dynamo_json.specs.JsonBack as object
 use Rattle.dynamo_json.specs.KeyOrder.{entries, InOrder, ElementsInOrder, EachInOrder}
 use Rattle.dynamo_json.specs.Plain.{plain, plain_elements, plain_pairs}
 use Rattle.dynamo_json.proofs.JsonBack.{members_again}
-use Rattle.dynamo_json.proofs.Orders.{OutOf, AnyOrder, collect_order}
+use Rattle.dynamo_write.proofs.Orders.{OutOf, AnyOrder, collect_order}
 use Rattle.dynamo_json.proofs.Results.{the_same, no_value}
 
 strings_plain : (texts : List (List ℕ)) → plain_elements (strings texts) ≡ Ok (items_of (map json.string texts))
@@ -61,7 +62,7 @@ later_plain k d ps e es rest h f =
     ((key.0, here.0) ∷ found.0, one_more k d ps key.0 here.0 found.0 key.1 here.1 found.1, inr (behind.0, sym (the_same behind.2), found.2))
 
 pair_plain : (ps : datum.Pairs) (key : List ℕ) (d : Datum) (others : datum.Pairs) (j : Data) (es : List Named)
-    → HasPair ps key d others → plain d ≡ Ok j → plain_pairs others ≡ Ok es → PlainWith ps (key, j) es
+    → Without ps (datum.string key) d others → plain d ≡ Ok j → plain_pairs others ≡ Ok es → PlainWith ps (key, j) es
 pair_plain datum.no_pairs key d others j es w h k = absurd w
 pair_plain (datum.pair l e ps) key d others j es w h k = elim w [
   | inl x ↦ ((key, j) ∷ es, rw (x.0, x.1, h, ap plain_pairs (sym x.2) ∙ k) refl, inl (refl, refl))

@@ -15,13 +15,14 @@ use Rattle.dynamo_value.specs.Prefix as prefix
 use Rattle.dynamo_value.specs.View.{text_cmp, view_step, view, elements_view, entries_view, members_view}
 use Rattle.dynamo_value.specs.declared.attribute_value.AttributeValue.{AttributeValue}
 use Rattle.dynamo_value.specs.declared.attribute_value.AttributeValue.TheOpen.{AttributeValue-F}
-use Rattle.dynamo_value.specs.declared.attribute_value.AttributeValue.TheFolds.{ind-AttributeValue, map-AttributeValue, fold-roll-AttributeValue}
+use Rattle.dynamo_value.specs.declared.attribute_value.AttributeValue.TheFolds.{map-AttributeValue, fold-roll-AttributeValue}
 use Rattle.dynamo_value.specs.declared.attribute_value.AttributeValue.TheViews.{roll-AttributeValue}
 use Rattle.dynamo_value.proofs.Members.{Entry}
 use Rattle.dynamo_ser.specs.AttributeDatum.{attribute_step, attribute_datum, text_datum, bytes_datum, under}
 use Rattle.dynamo_ser.specs.Datum as datum
 use Rattle.dynamo_ser.specs.Datum.{Datum}
 use Rattle.dynamo_ser.proofs.Attributes.{entries_told}
+use Rattle.dynamo_json.proofs.EveryValue.{Layer, Inside, every_value, every_entry}
 use Rattle.dynamo_json.specs.AttributeBack.{TellsItsDatum, TellsItsItem}
 use Rattle.dynamo_json.specs.AttributeTells.{strings, Tells, ElementsTell, MembersTell}
 use Rattle.dynamo_json.specs.KeysDiffer.{all_differ, differ_step, keys_differ, KeysDiffer, EntriesDiffer}
@@ -104,15 +105,6 @@ blobs_told (b ∷ bs) = ap (datum.element (bytes_datum b)) (blobs_told bs)
 
 -- ---- one level
 
-abbrev Layer : Type 0
-Layer = AttributeValue-F AttributeValue
-
--- the values inside, each of which tells what its attribute value tells
-abbrev Inside : Layer → Type 0
-Inside (AttributeValue-F.M h) = AllByRecursion (λ e. Good e.1) h.entries
-Inside (AttributeValue-F.L values) = AllByRecursion Good values.items
-Inside _ = Unit {0}
-
 abbrev seen : Layer → Av
 seen x = view_step (map-AttributeValue AttributeValue Av view x)
 
@@ -122,7 +114,7 @@ told x = attribute_step (map-AttributeValue AttributeValue Datum attribute_datum
 abbrev differ : Layer → Bool
 differ x = differ_step (map-AttributeValue AttributeValue Bool keys_differ x)
 
-layer_tells : (x : Layer) → Inside x → differ x ≡ true → Tells (seen x) (told x)
+layer_tells : (x : Layer) → Inside Good x → differ x ≡ true → Tells (seen x) (told x)
 layer_tells (AttributeValue-F.N text) h k = refl
 layer_tells (AttributeValue-F.S text) h k = refl
 layer_tells (AttributeValue-F.Bool b) h k = refl
@@ -137,36 +129,15 @@ layer_tells (AttributeValue-F.Bs set) h k = ap (λ ds. under prefix.Bs (datum.se
 
 -- ---- every level
 
-roll_tells : (x : Layer) → Inside x → Good (roll-AttributeValue x)
+roll_tells : (x : Layer) → Inside Good x → Good (roll-AttributeValue x)
 roll_tells x h k =
     let seen_here = fold-roll-AttributeValue Av view_step x in
     let told_here = fold-roll-AttributeValue Datum attribute_step x in
     let differs : differ x ≡ true = sym (fold-roll-AttributeValue Bool differ_step x) ∙ k in
     subst (λ a. Tells a (attribute_datum (roll-AttributeValue x))) (sym seen_here) (subst (Tells (seen x)) (sym told_here) (layer_tells x h differs))
 
--- a value that tells what its attribute value tells
-abbrev Child : Type 0
-Child = (v : AttributeValue) × Good v
-
-elements_inside : (cs : List Child) → AllByRecursion Good (map (λ c. c.0) cs)
-elements_inside [] = tt
-elements_inside (c ∷ cs) = (c.1, elements_inside cs)
-
-entries_inside : (es : List (String Global × Child)) → AllByRecursion (λ (e : Entry). Good e.1) (map (λ e. (e.0, e.1.0)) es)
-entries_inside [] = tt
-entries_inside (e ∷ es) = (e.1.1, entries_inside es)
-
-inside : (y : AttributeValue-F Child) → Inside (map-AttributeValue Child AttributeValue (λ c. c.0) y)
-inside (AttributeValue-F.M h) = entries_inside h.entries
-inside (AttributeValue-F.L values) = elements_inside values.items
-inside y = tt
-
 pub tells_its_datum : TellsItsDatum
-tells_its_datum = ind-AttributeValue Good (λ x y is. roll_tells x (subst Inside is (inside y)))
-
-all_good : (es : List Entry) → AllByRecursion (λ e. Good e.1) es
-all_good [] = tt
-all_good (e ∷ es) = (tells_its_datum e.1, all_good es)
+tells_its_datum = every_value Good roll_tells
 
 pub tells_its_item : TellsItsItem
-tells_its_item item k = let es = (map_of item).entries in (pairs_told es, refl, members_tell es (all_good es) k)
+tells_its_item item k = let es = (map_of item).entries in (pairs_told es, refl, members_tell es (every_entry Good roll_tells es) k)

@@ -1,5 +1,5 @@
 -- The members of the attribute value of a value of a program are in order.
-use Rattle.std.proofs.Common.{◌≡◌, ℕ, List, [], ◌∷◌, map, Less, Equal, Greater, refl, sym, ap, subst, String, Global}
+use Rattle.std.proofs.Common.{◌≡◌, ℕ, List, [], ◌∷◌, Less, Equal, Greater, refl, sym, ap, subst}
 use Rattle.std.specs.Prelude.{T}
 use Rattle.std.specs.FinMap.Entries.{put, by_order, is_sorted}
 use Rattle.std.specs.List.{AllByRecursion}
@@ -9,10 +9,12 @@ use Rattle.dynamo_value.specs.Item.{map_of}
 use Rattle.dynamo_value.specs.View.{text_cmp, view_step, view, elements_view, entries_view, members_view}
 use Rattle.dynamo_value.specs.declared.attribute_value.AttributeValue.{AttributeValue}
 use Rattle.dynamo_value.specs.declared.attribute_value.AttributeValue.TheOpen.{AttributeValue-F}
-use Rattle.dynamo_value.specs.declared.attribute_value.AttributeValue.TheFolds.{ind-AttributeValue, map-AttributeValue, fold-roll-AttributeValue}
+use Rattle.dynamo_value.specs.declared.attribute_value.AttributeValue.TheFolds.{map-AttributeValue, fold-roll-AttributeValue}
+use Rattle.dynamo_value.specs.declared.attribute_value.AttributeValue.TheViews.{roll-AttributeValue}
 use Rattle.dynamo_value.proofs.Members.{Entry, view_sorted}
 use Rattle.dynamo_json.specs.AttributeBack.{ViewsInOrder, ItemViewsInOrder}
 use Rattle.dynamo_json.specs.KeyOrder.{entries, InOrder, ElementsInOrder, EachInOrder}
+use Rattle.dynamo_json.proofs.EveryValue.{Layer, Inside, every_value, every_entry}
 
 entries_again : (es : List (List ℕ × Av)) → entries (members_of es) ≡ es
 entries_again [] = refl
@@ -40,43 +42,16 @@ elements_in_order : (vs : List AttributeValue) → AllByRecursion Good vs → El
 elements_in_order [] h = tt
 elements_in_order (v ∷ vs) h = (h.0, elements_in_order vs h.1)
 
-abbrev Layer : Type 0
-Layer = AttributeValue-F AttributeValue
-
--- the values inside, each in order
-abbrev Inside : Layer → Type 0
-Inside (AttributeValue-F.M h) = AllByRecursion (λ e. Good e.1) h.entries
-Inside (AttributeValue-F.L values) = AllByRecursion Good values.items
-Inside _ = Unit {0}
-
-layer_in_order : (x : Layer) → Inside x → InOrder (view_step (map-AttributeValue AttributeValue Av view x))
+layer_in_order : (x : Layer) → Inside Good x → InOrder (view_step (map-AttributeValue AttributeValue Av view x))
 layer_in_order (AttributeValue-F.M m) h = map_in_order m.entries h
 layer_in_order (AttributeValue-F.L values) h = elements_in_order values.items h
 layer_in_order _ h = tt
 
--- a value that is in order
-abbrev Child : Type 0
-Child = (v : AttributeValue) × Good v
-
-elements_inside : (cs : List Child) → AllByRecursion Good (map (λ c. c.0) cs)
-elements_inside [] = tt
-elements_inside (c ∷ cs) = (c.1, elements_inside cs)
-
-entries_inside : (es : List (String Global × Child)) → AllByRecursion (λ (e : Entry). Good e.1) (map (λ e. (e.0, e.1.0)) es)
-entries_inside [] = tt
-entries_inside (e ∷ es) = (e.1.1, entries_inside es)
-
-inside : (y : AttributeValue-F Child) → Inside (map-AttributeValue Child AttributeValue (λ c. c.0) y)
-inside (AttributeValue-F.M h) = entries_inside h.entries
-inside (AttributeValue-F.L values) = elements_inside values.items
-inside y = tt
+roll_in_order : (x : Layer) → Inside Good x → Good (roll-AttributeValue x)
+roll_in_order x h = subst InOrder (sym (fold-roll-AttributeValue Av view_step x)) (layer_in_order x h)
 
 pub views_in_order : ViewsInOrder
-views_in_order = ind-AttributeValue Good (λ x y is. subst InOrder (sym (fold-roll-AttributeValue Av view_step x)) (layer_in_order x (subst Inside is (inside y))))
-
-all_good : (es : List Entry) → AllByRecursion (λ e. Good e.1) es
-all_good [] = tt
-all_good (e ∷ es) = (views_in_order e.1, all_good es)
+views_in_order = every_value Good roll_in_order
 
 pub item_views_in_order : ItemViewsInOrder
-item_views_in_order item = let es = (map_of item).entries in map_in_order es (all_good es)
+item_views_in_order item = let es = (map_of item).entries in map_in_order es (every_entry Good roll_in_order es)

@@ -1,6 +1,6 @@
 -- The data that an attribute value tells: its DynamoDB JSON, a map of one pair whose key is the prefix of its kind. The pairs
 -- of a map come in any order, at every depth, since it is a hashed map that tells them.
-use Rattle.std.specs.Prelude.{◌≡◌, ◌⊎◌, ℕ, List, map}
+use Rattle.std.specs.Prelude.{◌≡◌, ℕ, List, map}
 use Rattle.dynamo_value.specs.Av as av
 use Rattle.dynamo_value.specs.Av.{Av}
 use Rattle.dynamo_value.specs.Base64.{base64_text}
@@ -8,15 +8,10 @@ use Rattle.dynamo_value.specs.Prefix as prefix
 use Rattle.dynamo_ser.specs.AttributeDatum.{under}
 use Rattle.dynamo_ser.specs.Datum as datum
 use Rattle.dynamo_ser.specs.Datum.{Datum}
+use Rattle.dynamo_ser.specs.Without.{Without}
 
 abbrev pub strings : List (List ℕ) → datum.Elements
 strings texts = datum.elements_of (map datum.string texts)
-
--- the pairs are the others and, in any place, one of this key and this datum
-abbrev pub HasPair : datum.Pairs → List ℕ → Datum → datum.Pairs → Type 0
-HasPair datum.no_pairs key d others = ⊥
-HasPair (datum.pair k e ps) key d others =
-    ((k ≡ datum.string key) × (e ≡ d) × (others ≡ ps)) ⊎ ((rest : datum.Pairs) × (others ≡ datum.pair k e rest) × HasPair ps key d rest)
 
 abbrev mutual
   pub Tells : Av → Datum → Type 0
@@ -38,7 +33,7 @@ abbrev mutual
   -- in any order
   pub MembersTell : av.Members → datum.Pairs → Type 0
   MembersTell av.no_members ps = ps ≡ datum.no_pairs
-  MembersTell (av.member key a ms) ps = (d : Datum) × (others : datum.Pairs) × HasPair ps key d others × Tells a d × MembersTell ms others
+  MembersTell (av.member key a ms) ps = (d : Datum) × (others : datum.Pairs) × Without ps (datum.string key) d others × Tells a d × MembersTell ms others
 
 -- An item tells the map of its attributes, in any order.
 abbrev pub ItemTells : av.Members → Datum → Type 0

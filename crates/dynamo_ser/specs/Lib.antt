@@ -9,5 +9,6 @@ pub mod Key
 pub mod Options
 pub mod Pieces
 pub mod Symbols
+pub mod Without
 pub mod Wrapped
 pub mod Writes

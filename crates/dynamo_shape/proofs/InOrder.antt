@@ -6,7 +6,7 @@ use Rattle.dynamo_de.specs.Answer as answer
 use Rattle.dynamo_de.specs.Answer.{Answer, ◌>>=◌}
 use Rattle.dynamo_de.specs.Fields.{read_first}
 use Rattle.dynamo_de.specs.Source.{Source, Text}
-use Rattle.dynamo_shape.specs.Read.{read, into, fields_in_order}
+use Rattle.dynamo_shape.specs.Read.{into, fields_in_order}
 use Rattle.dynamo_shape.specs.Shape.{Shape, FieldShapes, no_field_shapes, field_shape}
 use Rattle.dynamo_shape.proofs.ByHand.{IsReadAs, into_into}
 

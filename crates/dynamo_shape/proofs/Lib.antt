@@ -20,7 +20,6 @@ pub mod MapsRead
 pub mod MapsTold
 pub mod Members
 pub mod OneAnswer
-pub mod Orders
 pub mod Pairs
 pub mod Puts
 pub mod Results

@@ -14,7 +14,8 @@ use Rattle.dynamo_value.specs.Fault.{expected_string, expected_num}
 use Rattle.dynamo_ser.specs.Datum.{Variant, Datum, Pairs, no_pairs, pair}
 use Rattle.dynamo_shape.specs.Conforms.{HasKey, KeysDiffer}
 use Rattle.dynamo_shape.specs.Read.{into, read, read_inside, read_one_of}
-use Rattle.dynamo_shape.specs.Same.{Same, SamePairs, Without}
+use Rattle.dynamo_ser.specs.Without.{Without}
+use Rattle.dynamo_shape.specs.Same.{Same, SamePairs}
 use Rattle.dynamo_shape.specs.SameKey.{same_kind, same_integer, same_bool, same_variant, same_key, put_pair}
 use Rattle.dynamo_shape.specs.Shape.{Shape, boolean, char, string, bytes, integer, newtype, enum, Content, nothing, one, several, named, Variants, no_variants, variant}
 use Rattle.dynamo_value.specs.Integer.{IntegerKind}

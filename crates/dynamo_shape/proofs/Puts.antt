@@ -6,7 +6,8 @@ use Rattle.dynamo_shape.proofs.Alike.{same_refl}
 use Rattle.dynamo_shape.proofs.Pairs.{IsKeyDatum, Has, has_key, equal_keys, put_differ, put_keys, taken_in, key_of_rest, same_pairs}
 use Rattle.dynamo_ser.specs.Datum.{Datum, some, newtype_struct, newtype_variant, seq, tuple, tuple_struct, tuple_variant, map, struct, struct_variant, Pairs, no_pairs, pair}
 use Rattle.dynamo_shape.specs.Conforms.{AllPairs, HasKey, KeysDiffer}
-use Rattle.dynamo_shape.specs.Same.{Same, SamePairs, Without}
+use Rattle.dynamo_ser.specs.Without.{Without}
+use Rattle.dynamo_shape.specs.Same.{Same, SamePairs}
 use Rattle.dynamo_shape.specs.SameKey.{same_key, put_pair}
 
 -- keys are the same only where they are equal

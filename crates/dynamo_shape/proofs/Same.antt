@@ -8,7 +8,7 @@ use Rattle.std.specs.FinMap.Entries.{same_entries}
 use Rattle.std.proofs.lemmas.Bool.{true≢false}
 use Rattle.dynamo_shape.proofs.Results.{ok_same, bind_ok}
 use Rattle.dynamo_write.proofs.Collected.{sorted-collect}
-use Rattle.dynamo_shape.proofs.Orders.{OutOf, AnyOrder, Fresh, last, find_last, last_out, last_here, fresh_out}
+use Rattle.dynamo_write.proofs.Orders.{OutOf, AnyOrder, Fresh, last, find_last, last_out, last_here, fresh_out}
 use Rattle.dynamo_value.specs.Av as av
 use Rattle.dynamo_ser.specs.Datum as datum
 use Rattle.dynamo_write.specs.Set as sets
@@ -16,7 +16,8 @@ use Rattle.dynamo_de.specs.Source.{Text}
 use Rattle.dynamo_ser.specs.Datum.{Datum, none, some, newtype_struct, newtype_variant, seq, tuple, tuple_struct, tuple_variant, map, struct, struct_variant, Pairs, no_pairs, pair, Fields, no_fields, field}
 use Rattle.dynamo_ser.specs.Key.{key_text}
 use Rattle.dynamo_shape.specs.Kept.{is_written_null, kept, kept_elements, kept_pairs, kept_fields}
-use Rattle.dynamo_shape.specs.Same.{Same, SameElements, SamePairs, SameFields, Without}
+use Rattle.dynamo_ser.specs.Without.{Without}
+use Rattle.dynamo_shape.specs.Same.{Same, SameElements, SamePairs, SameFields}
 use Rattle.dynamo_value.specs.Av.{Av, Null, L, M, members_of}
 use Rattle.dynamo_value.specs.Fault.{Fault, ◌>>=◌}
 use Rattle.dynamo_value.specs.View.{text_cmp}

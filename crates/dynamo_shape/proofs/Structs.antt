@@ -8,7 +8,7 @@ use Rattle.std.specs.FinMap.Entries.{find}
 use Rattle.std.proofs.lemmas.Slice.Eq.{bytes_eq-Decides}
 use Rattle.dynamo_shape.proofs.Results.{value_same}
 use Rattle.dynamo_shape.proofs.Members.{EachMember, get_member, get_find, collected}
-use Rattle.dynamo_shape.proofs.Orders.{last, find_last}
+use Rattle.dynamo_write.proofs.Orders.{last, find_last}
 use Rattle.dynamo_write.proofs.Collected.{collect_twice}
 use Rattle.dynamo_value.specs.View.{text_cmp}
 use Rattle.dynamo_shape.proofs.Found.{same_bytes, HasNames, KeysIn, names_keys, Found, found, Unseen, unseen_none, unseen_more}

@@ -2,7 +2,7 @@
 use Rattle.std.proofs.Common.{◌≡◌, ◌↔◌, ℕ, suc, Bool, true, false, cond, List, [], ◌∷◌, sym, ap, subst, ◌∙◌, inl, inr}
 use Rattle.std.proofs.lemmas.Map.Text.{is_eq-slice_cmp}
 use Rattle.dynamo_shape.proofs.Results.{ok_same, value_same}
-use Rattle.dynamo_shape.proofs.Orders as any
+use Rattle.dynamo_write.proofs.Orders as any
 use Rattle.dynamo_shape.proofs.Maps as own
 use Rattle.dynamo_shape.proofs.Maps.{pairs_back, pairs_weaker, distinct_back}
 use Rattle.dynamo_shape.proofs.Keys.{key_back}

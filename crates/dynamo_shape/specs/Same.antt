@@ -1,11 +1,7 @@
 -- The same data up to the order of map entries, at every depth.
-use Rattle.std.specs.Prelude.{◌≡◌, ◌⊎◌}
+use Rattle.std.specs.Prelude.{◌≡◌}
 use Rattle.dynamo_ser.specs.Datum.{Datum, some, newtype_struct, newtype_variant, seq, tuple, tuple_struct, tuple_variant, map, struct, struct_variant, Elements, no_elements, element, Pairs, no_pairs, pair, Fields, no_fields, field}
-
--- the pairs are the others with this one somewhere among them
-abbrev pub Without : Pairs → Datum → Datum → Pairs → Type 0
-Without no_pairs l e others = ⊥
-Without (pair k d ps) l e others = ((k ≡ l) × (d ≡ e) × (others ≡ ps)) ⊎ ((rest : Pairs) × (others ≡ pair k d rest) × Without ps l e rest)
+use Rattle.dynamo_ser.specs.Without.{Without}
 
 abbrev mutual
   pub Same : Datum → Datum → Type 0

@@ -2,3 +2,4 @@ pub mod Builders
 pub mod Collected
 mod Rows
 pub mod Sets
+pub mod Orders
