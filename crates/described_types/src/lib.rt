@@ -1,5 +1,5 @@
 //! Types of several kinds that are described by the lists of their fields and variants, as a user describes them: with no proof.
-//! Of each a function states that what was stored reads back: of structs field by field.
+//! Of each a function states that what was stored reads back: of structs field by field, of an enum variant by variant.
 #![tactic(auto)]
 
 mod address;
@@ -42,4 +42,4 @@ pub use station::{Station, stored_station};
 pub use weight::Weight;
 pub use wide_20::{Wide20, stored_wide_20};
 pub use wide_40::Wide40;
-pub use wide_40_stored::{stored_wide_40_first, stored_wide_40_last};
+pub use wide_40_stored::stored_wide_40;

@@ -1,8 +1,12 @@
-ghost use Rattle.std.specs.Prelude.{[], ◌∷◌, ◌≡◌, MatchResult, codes, refl};
+ghost use Rattle.std.specs.Prelude.{ℕ, [], ◌∷◌, ◌≡◌, MatchResult, codes, refl, string_bytes};
+ghost use Rattle.std.specs.declared.alloc.Global.{Global};
+ghost use Rattle.std.specs.declared.string.String.{String};
 ghost use Rattle.dynamo_value.specs.Fault.{out_of_memory};
 ghost use Rattle.dynamo_value.specs.Kind.{fault_of};
+ghost use Rattle.dynamo_shape.specs.ByValue.{SameOption};
 ghost use Rattle.dynamo_record.specs.Enums.{enum_of, enum_tells, enum_reads, about_enum};
 ghost use Rattle.dynamo_record.specs.declared.variant_list.Choice.TheVariants.{Left, Right};
+ghost use Rattle.described_types.specs.declared.address.Address.{Address};
 ghost use Rattle.described_types.specs.declared.shipment.Shipment.TheVariants as is;
 
 use crate::Address;
@@ -132,7 +136,7 @@ impl Shaped for Shipment {
     }
 }
 
-/// What was stored of a shipment reads back: the same variant with the same content.
+/// What was stored of a shipment reads back, variant by variant.
 ///
 /// # Errors
 ///
@@ -141,7 +145,10 @@ pub fn stored_shipment(
     alloc: Global,
     shipment: &Shipment,
 ) -> serde_dynamo::Result<(AttributeValue, Value, Shipment)>
-    ensures { MatchResult result (λ parts. ⟦<Shipment as Shaped>⟧.about.same shipment.now parts.2) (λ e. fault_of e ≡ out_of_memory) }
+    ensures waiting { shipment.now ≡ is.Waiting → MatchResult result (λ parts. parts.2 ≡ is.Waiting) (λ e. fault_of e ≡ out_of_memory) }
+    ensures tracked { (number : String Global) → shipment.now ≡ is.Tracked number → MatchResult result (λ parts. elim parts.2 [ is.Tracked other ↦ string_bytes number ≡ string_bytes other | _ ↦ ⊥ ]) (λ e. fault_of e ≡ out_of_memory) }
+    ensures between { (from next : ℕ) → shipment.now ≡ is.Between from next → MatchResult result (λ parts. parts.2 ≡ is.Between from next) (λ e. fault_of e ≡ out_of_memory) }
+    ensures delivered { (at : ℕ) (to : Address) → shipment.now ≡ is.Delivered at to → MatchResult result (λ parts. elim parts.2 [ is.Delivered other_at other ↦ (at ≡ other_at) × (string_bytes to.city ≡ string_bytes other.city) × SameOption (λ a b. a ≡ b) to.zip other.zip | _ ↦ ⊥ ]) (λ e. fault_of e ≡ out_of_memory) }
 {
     reread(alloc, shipment)
 }

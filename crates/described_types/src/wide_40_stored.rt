@@ -1,19 +1,35 @@
 ghost use Rattle.std.specs.Prelude.{◌≡◌, MatchResult, string_bytes};
 ghost use Rattle.dynamo_value.specs.Fault.{out_of_memory};
 ghost use Rattle.dynamo_value.specs.Kind.{fault_of};
-ghost use Rattle.dynamo_shape.specs.ByValue.{SameOption};
+ghost use Rattle.dynamo_shape.specs.ByValue.{SameEach, SameOption};
+ghost use Rattle.dynamo_shape.specs.Clear.{Clear};
 
 use crate::Wide40;
-use serde_dynamo::{AttributeValue, reread};
+use serde_dynamo::{AttributeValue, Shaped, reread};
 use serde_json::Value;
 use std::alloc::Global;
 
-/// What was stored of an account reads back, attribute by attribute: the first twenty without the digest.
+/// [`reread`] at a clear shape: that a shape of forty fields is clear is proved where this is called, and not for each attribute.
 ///
 /// # Errors
 ///
 /// [`OutOfMemory`](serde_dynamo::ErrorImpl::OutOfMemory) alone.
-pub fn stored_wide_40_first(
+fn reread_clear<T: Shaped>(
+    alloc: Global,
+    value: &T,
+) -> serde_dynamo::Result<(AttributeValue, Value, T)>
+    requires { Clear T.about.shape }
+    ensures { MatchResult result (λ parts. T.about.same value.now parts.2) (λ e. fault_of e ≡ out_of_memory) }
+{
+    reread(alloc, value)
+}
+
+/// What was stored of an account reads back, attribute by attribute.
+///
+/// # Errors
+///
+/// [`OutOfMemory`](serde_dynamo::ErrorImpl::OutOfMemory) alone.
+pub fn stored_wide_40(
     alloc: Global,
     wide: &Wide40,
 ) -> serde_dynamo::Result<(AttributeValue, Value, Wide40)>
@@ -28,6 +44,7 @@ pub fn stored_wide_40_first(
     ensures last_seen { MatchResult result (λ parts. wide.now.last_seen ≡ parts.2.last_seen) (λ e. fault_of e ≡ out_of_memory) }
     ensures is_active { MatchResult result (λ parts. wide.now.is_active ≡ parts.2.is_active) (λ e. fault_of e ≡ out_of_memory) }
     ensures nickname { MatchResult result (λ parts. SameOption (λ a b. string_bytes a ≡ string_bytes b) wide.now.nickname parts.2.nickname) (λ e. fault_of e ≡ out_of_memory) }
+    ensures digest { MatchResult result (λ parts. SameEach (λ a b. a ≡ b) wide.now.digest.items parts.2.digest.items) (λ e. fault_of e ≡ out_of_memory) }
     ensures city { MatchResult result (λ parts. string_bytes wide.now.city ≡ string_bytes parts.2.city) (λ e. fault_of e ≡ out_of_memory) }
     ensures floor { MatchResult result (λ parts. wide.now.floor ≡ parts.2.floor) (λ e. fault_of e ≡ out_of_memory) }
     ensures street_number { MatchResult result (λ parts. wide.now.street_number ≡ parts.2.street_number) (λ e. fault_of e ≡ out_of_memory) }
@@ -36,36 +53,26 @@ pub fn stored_wide_40_first(
     ensures winter_low { MatchResult result (λ parts. wide.now.winter_low ≡ parts.2.winter_low) (λ e. fault_of e ≡ out_of_memory) }
     ensures summer_high { MatchResult result (λ parts. wide.now.summer_high ≡ parts.2.summer_high) (λ e. fault_of e ≡ out_of_memory) }
     ensures score { MatchResult result (λ parts. wide.now.score ≡ parts.2.score) (λ e. fault_of e ≡ out_of_memory) }
-{
-    reread(alloc, wide)
-}
-
-/// What was stored of an account reads back, attribute by attribute: of the last twenty all but the picture,
-/// the signature, the points and the time of the last update.
-///
-/// # Errors
-///
-/// [`OutOfMemory`](serde_dynamo::ErrorImpl::OutOfMemory) alone.
-pub fn stored_wide_40_last(
-    alloc: Global,
-    wide: &Wide40,
-) -> serde_dynamo::Result<(AttributeValue, Value, Wide40)>
     ensures expires_at { MatchResult result (λ parts. wide.now.expires_at ≡ parts.2.expires_at) (λ e. fault_of e ≡ out_of_memory) }
     ensures is_verified { MatchResult result (λ parts. wide.now.is_verified ≡ parts.2.is_verified) (λ e. fault_of e ≡ out_of_memory) }
     ensures comment { MatchResult result (λ parts. SameOption (λ a b. string_bytes a ≡ string_bytes b) wide.now.comment parts.2.comment) (λ e. fault_of e ≡ out_of_memory) }
+    ensures picture { MatchResult result (λ parts. SameEach (λ a b. a ≡ b) wide.now.picture.items parts.2.picture.items) (λ e. fault_of e ≡ out_of_memory) }
     ensures country { MatchResult result (λ parts. string_bytes wide.now.country ≡ string_bytes parts.2.country) (λ e. fault_of e ≡ out_of_memory) }
     ensures age { MatchResult result (λ parts. wide.now.age ≡ parts.2.age) (λ e. fault_of e ≡ out_of_memory) }
     ensures height { MatchResult result (λ parts. wide.now.height ≡ parts.2.height) (λ e. fault_of e ≡ out_of_memory) }
     ensures weight { MatchResult result (λ parts. wide.now.weight ≡ parts.2.weight) (λ e. fault_of e ≡ out_of_memory) }
+    ensures updated_at { MatchResult result (λ parts. wide.now.updated_at ≡ parts.2.updated_at) (λ e. fault_of e ≡ out_of_memory) }
     ensures chess_rating { MatchResult result (λ parts. wide.now.chess_rating ≡ parts.2.chess_rating) (λ e. fault_of e ≡ out_of_memory) }
     ensures longitude { MatchResult result (λ parts. wide.now.longitude ≡ parts.2.longitude) (λ e. fault_of e ≡ out_of_memory) }
     ensures latitude { MatchResult result (λ parts. wide.now.latitude ≡ parts.2.latitude) (λ e. fault_of e ≡ out_of_memory) }
     ensures deleted_at { MatchResult result (λ parts. wide.now.deleted_at ≡ parts.2.deleted_at) (λ e. fault_of e ≡ out_of_memory) }
     ensures is_public { MatchResult result (λ parts. wide.now.is_public ≡ parts.2.is_public) (λ e. fault_of e ≡ out_of_memory) }
     ensures referrer { MatchResult result (λ parts. SameOption (λ a b. string_bytes a ≡ string_bytes b) wide.now.referrer parts.2.referrer) (λ e. fault_of e ≡ out_of_memory) }
+    ensures signature { MatchResult result (λ parts. SameEach (λ a b. a ≡ b) wide.now.signature.items parts.2.signature.items) (λ e. fault_of e ≡ out_of_memory) }
     ensures language { MatchResult result (λ parts. string_bytes wide.now.language ≡ string_bytes parts.2.language) (λ e. fault_of e ≡ out_of_memory) }
     ensures level { MatchResult result (λ parts. wide.now.level ≡ parts.2.level) (λ e. fault_of e ≡ out_of_memory) }
     ensures rank { MatchResult result (λ parts. wide.now.rank ≡ parts.2.rank) (λ e. fault_of e ≡ out_of_memory) }
+    ensures points { MatchResult result (λ parts. wide.now.points ≡ parts.2.points) (λ e. fault_of e ≡ out_of_memory) }
 {
-    reread(alloc, wide)
+    reread_clear(alloc, wide)
 }
