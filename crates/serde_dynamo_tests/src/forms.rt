@@ -6,11 +6,11 @@ ghost use Rattle.dynamo_record.specs.TupleStructs.{about_tuple_struct, tuple_str
 
 use dynamo_record::{
     Field, FieldList, conform_tuple_struct, read_newtype, read_tuple_struct, read_unit_struct,
-    write_newtype, write_tuple_struct,
+    write_newtype,
 };
 use serde_dynamo::Shaped;
 use serde_dynamo::de::{Deserialize, Deserializer, Error};
-use serde_dynamo::ser::{Serialize, Serializer};
+use serde_dynamo::ser::{Serialize, SerializeTupleStruct, Serializer};
 use std::alloc::Global;
 
 /// `struct UnitStruct;`.
@@ -135,7 +135,10 @@ impl Serialize for Point {
     ghost tells = { (about_tuple_struct (codes "Point") (λ p. (record { 0 = p.0 }, record { 0 = p.1 })) ⟦<PointFields as FieldList>⟧.about).tells };
 
     fn serialize<S: Serializer>(&self, serializer: S) -> Result<S::Ok, S::Error> {
-        write_tuple_struct("Point", 2, &(&self.0, &self.1), serializer)
+        let mut state = serializer.serialize_tuple_struct("Point", 2)?;
+        state.serialize_field(&self.0)?;
+        state.serialize_field(&self.1)?;
+        state.end()
     }
 }
 
