@@ -55,8 +55,8 @@ impl Enumeration for Shipment {
 
     ghost about = { enum_of (codes "Shipment") (codes "Waiting" ∷ codes "Tracked" ∷ codes "Between" ∷ codes "Delivered" ∷ []) (elim [
       | is.Waiting ↦ Left (Left _)
-      | is.Tracked number ↦ Left (Right (record { 0 = number }))
-      | is.Between from next ↦ Right (Left (record { 0 = (record { 0 = from }, record { 0 = next }) }))
+      | is.Tracked n ↦ Left (Right (record { 0 = n }))
+      | is.Between a b ↦ Right (Left (record { 0 = (record { 0 = a }, record { 0 = b }) }))
       | is.Delivered at to ↦ Right (Right (record { 0 = (record { 0 = at }, record { 0 = to }) }))
     ]) ⟦<ShipmentVariants as VariantList>⟧.about };
 
@@ -77,10 +77,8 @@ impl Enumeration for Shipment {
     fn make(variant: ShipmentVariants) -> Shipment {
         match variant {
             Choice::Left(Choice::Left(Nothing)) => Shipment::Waiting,
-            Choice::Left(Choice::Right(One(number))) => Shipment::Tracked(number),
-            Choice::Right(Choice::Left(Several((Field(from), Field(next))))) => {
-                Shipment::Between(from, next)
-            }
+            Choice::Left(Choice::Right(One(n))) => Shipment::Tracked(n),
+            Choice::Right(Choice::Left(Several((Field(a), Field(b))))) => Shipment::Between(a, b),
             Choice::Right(Choice::Right(Named((Field(at), Field(to))))) => {
                 Shipment::Delivered { at, to }
             }
@@ -94,10 +92,8 @@ impl Serialize for Shipment {
     fn serialize<S: Serializer>(&self, serializer: S) -> Result<S::Ok, S::Error> {
         match self {
             Shipment::Waiting => write_unit::<Shipment, S>(serializer, 0),
-            Shipment::Tracked(number) => { write_one::<Shipment, String, S>(serializer, 1, number) }
-            Shipment::Between(from, next) => {
-                write_several::<Shipment, _, S>(serializer, 2, &(from, next))
-            }
+            Shipment::Tracked(n) => write_one::<Shipment, String, S>(serializer, 1, n),
+            Shipment::Between(a, b) => write_several::<Shipment, _, S>(serializer, 2, &(a, b)),
             Shipment::Delivered { at, to } => {
                 write_struct::<Shipment, DeliveredFields, _, S>(serializer, 3, &(at, to))
             }
@@ -127,8 +123,8 @@ impl Shaped for Shipment {
     fn conforms(&self) {
         match self {
             Shipment::Waiting => unit_conforms::<Shipment>(0),
-            Shipment::Tracked(number) => one_conforms::<Shipment, String>(1, number),
-            Shipment::Between(from, next) => several_conform::<Shipment, _>(2, &(from, next)),
+            Shipment::Tracked(n) => one_conforms::<Shipment, String>(1, n),
+            Shipment::Between(a, b) => several_conform::<Shipment, _>(2, &(a, b)),
             Shipment::Delivered { at, to } => {
                 named_conform::<Shipment, DeliveredFields, _>(3, &(at, to))
             }

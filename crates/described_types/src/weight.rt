@@ -13,7 +13,7 @@ use std::alloc::Global;
 pub struct Weight(pub u64);
 
 impl Serialize for Weight {
-    ghost tells = { (about_newtype (codes "Weight") (λ c. c.0) ⟦<u64 as Shaped>⟧.about).tells };
+    ghost tells = { (about_newtype (codes "Weight") (λ w. w.0) ⟦<u64 as Shaped>⟧.about).tells };
 
     fn serialize<S: Serializer>(&self, serializer: S) -> Result<S::Ok, S::Error> {
         write_newtype("Weight", &self.0, serializer)
@@ -21,7 +21,7 @@ impl Serialize for Weight {
 }
 
 impl Deserialize for Weight {
-    ghost reads = { newtype_reads (codes "Weight") (λ c. c.0) ⟦<u64 as Shaped>⟧.about };
+    ghost reads = { newtype_reads (codes "Weight") (λ w. w.0) ⟦<u64 as Shaped>⟧.about };
 
     fn deserialize<D: Deserializer>(alloc: Global, deserializer: D) -> Result<Weight, D::Error> {
         Ok(Weight(read_newtype(alloc, deserializer, "Weight")?))
@@ -29,11 +29,11 @@ impl Deserialize for Weight {
 }
 
 impl Shaped for Weight {
-    ghost about = { about_newtype (codes "Weight") (λ c. c.0) ⟦<u64 as Shaped>⟧.about };
+    ghost about = { about_newtype (codes "Weight") (λ w. w.0) ⟦<u64 as Shaped>⟧.about };
 
     ghost as_told = { refl };
 
-    ghost reads_by_shape = { newtype_by_shape (codes "Weight") (λ c. c.0) ⟦<u64 as Shaped>⟧.about };
+    ghost reads_by_shape = { newtype_by_shape (codes "Weight") (λ w. w.0) ⟦<u64 as Shaped>⟧.about };
 
     fn absent<E: Error>(_alloc: Global) -> Result<Option<Weight>, E> {
         Ok(None)

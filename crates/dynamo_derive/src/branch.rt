@@ -1,6 +1,6 @@
 // The tree of an enum's variants: the halves of a list are the sides of a choice, the left the larger.
 use crate::case::Case;
-use crate::layout::fits;
+use crate::code::{Code, ListKind};
 use std::alloc::{AllocError, Global};
 
 #[derive(Clone, Copy)]
@@ -33,14 +33,20 @@ pub fn pattern_branch(
     alloc: Global,
     index: usize,
     count: usize,
-    listed: &str,
-) -> Result<String, AllocError> {
-    let mut pattern = String::from_str(alloc, listed)?;
+    listed: Code,
+) -> Result<Code, AllocError> {
+    let mut pattern = listed;
     for side in sides(alloc, index, count)?.iter().rev() {
-        pattern = match side {
-            Side::Left => format!(in alloc; "Choice::Left({pattern})")?,
-            Side::Right => format!(in alloc; "Choice::Right({pattern})")?,
+        let open = match side {
+            Side::Left => "Choice::Left(",
+            Side::Right => "Choice::Right(",
         };
+        pattern = Code::list(
+            alloc,
+            ListKind::TuplePattern,
+            open,
+            vec![in alloc; pattern]?,
+        )?;
     }
     Ok(pattern)
 }
@@ -67,42 +73,17 @@ pub fn ghost_branch(
     Ok(value)
 }
 
-/// The declaration of the list of variants.
-pub fn choice_type(alloc: Global, name: &str, cases: &[Case]) -> Result<String, AllocError> {
-    let before = format!(in alloc; "type {name}Variants = ")?;
-    let ty = laid_out(alloc, before.as_str(), "", cases)?;
-    format!(in alloc; "{before}{ty};")
-}
-
-fn one_line(alloc: Global, cases: &[Case]) -> Result<String, AllocError> {
+/// The type of the list of variants.
+pub fn choice_type(alloc: Global, cases: &[Case]) -> Result<Code, AllocError> {
     match cases {
-        [] => Ok(String::new(alloc)),
-        [case] => case.listed_type.clone(),
+        [] => Code::text(alloc, ""),
+        [case] => case.listed_type(alloc),
         _ => {
             let (left, right) = cases.split_at(cases.len() - cases.len() / 2);
-            let left = one_line(alloc, left)?;
-            let right = one_line(alloc, right)?;
-            format!(in alloc; "Choice<{left}, {right}>")
+            let left = choice_type(alloc, left)?;
+            let right = choice_type(alloc, right)?;
+            let sides = vec![in alloc; left, right]?;
+            Code::list(alloc, ListKind::TypeArguments, "Choice<", sides)
         }
     }
-}
-
-// The type, behind this text in a line that is indented by this. It stands on several lines where one is too wide.
-fn laid_out(
-    alloc: Global,
-    before: &str,
-    indent: &str,
-    cases: &[Case],
-) -> Result<String, AllocError> {
-    let ty = one_line(alloc, cases)?;
-    let line = format!(in alloc; "{before}{ty},")?;
-    if cases.len() < 2 || fits(line.as_str()) {
-        return Ok(ty);
-    }
-    let deeper = format!(in alloc; "{indent}    ")?;
-    let deeper = deeper.as_str();
-    let (left, right) = cases.split_at(cases.len() - cases.len() / 2);
-    let left = laid_out(alloc, deeper, deeper, left)?;
-    let right = laid_out(alloc, deeper, deeper, right)?;
-    format!(in alloc; "Choice<\n{deeper}{left},\n{deeper}{right},\n{indent}>")
 }

@@ -1,156 +1,199 @@
+use crate::code::{Code, ListKind};
 use crate::declaration::{Contents, Field, Variant};
-use crate::layout::joined;
-use crate::tree::{leaf_refs, leaf_types, names, tree, wrapped};
+use crate::tree::{leaf_refs, letters, names, tree, wrapped};
 use std::alloc::{AllocError, Global};
 
-/// A variant, by the texts that stand for it in the impls of its enum.
+/// A variant, by what stands for it in the impls of its enum.
 #[derive(Drop)]
 pub struct Case {
     pub name: String,
 
     // The name of its enum.
     of: String,
-
-    /// Its pattern, as `Event::Tuple(a, b)`.
-    pub pattern: String,
-
-    /// Its pattern in the list of variants, as `Several((Field(a), Field(b)))`.
-    pub listed: String,
-
-    /// What its fields are called in a ghost member, each behind a space.
-    pub binders: String,
-
-    /// Its fields in the list of variants.
-    pub parts: String,
-
-    /// Its type in the list of variants, as `Several<(Field<u8>, Field<u8>)>`.
-    pub listed_type: String,
-
-    // What is written of its fields.
-    refs: String,
     kind: Kind,
+
+    // What its fields are called, and what is written of them.
+    names: Vec<String>,
+    refs: Vec<String>,
 }
 
-// What a variant holds: the text is the type of the one field, and the name of the list of several with names.
+// What a variant holds: one field or several without names, by the texts of their types, or fields with names.
 #[derive(Drop)]
 enum Kind {
     Nothing,
     One(String),
-    Several,
-    Named(String),
+    Several(Vec<String>),
+    Named,
 }
 
 /// The cases of an enum.
 pub fn cases(alloc: Global, of: &str, variants: &[Variant]) -> Result<Vec<Case>, AllocError> {
     let mut found = Vec::new(alloc);
     for variant in variants {
-        found.push(match &variant.contents {
-            Contents::Nothing => nothing(alloc, of, variant.name.as_str())?,
-            Contents::One(ty) => one(alloc, of, variant.name.as_str(), ty.as_str())?,
+        let (kind, names, refs) = match &variant.contents {
+            Contents::Nothing => (Kind::Nothing, Vec::new(alloc), Vec::new(alloc)),
+            Contents::One(ty) => {
+                let n = String::from_str(alloc, "n")?;
+                (
+                    Kind::One(ty.clone()?),
+                    vec![in alloc; n.clone()?]?,
+                    vec![in alloc; n]?,
+                )
+            }
             Contents::Several(types) => {
-                several(alloc, of, variant.name.as_str(), types.as_slice())?
+                let count = types.len();
+                (
+                    Kind::Several(types.clone()?),
+                    letters(alloc, count)?,
+                    letters(alloc, count)?,
+                )
             }
             Contents::Named(fields) => {
-                named(alloc, of, variant.name.as_str(), fields.as_slice())?
+                (
+                    Kind::Named,
+                    names(alloc, fields)?,
+                    leaf_refs(alloc, fields, "")?,
+                )
             }
+        };
+        found.push(Case {
+            name: variant.name.clone()?,
+            of: String::from_str(alloc, of)?,
+            kind,
+            names,
+            refs,
         })?;
     }
     Ok(found)
 }
 
-fn nothing(alloc: Global, of: &str, name: &str) -> Result<Case, AllocError> {
-    Ok(Case {
-        name: String::from_str(alloc, name)?,
-        of: String::from_str(alloc, of)?,
-        pattern: format!(in alloc; "{of}::{name}")?,
-        listed: String::from_str(alloc, "Nothing")?,
-        binders: String::new(alloc),
-        parts: String::from_str(alloc, "_")?,
-        listed_type: String::from_str(alloc, "Nothing")?,
-        refs: String::new(alloc),
-        kind: Kind::Nothing,
-    })
-}
-
-fn one(alloc: Global, of: &str, name: &str, ty: &str) -> Result<Case, AllocError> {
-    Ok(Case {
-        name: String::from_str(alloc, name)?,
-        of: String::from_str(alloc, of)?,
-        pattern: format!(in alloc; "{of}::{name}(n)")?,
-        listed: String::from_str(alloc, "One(n)")?,
-        binders: String::from_str(alloc, " n")?,
-        parts: String::from_str(alloc, "record { 0 = n }")?,
-        listed_type: format!(in alloc; "One<{ty}>")?,
-        refs: String::from_str(alloc, "n")?,
-        kind: Kind::One(String::from_str(alloc, ty)?),
-    })
-}
-
-fn several(alloc: Global, of: &str, name: &str, types: &[String]) -> Result<Case, AllocError> {
-    let letters = letters(alloc, types.len())?;
-    let letters = letters.as_slice();
-    let line = joined(alloc, letters, ", ")?;
-    let leaves = tree(alloc, wrapped(alloc, types, "Field<", ">")?.as_slice())?;
-    Ok(Case {
-        name: String::from_str(alloc, name)?,
-        of: String::from_str(alloc, of)?,
-        pattern: format!(in alloc; "{of}::{name}({line})")?,
-        listed: listed(alloc, "Several", letters)?,
-        binders: binders(alloc, letters)?,
-        parts: parts(alloc, letters)?,
-        listed_type: format!(in alloc; "Several<{leaves}>")?,
-        refs: tree(alloc, letters)?,
-        kind: Kind::Several,
-    })
-}
-
-fn named(alloc: Global, of: &str, name: &str, fields: &[Field]) -> Result<Case, AllocError> {
-    let names = names(alloc, fields)?;
-    let names = names.as_slice();
-    let line = joined(alloc, names, ", ")?;
-    let quoted = quoted_names(alloc, names)?;
-    Ok(Case {
-        name: String::from_str(alloc, name)?,
-        of: String::from_str(alloc, of)?,
-        pattern: format!(in alloc; "{of}::{name} {{ {line} }}")?,
-        listed: listed(alloc, "Named", names)?,
-        binders: binders(alloc, quoted.as_slice())?,
-        parts: parts(alloc, quoted.as_slice())?,
-        listed_type: format!(in alloc; "Named<{name}Fields>")?,
-        refs: tree(alloc, leaf_refs(alloc, fields, "")?.as_slice())?,
-        kind: Kind::Named(format!(in alloc; "{name}Fields")?),
-    })
-}
-
-// As many letters, from `a` on.
-fn letters(alloc: Global, count: usize) -> Result<Vec<String>, AllocError> {
-    let mut found = Vec::new(alloc);
-    for letter in ('a'..='z').take(count) {
-        let mut text = String::new(alloc);
-        text.push(letter)?;
-        found.push(text)?;
+impl Case {
+    /// Its pattern, as `Event::Tuple(a, b)`.
+    pub fn pattern(&self, alloc: Global) -> Result<Code, AllocError> {
+        self.with_fields(alloc, ListKind::TuplePattern)
     }
-    Ok(found)
-}
 
-fn listed(alloc: Global, list: &str, names: &[String]) -> Result<String, AllocError> {
-    let leaves = tree(alloc, wrapped(alloc, names, "Field(", ")")?.as_slice())?;
-    format!(in alloc; "{list}({leaves})")
-}
+    /// The variant of its fields.
+    pub fn value(&self, alloc: Global) -> Result<Code, AllocError> {
+        self.with_fields(alloc, ListKind::Arguments)
+    }
 
-fn binders(alloc: Global, names: &[String]) -> Result<String, AllocError> {
-    let line = joined(alloc, names, " ")?;
-    format!(in alloc; " {line}")
-}
+    // The variant with its fields, which are such a list where they have no names.
+    fn with_fields(&self, alloc: Global, unnamed: ListKind) -> Result<Code, AllocError> {
+        let Case { name, of, .. } = self;
+        let (kind, bracket) = match self.kind {
+            Kind::Nothing => return Ok(Code::Text(format!(in alloc; "{of}::{name}")?)),
+            Kind::Named => (ListKind::Fields, " {"),
+            _ => (unnamed, "("),
+        };
+        let open = format!(in alloc; "{of}::{name}{bracket}")?;
+        Code::list_of_texts(alloc, kind, open.as_str(), self.names.as_slice())
+    }
 
-fn parts(alloc: Global, names: &[String]) -> Result<String, AllocError> {
-    let leaves = wrapped(alloc, names, "record { 0 = ", " }")?;
-    let leaves = tree(alloc, leaves.as_slice())?;
-    format!(in alloc; "record {{ 0 = {leaves} }}")
+    /// Its pattern in the list of variants, as `Several((Field(a), Field(b)))`.
+    pub fn listed(&self, alloc: Global) -> Result<Code, AllocError> {
+        let open = match self.kind {
+            Kind::Nothing => return Code::text(alloc, "Nothing"),
+            Kind::One(_) => return Code::text(alloc, "One(n)"),
+            Kind::Several(_) => "Several(",
+            Kind::Named => "Named(",
+        };
+        let leaves = wrapped(alloc, self.names.as_slice(), "Field(", ")")?;
+        let leaves = tree(alloc, ListKind::TuplePattern, leaves.as_slice())?;
+        Code::list(alloc, ListKind::TuplePattern, open, vec![in alloc; leaves]?)
+    }
+
+    /// Its type in the list of variants, as `Several<(Field<u8>, Field<u8>)>`.
+    pub fn listed_type(&self, alloc: Global) -> Result<Code, AllocError> {
+        match &self.kind {
+            Kind::Nothing => Code::text(alloc, "Nothing"),
+            Kind::One(ty) => Ok(Code::Text(format!(in alloc; "One<{ty}>")?)),
+            Kind::Several(types) => {
+                let leaves = wrapped(alloc, types.as_slice(), "Field<", ">")?;
+                let leaves = tree(alloc, ListKind::TupleType, leaves.as_slice())?;
+                Code::list(
+                    alloc,
+                    ListKind::TypeArguments,
+                    "Several<",
+                    vec![in alloc; leaves]?,
+                )
+            }
+            Kind::Named => {
+                let name = self.name.as_str();
+                Ok(Code::Text(format!(in alloc; "Named<{name}Fields>")?))
+            }
+        }
+    }
+
+    /// What its fields are called in a ghost member, each behind a space.
+    pub fn ghost_binders(&self, alloc: Global) -> Result<String, AllocError> {
+        let mut text = String::new(alloc);
+        for name in ghost_names(alloc, self.names.as_slice())? {
+            text.push(' ')?;
+            text.push_str(name.as_str())?;
+        }
+        Ok(text)
+    }
+
+    /// Its fields in the list of variants, in a ghost member.
+    pub fn ghost_parts(&self, alloc: Global) -> Result<String, AllocError> {
+        let names = ghost_names(alloc, self.names.as_slice())?;
+        let leaves = match self.kind {
+            Kind::Nothing => return String::from_str(alloc, "_"),
+            Kind::One(_) => names,
+            _ => wrapped(alloc, names.as_slice(), "record { 0 = ", " }")?,
+        };
+        let leaves = tree(alloc, ListKind::Tuple, leaves.as_slice())?.line(alloc)?;
+        format!(in alloc; "record {{ 0 = {leaves} }}")
+    }
+
+    /// The call that writes the variant at this index.
+    pub fn write_call(&self, alloc: Global, index: usize) -> Result<Code, AllocError> {
+        let Case { name, of, kind, .. } = self;
+        let open = match kind {
+            Kind::Nothing => format!(in alloc; "write_unit::<{of}, S>(")?,
+            Kind::One(ty) => format!(in alloc; "write_one::<{of}, {ty}, S>(")?,
+            Kind::Several(_) => format!(in alloc; "write_several::<{of}, _, S>(")?,
+            Kind::Named => format!(in alloc; "write_struct::<{of}, {name}Fields, _, S>(")?,
+        };
+        let serializer = Code::text(alloc, "serializer")?;
+        self.call(alloc, open.as_str(), vec![in alloc; serializer]?, index)
+    }
+
+    /// The call by which the variant at this index conforms.
+    pub fn conform_call(&self, alloc: Global, index: usize) -> Result<Code, AllocError> {
+        let Case { name, of, kind, .. } = self;
+        let open = match kind {
+            Kind::Nothing => format!(in alloc; "unit_conforms::<{of}>(")?,
+            Kind::One(ty) => format!(in alloc; "one_conforms::<{of}, {ty}>(")?,
+            Kind::Several(_) => format!(in alloc; "several_conform::<{of}, _>(")?,
+            Kind::Named => format!(in alloc; "named_conform::<{of}, {name}Fields, _>(")?,
+        };
+        self.call(alloc, open.as_str(), Vec::new(alloc), index)
+    }
+
+    // A call whose last arguments are the index and what is written of the fields.
+    fn call(
+        &self,
+        alloc: Global,
+        open: &str,
+        first: Vec<Code>,
+        index: usize,
+    ) -> Result<Code, AllocError> {
+        let mut arguments = first;
+        arguments.push(Code::Text(format!(in alloc; "{index}")?))?;
+        let refs = tree(alloc, ListKind::Tuple, self.refs.as_slice())?;
+        match self.kind {
+            Kind::Nothing => {}
+            Kind::One(_) => arguments.push(refs)?,
+            _ => arguments.push(refs.borrowed(alloc)?)?,
+        }
+        Code::list(alloc, ListKind::Arguments, open, arguments)
+    }
 }
 
 // The names in a ghost member, which quotes those that have a meaning there.
-fn quoted_names(alloc: Global, names: &[String]) -> Result<Vec<String>, AllocError> {
+fn ghost_names(alloc: Global, names: &[String]) -> Result<Vec<String>, AllocError> {
     let mut found = Vec::new(alloc);
     for name in names {
         found.push(match name.as_str() {
@@ -180,36 +223,4 @@ fn quoted_names(alloc: Global, names: &[String]) -> Result<Vec<String>, AllocErr
         })?;
     }
     Ok(found)
-}
-
-impl Case {
-    /// The call that writes the variant at this index.
-    pub fn write_call(&self, alloc: Global, index: usize) -> Result<String, AllocError> {
-        let Case { of, refs, kind, .. } = self;
-        match kind {
-            Kind::Nothing => format!(in alloc; "write_unit::<{of}, S>(serializer, {index})"),
-            Kind::One(ty) => {
-                format!(in alloc; "write_one::<{of}, {ty}, S>(serializer, {index}, {refs})")
-            }
-            Kind::Several => {
-                format!(in alloc; "write_several::<{of}, _, S>(serializer, {index}, &{refs})")
-            }
-            Kind::Named(list) => format!(in alloc;
-                "write_struct::<{of}, {list}, _, S>(serializer, {index}, &{refs})"
-            ),
-        }
-    }
-
-    /// The call by which the variant at this index conforms.
-    pub fn conform_call(&self, alloc: Global, index: usize) -> Result<String, AllocError> {
-        let Case { of, refs, kind, .. } = self;
-        match kind {
-            Kind::Nothing => format!(in alloc; "unit_conforms::<{of}>({index})"),
-            Kind::One(ty) => format!(in alloc; "one_conforms::<{of}, {ty}>({index}, {refs})"),
-            Kind::Several => format!(in alloc; "several_conform::<{of}, _>({index}, &{refs})"),
-            Kind::Named(list) => {
-                format!(in alloc; "named_conform::<{of}, {list}, _>({index}, &{refs})")
-            }
-        }
-    }
 }

@@ -1,8 +1,11 @@
 // The imports that the printed impls need.
 use crate::declaration::{Body, Contents, Declaration, Field, Form, SetKind, Variant};
-use crate::layout::{filled, fits, joined};
+use crate::layout::{filled, joined};
 use std::alloc::{AllocError, Global};
 use std::fmt::Write;
+
+// The width past which an import stands on several lines.
+const WIDTH: usize = 98;
 
 /// What the printed impls mention.
 #[derive(Clone, Copy, Default)]
@@ -254,7 +257,7 @@ fn print_use(
     }
     let line = joined(alloc, names, ", ")?;
     let line = format!(in alloc; "use {path}::{{{line}}};")?;
-    if fits(line.as_str()) {
+    if line.len() <= WIDTH {
         return writeln!(out, "{line}");
     }
     let lines = filled(alloc, "    ", names)?;

@@ -1,16 +1,17 @@
-// The layout of what is printed, which is that of `rt fmt` where this costs little.
+// The layout of lines, which is that of `rt fmt`.
+use crate::code::{Code, ListKind};
 use std::alloc::{AllocError, Global};
 use std::fmt::Write;
 
 const WIDTH: usize = 100;
 
-// The widths past which a list, and the fields of a struct, stand on several lines.
-const LIST_WIDTH: usize = 60;
+// The indents of the arms of a match in a function's body, of what stands in their braces, and of the body.
+const ARM: &str = "            ";
 
-const STRUCT_WIDTH: usize = 18;
+const INSIDE_ARM: &str = "                ";
 
-// Texts of an array that are no wider stand side by side.
-const SHORT: usize = 10;
+/// The indent of a function's body.
+pub const BODY: &str = "        ";
 
 /// Whether the line is not too wide.
 pub fn fits(line: &str) -> bool {
@@ -38,65 +39,82 @@ pub fn quoted(alloc: Global, texts: &[String]) -> Result<Vec<String>, AllocError
     Ok(found)
 }
 
-/// An array behind a reference, in a line that is indented by this.
-pub fn array(alloc: Global, indent: &str, items: &[String]) -> Result<String, AllocError> {
-    let line = joined(alloc, items, ", ")?;
-    if line.len() <= LIST_WIDTH {
-        return format!(in alloc; "&[{line}]");
+/// The signature of a function of an impl, up to the brace of its body.
+pub fn signature(
+    alloc: Global,
+    open: &str,
+    parameters: &[&str],
+    answer: &str,
+) -> Result<String, AllocError> {
+    let mut texts = Vec::new(alloc);
+    for parameter in parameters {
+        texts.push(String::from_str(alloc, parameter)?)?;
     }
-    let deeper = format!(in alloc; "{indent}    ")?;
-    let lines = if items.iter().all(|item| item.len() <= SHORT) {
-        filled(alloc, deeper.as_str(), items)?
+    let code = Code::list_of_texts(alloc, ListKind::Parameters, open, texts.as_slice())?;
+    let behind = format!(in alloc; " -> {answer} {{")?;
+    let code = code.laid_out(alloc, "    ", "    ", behind.as_str())?;
+    format!(in alloc; "    {code}{behind}")
+}
+
+/// The code as the statement of a function's body, with this behind it.
+pub fn statement(alloc: Global, code: &Code, behind: &str) -> Result<String, AllocError> {
+    let text = code.laid_out(alloc, BODY, BODY, behind)?;
+    format!(in alloc; "{text}{behind}")
+}
+
+/// The statement that binds the names of a pattern to the fields.
+pub fn binding(alloc: Global, pattern: &Code) -> Result<String, AllocError> {
+    let before = format!(in alloc; "{BODY}let ")?;
+    let pattern = pattern.laid_out(alloc, BODY, before.as_str(), " =")?;
+    let line = format!(in alloc; "{before}{pattern} = fields;")?;
+    if pattern.contains('\n') || fits(line.as_str()) {
+        format!(in alloc; "let {pattern} = fields;")
     } else {
-        each_on_a_line(alloc, deeper.as_str(), items)?
+        format!(in alloc; "let {pattern} =\n{ARM}fields;")
+    }
+}
+
+/// An arm of a match. Its body stands beside the pattern, or else between braces.
+pub fn arm(alloc: Global, pattern: &Code, body: &Code) -> Result<String, AllocError> {
+    let pattern = pattern.laid_out(alloc, ARM, ARM, " =>")?;
+    let start = match pattern.rsplit_once('\n') {
+        Some((_, last)) => format!(in alloc; "{last} =>")?,
+        None => format!(in alloc; "{ARM}{pattern} =>")?,
     };
-    format!(in alloc; "&[\n{lines}{indent}]")
-}
-
-/// The struct of these fields, in a line that is indented by this.
-pub fn literal(
-    alloc: Global,
-    indent: &str,
-    name: &str,
-    fields: &[String],
-) -> Result<String, AllocError> {
-    let line = joined(alloc, fields, ", ")?;
-    if line.len() <= STRUCT_WIDTH {
-        return format!(in alloc; "{name} {{ {line} }}");
+    if let Some(beside) = beside(alloc, start.as_str(), body)? {
+        return format!(in alloc; "{ARM}{pattern} => {beside},\n");
     }
-    let deeper = format!(in alloc; "{indent}    ")?;
-    let lines = each_on_a_line(alloc, deeper.as_str(), fields)?;
-    format!(in alloc; "{name} {{\n{lines}{indent}}}")
-}
-
-/// A call of these two arguments, in a line that is indented by this. The first is an array of these items.
-pub fn call_with_array(
-    alloc: Global,
-    indent: &str,
-    function: &str,
-    items: &[String],
-    last: &str,
-) -> Result<String, AllocError> {
-    let items_line = array(alloc, indent, items)?;
-    let line = format!(in alloc; "{items_line}, {last}")?;
-    if line.len() <= LIST_WIDTH {
-        return format!(in alloc; "{function}({line})");
+    let opened = format!(in alloc; "{start} {{")?;
+    if fits(opened.as_str()) {
+        let body = body.laid_out(alloc, INSIDE_ARM, INSIDE_ARM, "")?;
+        return format!(in alloc; "{ARM}{pattern} => {{\n{INSIDE_ARM}{body}\n{ARM}}}\n");
     }
-    let deeper = format!(in alloc; "{indent}    ")?;
-    let items = array(alloc, deeper.as_str(), items)?;
-    format!(in alloc; "{function}(\n{deeper}{items},\n{deeper}{last},\n{indent})")
+    let body = body.laid_out(alloc, INSIDE_ARM, INSIDE_ARM, ",")?;
+    format!(in alloc; "{ARM}{pattern} =>\n{INSIDE_ARM}{body},\n")
 }
 
-/// An arm of a match.
-pub fn arm(alloc: Global, pattern: &str, body: &str) -> Result<String, AllocError> {
-    let line = format!(in alloc; "            {pattern} => {body},")?;
-    if fits(line.as_str()) {
-        return format!(in alloc; "{line}\n");
-    }
-    format!(in alloc; "            {pattern} => {{\n                {body}\n            }}\n")
+// The body of an arm that begins so, where it stands on that line. Of the fields of a struct, which may need several lines wherever
+// they stand, the brace does.
+fn beside(alloc: Global, start: &str, body: &Code) -> Result<Option<String>, AllocError> {
+    let before = format!(in alloc; "{start} ")?;
+    let text = body.laid_out(alloc, ARM, before.as_str(), ",")?;
+    let inside = body.laid_out(alloc, INSIDE_ARM, INSIDE_ARM, "")?;
+    let line = match text.split_once('\n') {
+        Some((first, _)) if body.is_fields() && inside.contains('\n') => {
+            format!(in alloc; "{before}{first}")?
+        }
+        Some(_) => return Ok(None),
+        None => format!(in alloc; "{before}{text},")?,
+    };
+    Ok(if fits(line.as_str()) {
+        Some(text)
+    } else {
+        None
+    })
 }
 
-fn each_on_a_line(alloc: Global, indent: &str, items: &[String]) -> Result<String, AllocError> {
+/// Each item on a line.
+pub fn each_on_a_line(alloc: Global, indent: &str, items: &[String]) -> Result<String, AllocError> {
     let mut lines = String::new(alloc);
     for item in items {
         writeln!(lines, "{indent}{item},")?;
@@ -106,23 +124,23 @@ fn each_on_a_line(alloc: Global, indent: &str, items: &[String]) -> Result<Strin
 
 /// The items side by side, on as many lines as they need.
 pub fn filled(alloc: Global, indent: &str, items: &[String]) -> Result<String, AllocError> {
+    let all = joined(alloc, items, ", ")?;
+    let line = format!(in alloc; "{indent}{all},")?;
+    if fits(line.as_str()) {
+        return format!(in alloc; "{line}\n");
+    }
     let mut lines = String::new(alloc);
-    let mut line = String::new(alloc);
+    let mut line = String::from_str(alloc, indent)?;
     for item in items {
-        let longer = if line.is_empty() {
-            format!(in alloc; "{indent}{item},")?
-        } else {
-            format!(in alloc; "{line} {item},")?
-        };
-        if fits(longer.as_str()) || line.is_empty() {
+        // A space stands behind each item, also at the end of a line.
+        let longer = format!(in alloc; "{line}{item}, ")?;
+        if fits(longer.as_str()) || line.as_str() == indent {
             line = longer;
         } else {
-            writeln!(lines, "{line}")?;
-            line = format!(in alloc; "{indent}{item},")?;
+            writeln!(lines, "{}", line.trim_end())?;
+            line = format!(in alloc; "{indent}{item}, ")?;
         }
     }
-    if !line.is_empty() {
-        writeln!(lines, "{line}")?;
-    }
+    writeln!(lines, "{}", line.trim_end())?;
     Ok(lines)
 }

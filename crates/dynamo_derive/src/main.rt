@@ -4,6 +4,7 @@
 mod attributes;
 mod branch;
 mod case;
+mod code;
 mod declaration;
 mod derive;
 mod failure;

@@ -7,6 +7,9 @@ use crate::token::Token;
 use crate::variants::enum_body;
 use std::alloc::Global;
 
+// Fields that have no names are called by the letters.
+const LETTERS: usize = 26;
+
 /// The declarations that the tokens write.
 ///
 /// # Errors
@@ -114,7 +117,7 @@ fn struct_body(
         }
         [open, ..] if open.is("(") => {
             about.refuse_rename_all()?;
-            newtype_body(alloc, rest, parameters, line)
+            unnamed_body(alloc, rest, parameters, line)
         }
         [open, ..] if open.is("{") => {
             let (inside, _) = bracketed(rest, "{").unwrap_or((&[], &[]));
@@ -128,7 +131,8 @@ fn struct_body(
     }
 }
 
-fn newtype_body(
+// The body of a struct whose fields have no names: a newtype, where it is one field.
+fn unnamed_body(
     alloc: Global,
     rest: &[Token],
     parameters: &[Parameter],
@@ -141,10 +145,12 @@ fn newtype_body(
         }
         _ => return Err(Failure::Refused(line, Reason::NoEnd)),
     };
-    let fields = parts(alloc, inside)?;
-    let of = match fields.as_slice() {
-        [field] => unnamed_field(alloc, field, line)?,
-        _ => return Err(Failure::Refused(line, Reason::TupleStruct)),
+    let mut types = unnamed_fields(alloc, inside, line)?;
+    if types.len() > 1 {
+        return Err(Failure::Refused(line, Reason::TupleStruct));
+    }
+    let Some(of) = types.pop() else {
+        return Err(Failure::Refused(line, Reason::NoFields));
     };
     let is_described = parameters.is_empty()
         || parameters
@@ -156,12 +162,23 @@ fn newtype_body(
     Ok(Body::Newtype(of))
 }
 
-/// The text of the type of a field without a name.
-pub fn unnamed_field(alloc: Global, tokens: &[Token], line: u32) -> Result<String, Failure> {
+/// The texts of the types of the fields between brackets, which have no names.
+pub fn unnamed_fields(alloc: Global, inside: &[Token], line: u32) -> Result<Vec<String>, Failure> {
+    let mut types = Vec::new(alloc);
+    for part in parts(alloc, inside)? {
+        types.push(unnamed_field(alloc, part, line)?)?;
+    }
+    if types.len() > LETTERS {
+        return Err(Failure::Refused(line, Reason::ManyUnnamed));
+    }
+    Ok(types)
+}
+
+fn unnamed_field(alloc: Global, tokens: &[Token], line: u32) -> Result<String, Failure> {
     let (above, rest) = attributed(tokens);
     let about = read_attributes(alloc, above)?;
     if about.line != 0 {
-        return Err(Failure::Refused(about.line, Reason::ContentAttribute));
+        return Err(Failure::Refused(about.line, Reason::UnnamedAttribute));
     }
     type_text(alloc, after_visibility(rest), line_of(tokens, line))
 }

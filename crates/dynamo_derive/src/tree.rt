@@ -1,29 +1,27 @@
 ghost use Rattle.std.specs.Prelude.{◌≤◌, ◌<◌};
 
+use crate::code::{Code, ListKind};
 use crate::declaration::{Field, Form, SetKind};
 use std::alloc::{AllocError, Global};
 
 /// The list of these fields, as `dynamo_record` groups them: one stands alone, and more are a pair, four or eight groups, of which
 /// the first are the larger.
-pub fn grouped(out: &mut String, leaves: &[String]) -> Result<(), AllocError> {
+pub fn tree(alloc: Global, kind: ListKind, leaves: &[String]) -> Result<Code, AllocError> {
     let groups = match leaves {
-        [] => return Ok(()),
-        [leaf] => return out.push_str(leaf.as_str()),
+        [] => return Code::text(alloc, ""),
+        [leaf] => return Code::text(alloc, leaf.as_str()),
         _ if leaves.len() < 4 => 2,
         _ if leaves.len() < 8 => 4,
         _ => 8,
     };
-    out.push('(')?;
+    let mut items = Vec::new(alloc);
     let mut rest = leaves;
     for done in 0..groups {
         let (group, after) = rest.split_at(share(rest.len(), groups - done));
-        if done > 0 {
-            out.push_str(", ")?;
-        }
-        grouped(out, group)?;
+        items.push(tree(alloc, kind, group)?)?;
         rest = after;
     }
-    out.push(')')
+    Code::list(alloc, kind, "(", items)
 }
 
 // How many leaves the first of so many groups has.
@@ -36,13 +34,6 @@ fn share(leaves: usize, groups: usize) -> usize
     leaves.div_ceil(groups)
 }
 
-/// The text of the grouped list.
-pub fn tree(alloc: Global, leaves: &[String]) -> Result<String, AllocError> {
-    let mut text = String::new(alloc);
-    grouped(&mut text, leaves)?;
-    Ok(text)
-}
-
 /// Each text between these two.
 pub fn wrapped(
     alloc: Global,
@@ -53,6 +44,17 @@ pub fn wrapped(
     let mut found = Vec::new(alloc);
     for text in texts {
         found.push(format!(in alloc; "{before}{text}{after}")?)?;
+    }
+    Ok(found)
+}
+
+/// What so many fields without names are called: the letters, from `a` on.
+pub fn letters(alloc: Global, count: usize) -> Result<Vec<String>, AllocError> {
+    let mut found = Vec::new(alloc);
+    for letter in ('a'..='z').take(count) {
+        let mut text = String::new(alloc);
+        text.push(letter)?;
+        found.push(text)?;
     }
     Ok(found)
 }

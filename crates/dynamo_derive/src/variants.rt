@@ -1,14 +1,11 @@
 use crate::attributes::read_attributes;
 use crate::declaration::{Body, Contents, Variant};
 use crate::failure::{Failure, Reason};
-use crate::parser::{named_fields, unnamed_field};
+use crate::parser::{named_fields, unnamed_fields};
 use crate::parts::{attributed, bracketed, line_of, parts};
 use crate::rename::RenameRule;
 use crate::token::Token;
 use std::alloc::Global;
-
-// The fields of a variant that have no names are called by the letters.
-const LETTERS: usize = 26;
 
 /// The body of an enum. Where variants have no names of their own, those that they are written under go by the rule.
 pub fn enum_body(
@@ -94,18 +91,13 @@ fn read_contents(
 }
 
 fn unnamed_contents(alloc: Global, inside: &[Token], line: u32) -> Result<Contents, Failure> {
-    let mut types = Vec::new(alloc);
-    for part in parts(alloc, inside)? {
-        types.push(unnamed_field(alloc, part, line)?)?;
+    let mut types = unnamed_fields(alloc, inside, line)?;
+    if types.len() > 1 {
+        return Ok(Contents::Several(types));
     }
-    match types.len() {
-        0 => Err(Failure::Refused(line, Reason::NoContents)),
-        1 => match types.pop() {
-            Some(of) => Ok(Contents::One(of)),
-            None => Err(Failure::Refused(line, Reason::NoContents)),
-        },
-        2..=LETTERS => Ok(Contents::Several(types)),
-        _ => Err(Failure::Refused(line, Reason::ManyContents)),
+    match types.pop() {
+        Some(of) => Ok(Contents::One(of)),
+        None => Err(Failure::Refused(line, Reason::NoContents)),
     }
 }
 

@@ -1,5 +1,6 @@
 mod printed;
 mod refused;
+mod wide;
 
 use super::*;
 use std::process::Abort;

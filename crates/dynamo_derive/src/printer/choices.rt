@@ -1,11 +1,12 @@
 use super::shared::{
-    Heading, codes, name_function, names_function, print_deserialize, print_serialize,
-    print_shaped, variant_names,
+    Heading, codes, expecting_function, name_function, names_function, print_deserialize,
+    print_serialize, print_shaped, variant_names,
 };
 use crate::branch::{choice_type, ghost_branch, pattern_branch};
 use crate::case::{Case, cases};
+use crate::code::ListKind;
 use crate::declaration::{Contents, Field, Variant};
-use crate::layout::arm;
+use crate::layout::{arm, signature};
 use crate::tree::{leaf_types, shown_names, tree};
 use std::alloc::{AllocError, Global};
 use std::fmt::Write;
@@ -26,8 +27,10 @@ pub fn print_choices(
     }
     let cases = cases(alloc, name, variants)?;
     let cases = cases.as_slice();
-    let list = choice_type(alloc, name, cases)?;
-    writeln!(out, "{list}\n")?;
+    let before = format!(in alloc; "type {name}Variants = ")?;
+    let list = choice_type(alloc, cases)?;
+    let list = list.laid_out(alloc, "", before.as_str(), ";")?;
+    writeln!(out, "{before}{list};\n")?;
     print_description(alloc, out, about, variants, cases, alias)?;
     print_traits(alloc, out, about, cases)
 }
@@ -40,10 +43,11 @@ fn print_traits(
 ) -> Result<(), AllocError> {
     let name = about.name.as_str();
     print_serialize(
+        alloc,
         out,
         about,
         &format!(in alloc; "enum_tells ⟦<{name} as Enumeration>⟧.about")?,
-        "λ _. ⊥",
+        "",
         &write_match(alloc, cases)?,
     )?;
     print_deserialize(
@@ -55,6 +59,7 @@ fn print_traits(
     )?;
     let conforms = conform_match(alloc, cases)?;
     print_shaped(
+        alloc,
         out,
         about,
         &format!(in alloc; "about_enum ⟦<{name} as Enumeration>⟧.about")?,
@@ -71,7 +76,12 @@ fn print_named_fields(
     variant: &str,
     fields: &[Field],
 ) -> Result<(), AllocError> {
-    let types = tree(alloc, leaf_types(alloc, fields)?.as_slice())?;
+    let types = tree(
+        alloc,
+        ListKind::TupleType,
+        leaf_types(alloc, fields)?.as_slice(),
+    )?;
+    let types = types.laid_out(alloc, "    ", "    type Fields = ", ";")?;
     let shown = shown_names(alloc, fields)?;
     let codes = codes(alloc, shown.as_slice())?;
     let names_function = names_function(alloc, shown.as_slice())?;
@@ -105,8 +115,11 @@ fn print_description(
     let names = variant_names(alloc, variants)?;
     let codes = codes(alloc, names.as_slice())?;
     let name_function = name_function(alloc, shown.as_str())?;
+    let expecting_function = expecting_function(alloc, "enum", shown.as_str())?;
     let names_function = names_function(alloc, names.as_slice())?;
     let parts = parts(alloc, cases, alias)?;
+    let variant = format!(in alloc; "variant: {name}Variants")?;
+    let make = signature(alloc, "fn make(", &[variant.as_str()], name)?;
     let arms = make_arms(alloc, cases)?;
     writeln!(
         out,
@@ -120,9 +133,11 @@ fn print_description(
 
 {name_function}
 
+{expecting_function}
+
 {names_function}
 
-    fn make(variant: {name}Variants) -> {name} {{
+{make}
         match variant {{
 {arms}        }}
     }}
@@ -135,13 +150,10 @@ fn print_description(
 fn parts(alloc: Global, cases: &[Case], alias: &str) -> Result<String, AllocError> {
     let mut lines = String::new(alloc);
     for (index, case) in cases.iter().enumerate() {
-        let Case {
-            name,
-            binders,
-            parts,
-            ..
-        } = case;
-        let is = ghost_branch(alloc, index, cases.len(), parts)?;
+        let name = case.name.as_str();
+        let binders = case.ghost_binders(alloc)?;
+        let parts = case.ghost_parts(alloc)?;
+        let is = ghost_branch(alloc, index, cases.len(), parts.as_str())?;
         writeln!(lines, "      | {alias}.{name}{binders} ↦ {is}")?;
     }
     Ok(lines)
@@ -150,8 +162,8 @@ fn parts(alloc: Global, cases: &[Case], alias: &str) -> Result<String, AllocErro
 fn make_arms(alloc: Global, cases: &[Case]) -> Result<String, AllocError> {
     let mut arms = String::new(alloc);
     for (index, case) in cases.iter().enumerate() {
-        let pattern = pattern_branch(alloc, index, cases.len(), case.listed.as_str())?;
-        arms.push_str(arm(alloc, pattern.as_str(), case.pattern.as_str())?.as_str())?;
+        let pattern = pattern_branch(alloc, index, cases.len(), case.listed(alloc)?)?;
+        arms.push_str(arm(alloc, &pattern, &case.value(alloc)?)?.as_str())?;
     }
     Ok(arms)
 }
@@ -161,7 +173,7 @@ fn write_match(alloc: Global, cases: &[Case]) -> Result<String, AllocError> {
     let mut text = String::from_str(alloc, "match self {\n")?;
     for (index, case) in cases.iter().enumerate() {
         let call = case.write_call(alloc, index)?;
-        text.push_str(arm(alloc, case.pattern.as_str(), call.as_str())?.as_str())?;
+        text.push_str(arm(alloc, &case.pattern(alloc)?, &call)?.as_str())?;
     }
     text.push_str("        }")?;
     Ok(text)
@@ -172,7 +184,7 @@ fn conform_match(alloc: Global, cases: &[Case]) -> Result<String, AllocError> {
     let mut text = String::from_str(alloc, "match self {\n")?;
     for (index, case) in cases.iter().enumerate() {
         let call = case.conform_call(alloc, index)?;
-        text.push_str(arm(alloc, case.pattern.as_str(), call.as_str())?.as_str())?;
+        text.push_str(arm(alloc, &case.pattern(alloc)?, &call)?.as_str())?;
     }
     text.push_str("        }")?;
     Ok(text)

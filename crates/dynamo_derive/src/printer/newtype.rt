@@ -1,4 +1,4 @@
-use super::shared::{Heading, print_deserialize, print_key, print_serialize, print_shaped};
+use super::shared::{Heading, letter, print_deserialize, print_key, print_serialize, print_shaped};
 use crate::layout::fits;
 use std::alloc::{AllocError, Global};
 
@@ -14,6 +14,7 @@ pub fn print_newtype(
     let field = format!(in alloc; "(codes \"{shown}\") (λ {letter}. {letter}.0)")?;
     let known = known(alloc, about, of)?;
     print_serialize(
+        alloc,
         out,
         about,
         &format!(in alloc; "(about_newtype {field} {known}).tells")?,
@@ -28,6 +29,7 @@ pub fn print_newtype(
         &read(alloc, name.as_str(), shown.as_str(), letter.as_str())?,
     )?;
     print_shaped(
+        alloc,
         out,
         about,
         &format!(in alloc; "about_newtype {field} {known}")?,
@@ -49,13 +51,12 @@ fn known(alloc: Global, about: &Heading, of: &str) -> Result<String, AllocError>
     }
 }
 
-// What writing asks for beside memory.
+// Where writing takes memory of its own: where that of what a generic newtype holds does.
 fn wants(alloc: Global, about: &Heading, of: &str, letter: &str) -> Result<String, AllocError> {
     if about.arguments.is_empty() {
-        String::from_str(alloc, "λ _. ⊥")
-    } else {
-        format!(in alloc; "λ {letter}. {of}.wants {letter}.0")
+        return Ok(String::new(alloc));
     }
+    format!(in alloc; "    ghost wants = {{ λ {letter}. {of}.wants {letter}.0 }};\n\n")
 }
 
 fn print_newtype_key(
@@ -67,26 +68,14 @@ fn print_newtype_key(
 ) -> Result<(), AllocError> {
     if about.arguments.is_empty() {
         let known = format!(in alloc; "key_newtype {field} ⟦<{of} as ShapedKey>⟧.about_key")?;
-        return print_key(out, about, &known, "own_key _");
+        return print_key(alloc, out, about, &known, "own_key _");
     }
     let known = format!(in alloc; "key_newtype {field} {of}.about_key")?;
     let laws = format!(in alloc; "{of}.about.tells {of}.eq {of}.cmp {of}.is_key")?;
     let is_key = format!(in alloc;
         "newtype_is_key {field} {of}.about_key {of}.about.shape {laws}"
     )?;
-    print_key(out, about, &known, &is_key)
-}
-
-// The letter that stands for the value: the first of its type's name.
-fn letter(alloc: Global, name: &str) -> Result<String, AllocError> {
-    let mut text = String::new(alloc);
-    let first = name.chars().next().unwrap_or('v');
-    text.push(if first.is_ascii_alphabetic() {
-        first.to_ascii_lowercase()
-    } else {
-        'v'
-    })?;
-    Ok(text)
+    print_key(alloc, out, about, &known, &is_key)
 }
 
 // The body that reads a newtype.

@@ -1,5 +1,7 @@
+use crate::code::{Code, ListKind};
 use crate::declaration::{Declaration, Parameter, Variant};
-use crate::layout::{array, fits, joined, quoted};
+use crate::layout::{fits, joined, quoted, signature, statement};
+use crate::tree::tree;
 use std::alloc::{AllocError, Global};
 use std::fmt::Write;
 
@@ -85,6 +87,18 @@ pub fn variant_names(alloc: Global, variants: &[Variant]) -> Result<Vec<String>,
     Ok(found)
 }
 
+/// The letter that stands for a value in a ghost member: the first of its type's name.
+pub fn letter(alloc: Global, name: &str) -> Result<String, AllocError> {
+    let mut text = String::new(alloc);
+    let first = name.chars().next().unwrap_or('v');
+    text.push(if first.is_ascii_alphabetic() {
+        first.to_ascii_lowercase()
+    } else {
+        'v'
+    })?;
+    Ok(text)
+}
+
 /// The function that answers the name.
 pub fn name_function(alloc: Global, name: &str) -> Result<String, AllocError> {
     format!(in alloc;
@@ -94,10 +108,20 @@ pub fn name_function(alloc: Global, name: &str) -> Result<String, AllocError> {
     )
 }
 
+/// The function that answers what reading a value expects, as `struct User`.
+pub fn expecting_function(alloc: Global, keyword: &str, name: &str) -> Result<String, AllocError> {
+    format!(in alloc;
+        "    fn expecting() -> &'static str {{
+        \"{keyword} {name}\"
+    }}"
+    )
+}
+
 /// The function that answers the names.
 pub fn names_function(alloc: Global, names: &[String]) -> Result<String, AllocError> {
     let texts = quoted(alloc, names)?;
-    let texts = array(alloc, "        ", texts.as_slice())?;
+    let texts = Code::list_of_texts(alloc, ListKind::Array, "&[", texts.as_slice())?;
+    let texts = statement(alloc, &texts, "")?;
     format!(in alloc;
         "    fn names() -> &'static [&'static str] {{
         {texts}
@@ -105,23 +129,40 @@ pub fn names_function(alloc: Global, names: &[String]) -> Result<String, AllocEr
     )
 }
 
-/// Prints the impl of `Serialize`, by its ghost members and its body.
+/// Prints the type of the list of the fields, by the types of its leaves.
+pub fn print_field_list(
+    alloc: Global,
+    out: &mut String,
+    about: &Heading,
+    leaves: &[String],
+) -> Result<(), AllocError> {
+    let Heading {
+        name,
+        arguments,
+        ..
+    } = about;
+    let before = format!(in alloc; "type {name}Fields{arguments} = ")?;
+    let types = tree(alloc, ListKind::TupleType, leaves)?;
+    let types = types.laid_out(alloc, "", before.as_str(), ";")?;
+    writeln!(out, "{before}{types};\n")
+}
+
+/// Prints the impl of `Serialize`, by its ghost members, of which the second is a line or nothing, and its body.
 pub fn print_serialize(
+    alloc: Global,
     out: &mut String,
     about: &Heading,
     tells: &str,
     wants: &str,
     body: &str,
 ) -> Result<(), AllocError> {
-    let Heading { ty, shaped, .. } = about;
+    let head = about.impl_head(alloc, "Serialize")?;
     writeln!(
         out,
-        "impl{shaped} Serialize for {ty} {{
+        "{head}
     ghost tells = {{ {tells} }};
 
-    ghost wants = {{ {wants} }};
-
-    fn serialize<S: Serializer>(&self, serializer: S) -> Result<S::Ok, S::Error> {{
+{wants}    fn serialize<S: Serializer>(&self, serializer: S) -> Result<S::Ok, S::Error> {{
         {body}
     }}
 }}
@@ -137,22 +178,17 @@ pub fn print_deserialize(
     reads: &str,
     body: &str,
 ) -> Result<(), AllocError> {
-    let Heading { ty, shaped, .. } = about;
-    let answer = format!(in alloc; "Result<{ty}, D::Error> {{")?;
-    let mut signature = format!(in alloc;
-        "    fn deserialize<D: Deserializer>(alloc: Global, deserializer: D) -> {answer}"
+    let head = about.impl_head(alloc, "Deserialize")?;
+    let ty = about.ty.as_str();
+    let signature = signature(
+        alloc,
+        "fn deserialize<D: Deserializer>(",
+        &["alloc: Global", "deserializer: D"],
+        &format!(in alloc; "Result<{ty}, D::Error>")?,
     )?;
-    if !fits(signature.as_str()) {
-        signature = format!(in alloc;
-            "    fn deserialize<D: Deserializer>(
-        alloc: Global,
-        deserializer: D,
-    ) -> {answer}"
-        )?;
-    }
     writeln!(
         out,
-        "impl{shaped} Deserialize for {ty} {{
+        "{head}
     ghost reads = {{ {reads} }};
 
 {signature}
@@ -165,23 +201,27 @@ pub fn print_deserialize(
 
 /// Prints the impl of `Shaped`, by its ghost members and what conforms.
 pub fn print_shaped(
+    alloc: Global,
     out: &mut String,
     shaped_type: &Heading,
     about: &str,
     by_shape: &str,
     conforms: &str,
 ) -> Result<(), AllocError> {
-    let Heading { ty, shaped, .. } = shaped_type;
+    let head = shaped_type.impl_head(alloc, "Shaped")?;
+    let ty = shaped_type.ty.as_str();
+    let answer = format!(in alloc; "Result<Option<{ty}>, E>")?;
+    let absent = signature(alloc, "fn absent<E: Error>(", &["_alloc: Global"], &answer)?;
     writeln!(
         out,
-        "impl{shaped} Shaped for {ty} {{
+        "{head}
     ghost about = {{ {about} }};
 
     ghost as_told = {{ refl }};
 
     ghost reads_by_shape = {{ {by_shape} }};
 
-    fn absent<E: Error>(_alloc: Global) -> Result<Option<{ty}>, E> {{
+{absent}
         Ok(None)
     }}
 
@@ -192,19 +232,41 @@ pub fn print_shaped(
 
 /// Prints the impl of `ShapedKey`, by its ghost members.
 pub fn print_key(
+    alloc: Global,
     out: &mut String,
     about: &Heading,
     about_key: &str,
     is_key: &str,
 ) -> Result<(), AllocError> {
-    let Heading { ty, keyed, .. } = about;
+    let head = impl_head(alloc, about.keyed.as_str(), "ShapedKey", about.ty.as_str())?;
     writeln!(
         out,
         "
-impl{keyed} ShapedKey for {ty} {{
+{head}
     ghost about_key = {{ {about_key} }};
 
     ghost is_key = {{ {is_key} }};
 }}"
     )
+}
+
+// What an impl of a trait begins with, where its parameters have these bounds.
+fn impl_head(
+    alloc: Global,
+    parameters: &str,
+    of_trait: &str,
+    ty: &str,
+) -> Result<String, AllocError> {
+    let line = format!(in alloc; "impl{parameters} {of_trait} for {ty} {{")?;
+    if fits(line.as_str()) {
+        return Ok(line);
+    }
+    format!(in alloc; "impl{parameters} {of_trait}\n    for {ty} {{")
+}
+
+impl Heading {
+    /// What an impl of a trait for the type begins with, where the types that are its parameters are shaped.
+    pub fn impl_head(&self, alloc: Global, of_trait: &str) -> Result<String, AllocError> {
+        impl_head(alloc, self.shaped.as_str(), of_trait, self.ty.as_str())
+    }
 }

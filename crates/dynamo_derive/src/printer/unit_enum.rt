@@ -1,9 +1,10 @@
 use super::shared::{
-    Heading, codes, name_function, names_function, print_deserialize, print_key, print_serialize,
-    print_shaped, variant_names,
+    Heading, codes, expecting_function, name_function, names_function, print_deserialize,
+    print_key, print_serialize, print_shaped, variant_names,
 };
+use crate::code::{Code, ListKind};
 use crate::declaration::Variant;
-use crate::layout::call_with_array;
+use crate::layout::statement;
 use std::alloc::{AllocError, Global};
 use std::fmt::Write;
 
@@ -18,10 +19,11 @@ pub fn print_units(
     let name = about.name.as_str();
     print_description(alloc, out, about, variants, alias)?;
     print_serialize(
+        alloc,
         out,
         about,
         &format!(in alloc; "unit_enum_tells ⟦<{name} as UnitEnum>⟧.about")?,
-        "λ _. ⊥",
+        "",
         "write_unit_enum(self, serializer)",
     )?;
     print_deserialize(
@@ -32,6 +34,7 @@ pub fn print_units(
         "read_unit_enum(alloc, deserializer)",
     )?;
     print_shaped(
+        alloc,
         out,
         about,
         &format!(in alloc; "about_units ⟦<{name} as UnitEnum>⟧.about")?,
@@ -40,7 +43,7 @@ pub fn print_units(
     )?;
     if about.is_key {
         let known = format!(in alloc; "key_units ⟦<{name} as UnitEnum>⟧.about")?;
-        print_key(out, about, &known, "own_key _")?;
+        print_key(alloc, out, about, &known, "own_key _")?;
     }
     Ok(())
 }
@@ -61,14 +64,20 @@ fn print_description(
     }
     let codes = codes(alloc, names.as_slice())?;
     let name_function = name_function(alloc, shown.as_str())?;
+    let expecting_function = expecting_function(alloc, "enum", shown.as_str())?;
     let names_function = names_function(alloc, names.as_slice())?;
-    let variant_at = call_with_array(alloc, "        ", "variant_at", paths.as_slice(), "number")?;
+    let paths = Code::list_of_texts(alloc, ListKind::Array, "&[", paths.as_slice())?;
+    let arguments = vec![in alloc; paths, Code::text(alloc, "number")?]?;
+    let variant_at = Code::list(alloc, ListKind::Arguments, "variant_at(", arguments)?;
+    let variant_at = statement(alloc, &variant_at, "")?;
     writeln!(
         out,
         "impl UnitEnum for {name} {{
     ghost about = {{ units_of {alias} (codes \"{shown}\") ({codes}) refl }};
 
 {name_function}
+
+{expecting_function}
 
 {names_function}
 

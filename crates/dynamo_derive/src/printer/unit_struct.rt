@@ -5,10 +5,11 @@ use std::alloc::{AllocError, Global};
 pub fn print_unit(alloc: Global, out: &mut String, about: &Heading) -> Result<(), AllocError> {
     let Heading { name, shown, .. } = about;
     print_serialize(
+        alloc,
         out,
         about,
         &format!(in alloc; "(about_unit_struct (codes \"{shown}\") (λ _ _. refl)).tells")?,
-        "λ _. ⊥",
+        "",
         &format!(in alloc; "serializer.serialize_unit_struct(\"{shown}\")")?,
     )?;
     print_deserialize(
@@ -21,6 +22,7 @@ pub fn print_unit(alloc: Global, out: &mut String, about: &Heading) -> Result<()
         )?,
     )?;
     print_shaped(
+        alloc,
         out,
         about,
         &format!(in alloc; "about_unit_struct (codes \"{shown}\") (λ _ _. refl)")?,

@@ -15,7 +15,7 @@ fn fields_are_stored_by_their_attributes(rt: HostRuntime) -> Result<(), Fail> {
             pub names: Vec<T>, // the names
         }",
         &[
-            "type PageFields<T> = (Field<WithDefault<Option<HashMap<String, (u8, [u8; 4])>>>>, Field<InStringSet<T>>);",
+            "type PageFields<T> = (\n    Field<WithDefault<Option<HashMap<String, (u8, [u8; 4])>>>>,\n    Field<InStringSet<T>>,\n);",
             "impl<T: Shaped> Record for Page<T> {",
             "record_of (codes \"page\") (codes \"firstName\" ∷ codes \"Names\" ∷ [])",
             "\"struct Page\"",
@@ -58,11 +58,13 @@ fn several_enums_have_their_own_aliases(rt: HostRuntime) -> Result<(), Fail> {
     prints(
         &rt,
         rt.alloc(),
-        "enum Side { Left, Right } struct Marker; enum DarkColor { Blue, Black }",
+        "enum Side { Left, Right } struct Marker; #[serde(rename = \"color\")] enum DarkColor { Blue, Black }",
         &[
             "ghost use Rattle.my_crate.specs.contracts.my_module.Side.{enum as variants_of_side};",
             "ghost use Rattle.my_crate.specs.contracts.my_module.DarkColor.{enum as variants_of_dark_color};",
             "units_of variants_of_side (codes \"Side\")",
+            "units_of variants_of_dark_color (codes \"color\")",
+            "    fn name() -> &'static str {\n        \"color\"\n    }\n\n    fn expecting() -> &'static str {\n        \"enum color\"\n    }\n\n    fn names()",
             "    fn conforms(&self) {}\n",
         ],
     )
@@ -73,7 +75,7 @@ fn variants_are_renamed_and_nest(rt: HostRuntime) -> Result<(), Fail> {
     prints(
         &rt,
         rt.alloc(),
-        "#[serde(rename_all = \"snake_case\")]
+        "#[serde(rename = \"shape\", rename_all = \"snake_case\")]
         enum Shape {
             Point,
             #[serde(rename = \"O\")]
@@ -83,7 +85,8 @@ fn variants_are_renamed_and_nest(rt: HostRuntime) -> Result<(), Fail> {
         }",
         &[
             "type ShapeVariants = Choice<Choice<Nothing, One<u8>>, Named<BoxedFields>>;",
-            "(codes \"point\" ∷ codes \"O\" ∷ codes \"boxed\" ∷ [])",
+            "enum_of (codes \"shape\") (codes \"point\" ∷ codes \"O\" ∷ codes \"boxed\" ∷ [])",
+            "    fn name() -> &'static str {\n        \"shape\"\n    }\n\n    fn expecting() -> &'static str {\n        \"enum shape\"\n    }\n\n    fn names()",
             "    ghost names = { codes \"DATA\" ∷ [] };",
             "      | is.Point ↦ Left (Left _)\n",
             "      | is.RoundOne n ↦ Left (Right (record { 0 = n }))\n",

@@ -44,7 +44,23 @@ fn structs_that_are_not_described(rt: HostRuntime) -> Result<(), Fail> {
     for (text, wanted) in [
         (
             "struct Rgb(u8, u8, u8);",
-            "line 1: tuple structs of several fields are not described",
+            "line 1: a tuple struct of several fields is described by hand",
+        ),
+        (
+            "struct A();",
+            "line 1: a struct without fields is declared by `struct Name;`",
+        ),
+        (
+            "struct A(u8, #[serde(default)] u8);",
+            "line 1: serde attributes have no place at a field without a name",
+        ),
+        (
+            "#[serde(rename_all = \"camelCase\")]\nstruct A(u8, u8);",
+            "line 1: the serde attribute `rename_all` has no place here",
+        ),
+        (
+            "struct A(a, b, c, d, e, f, g, h, i, j, k, l, m, n, o, p, q, r, s, t, u, v, w, x, y, z, aa);",
+            "line 1: at most 26 fields without names are described",
         ),
         (
             "struct A {}",
@@ -95,6 +111,10 @@ fn enums_that_are_not_described(rt: HostRuntime) -> Result<(), Fail> {
         (
             "enum E {\n A = 1 }",
             "line 2: variants with a number are not described",
+        ),
+        (
+            "enum E { A,\n B(a, b, c, d, e, f, g, h, i, j, k, l, m, n, o, p, q, r, s, t, u, v, w, x, y, z, aa) }",
+            "line 2: at most 26 fields without names are described",
         ),
         (
             "enum E {\n A {} }",

@@ -1,8 +1,8 @@
 use Rattle.std.proofs.Common.{length, ◌≤◌, ◌<◌}
-use Rattle.dynamo_derive.proofs.tree.+grouped.Given as goal
+use Rattle.dynamo_derive.proofs.tree.+tree.Given as goal
 
-abbrev pub decreases-grouped : goal.decreases-grouped
-decreases-grouped l = length l.leaves.now
+abbrev pub decreases-tree : goal.decreases-tree
+decreases-tree l = length l.leaves.now
 
 abbrev pub invariant-loop-done : goal.invariant-loop-done
 invariant-loop-done l = record {

@@ -1,0 +1,3 @@
+/// A weight in grams: a newtype.
+#[derive(Clone, Copy, Debug)]
+pub struct Weight(pub u64);
