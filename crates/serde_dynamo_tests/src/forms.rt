@@ -146,8 +146,11 @@ impl Deserialize for Point {
     ghost reads = { tuple_struct_reads (codes "Point") (λ p. (record { 0 = p.0 }, record { 0 = p.1 })) ⟦<PointFields as FieldList>⟧.about };
 
     fn deserialize<D: Deserializer>(alloc: Global, deserializer: D) -> Result<Point, D::Error> {
-        let (Field(x), Field(y)) =
-            read_tuple_struct::<PointFields, D>(alloc, deserializer, "Point")?;
+        let (Field(x), Field(y)) = read_tuple_struct::<PointFields, D>(
+            alloc,
+            deserializer,
+            "Point",
+        )?;
         Ok(Point(x, y))
     }
 }
