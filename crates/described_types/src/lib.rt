@@ -10,6 +10,7 @@ mod lots;
 mod order;
 mod page;
 mod parcel;
+mod reading;
 #[cfg(test)]
 mod rows;
 mod sealed;
@@ -33,6 +34,7 @@ pub use lots::{Lots, stored_lots};
 pub use order::{Order, stored_order};
 pub use page::{Page, stored_page};
 pub use parcel::{Parcel, stored_parcel};
+pub use reading::{Reading, stored_reading};
 pub use sealed::Sealed;
 pub use sensor::{Sensor, stored_sensor};
 pub use shelf::{Shelf, stored_shelf};

@@ -1,6 +1,6 @@
-// Structs of named fields: what is written of them, and what reads as them.
+// Structs of several fields: what is written of them, and what reads as them.
 use crate::rows::{reads, rereads};
-use crate::{Address, Order, Page, Sensor, Station};
+use crate::{Address, Order, Page, Reading, Sensor, Station};
 use std::collections::HashMap;
 use std::test::Fail;
 
@@ -215,4 +215,45 @@ fn a_sensor_is_read_by_its_stored_names_and_defaults(rt: HostRuntime) -> Result<
         r#"{"M":{"labels":{"S":"dry"},"sensorName":{"S":"a"}}}"#,
         "Expected seq",
     )
+}
+
+#[test]
+fn a_reading_is_reread(rt: HostRuntime) -> Result<(), Fail> {
+    let alloc = rt.alloc();
+    rereads(
+        &rt,
+        alloc,
+        Reading(
+            60,
+            Some(String::from_str(alloc, "K")?),
+            vec![in alloc; 7, 255]?,
+        ),
+        r#"{"L":[{"N":"60"},{"S":"K"},{"L":[{"N":"7"},{"N":"255"}]}]}"#,
+        r#"Reading(60, Some("K"), [7, 255])"#,
+    )
+}
+
+#[test]
+fn a_reading_is_read_by_its_elements(rt: HostRuntime) -> Result<(), Fail> {
+    let alloc = rt.alloc();
+    reads::<Reading>(
+        &rt,
+        alloc,
+        r#"{"L":[{"N":"60"},{"NULL":true},{"L":[]},{"S":"more"}]}"#,
+        "Reading(60, None, [])",
+    )?;
+    // A missing element is none no more than in serde.
+    reads::<Reading>(
+        &rt,
+        alloc,
+        r#"{"L":[{"N":"60"},{"NULL":true}]}"#,
+        "invalid length: too few elements, expected tuple struct Reading",
+    )?;
+    reads::<Reading>(
+        &rt,
+        alloc,
+        r#"{"L":[{"S":"60"},{"NULL":true},{"L":[]}]}"#,
+        "Expected num",
+    )?;
+    reads::<Reading>(&rt, alloc, r#"{"N":"60"}"#, "Expected seq")
 }

@@ -19,7 +19,8 @@ use Rattle.dynamo_de.specs.Answer.{Answer, Gives, After}
 use Rattle.dynamo_de.specs.Contents as contents
 use Rattle.dynamo_de.specs.Ignored.{source_height, sources_height, entries_height}
 use Rattle.dynamo_de.specs.Number.{parse, is_float_text, is_number_text}
-use Rattle.dynamo_de.specs.Promises.{Reading, answered, promised, refuse, Agrees, ◌>>=◌}
+use Rattle.dynamo_de.specs.Promises.{Reading, promised, refuse, Agrees}
+use Rattle.dynamo_value.specs.Steps.{◌>>=◌}
 use Rattle.dynamo_de.specs.ReadAttribute.{read_attribute, read_content, read_elements, read_members, read_none, own_refusals, own_refusals_in, refusals_of, attribute_from, attribute_in, item_from, content_from, read_each, read_entries, read_text, read_texts, read_blob, read_blobs, no_map}
 use Rattle.dynamo_de.specs.Reads.{ReadsEach, ReadsList}
 use Rattle.dynamo_de.specs.Scalars.{read_string}
@@ -80,7 +81,7 @@ elements_as_shown (byte_string bytes) = refl
 -- ---- what an attribute value is read from
 
 unknown_map : {A : Type 0} (b : Bool) (t : List ℕ) (next : List Entry → Reading A)
-    → refuse (if b then any_message else fault (failed_to_parse_float t)) ≡ (answered (if b then answer.refused else answer.fault (failed_to_parse_float t)) >>= next)
+    → refuse (if b then any_message else fault (failed_to_parse_float t)) ≡ (promised (if b then answer.refused else answer.fault (failed_to_parse_float t)) >>= next)
 unknown_map true t next = refl
 unknown_map false t next = refl
 
@@ -88,7 +89,7 @@ own_same : (ms : av.Members) → own_refusals ms ≡ own_refusals_in (entries_of
 own_same av.no_members = refl
 own_same (av.member key a ms) = ap (λ rs. refusals_of (promised (known key) >>= λ p. read_content p a) ++ rs) (own_same ms)
 
-pub attribute_as_entries : (s : Source) → attribute_from s ≡ (answered (contents.read_entries s) >>= attribute_in)
+pub attribute_as_entries : (s : Source) → attribute_from s ≡ (promised (contents.read_entries s) >>= attribute_in)
 attribute_as_entries (attribute (av.M av.no_members)) = refl
 attribute_as_entries (attribute (av.M (av.member key a av.no_members))) = refl
 attribute_as_entries (attribute (av.M (av.member key a (av.member other b ms)))) = ap (λ rs. Err (several_keys ∷ rs)) (own_same (av.member key a (av.member other b ms)))
@@ -106,7 +107,7 @@ members_same so_far (av.member key a ms) = one (read_attribute a) (λ value. mem
     one (Ok y) h = h y
     one (Err rs) h = refl
 
-pub item_as_entries : (s : Source) → item_from s ≡ (answered (contents.read_entries s) >>= read_entries [])
+pub item_as_entries : (s : Source) → item_from s ≡ (promised (contents.read_entries s) >>= read_entries [])
 item_as_entries (attribute (av.M ms)) = members_same [] ms
 item_as_entries (attribute _) = refl
 item_as_entries (key_text t) = refl
@@ -163,13 +164,13 @@ content_same prefix.Bs a = refl
 pub entries_lower : {M : Type 0} (entries : M → List Entry) (s : Source) (m : M) → Gives entries (contents.read_entries s) (Ok m) → suc (entries_height (entries m)) ≤ source_height s
 entries_lower entries s m h = below s (value_answered entries (contents.read_entries s) m h)
   where
-    below : (s : Source) → answered (contents.read_entries s) ≡ Ok (entries m) → suc (entries_height (entries m)) ≤ source_height s
+    below : (s : Source) → promised (contents.read_entries s) ≡ Ok (entries m) → suc (entries_height (entries m)) ≤ source_height s
     below (attribute (av.M ms)) e = let same : entries_of ms ≡ entries m = cc in rw (← same, members_high ms) (omega arith)
     below (attribute _) e = cc
     below (key_text t) e = cc
     below (number_text t) e = absurd (no_value (is_number_text t) e)
       where
-        no_value : (b : Bool) → answered (if b then answer.refused else answer.fault (failed_to_parse_float t)) ≡ Ok (entries m) → ⊥
+        no_value : (b : Bool) → promised (if b then answer.refused else answer.fault (failed_to_parse_float t)) ≡ Ok (entries m) → ⊥
         no_value true e = cc
         no_value false e = cc
     below (plain_text t) e = cc
@@ -181,7 +182,7 @@ elements_lower elements s l h = below s (value_answered elements (contents.read_
     flat_below : (source : List ℕ → Source) → ((t : List ℕ) → source_height (source t) ≡ 0) → (ts : List (List ℕ)) → each source ts ≡ elements l → suc (sources_height (elements l)) ≤ 1
     flat_below source none ts same = rw (← same, flat source none ts) (omega arith)
 
-    below : (s : Source) → answered (contents.read_elements s) ≡ Ok (elements l) → suc (sources_height (elements l)) ≤ source_height s
+    below : (s : Source) → promised (contents.read_elements s) ≡ Ok (elements l) → suc (sources_height (elements l)) ≤ source_height s
     below (attribute (av.L as')) e = let same : values_of as' ≡ elements l = cc in rw (← same, elements_high as') (omega arith)
     below (attribute (av.Ss ts)) e = flat_below plain_text (λ t. refl) ts cc
     below (attribute (av.Ns ts)) e = flat_below number_text (λ t. refl) ts cc
@@ -190,7 +191,7 @@ elements_lower elements s l h = below s (value_answered elements (contents.read_
     below (key_text t) e = cc
     below (number_text t) e = absurd (no_value (is_number_text t) e)
       where
-        no_value : (b : Bool) → answered (if b then answer.refused else answer.fault (failed_to_parse_float t)) ≡ Ok (elements l) → ⊥
+        no_value : (b : Bool) → promised (if b then answer.refused else answer.fault (failed_to_parse_float t)) ≡ Ok (elements l) → ⊥
         no_value true e = cc
         no_value false e = cc
     below (plain_text t) e = cc
@@ -198,8 +199,8 @@ elements_lower elements s l h = below s (value_answered elements (contents.read_
 
 -- ---- texts
 
-text_agrees : (x : Answer (List ℕ)) (r : Result (String Global) Fault) → Gives string_bytes x r → Agrees string_bytes (answered x) r
-text_agrees x (Ok text) h = value_agrees string_bytes (answered x) text (value_answered string_bytes x text h)
+text_agrees : (x : Answer (List ℕ)) (r : Result (String Global) Fault) → Gives string_bytes x r → Agrees string_bytes (promised x) r
+text_agrees x (Ok text) h = value_agrees string_bytes (promised x) text (value_answered string_bytes x text h)
 text_agrees x (Err f) h = fault_answered string_bytes x f h
 
 pub texts_read : (s : Source) (r : Result (Vec (String Global) Global) Fault) → After (contents.read_elements s) (ReadsList (λ e. Gives string_bytes (read_string e))) r
@@ -210,13 +211,11 @@ texts_read s r h = all (contents.read_elements s) r h
     each = each_reads string_bytes read_text (λ e. Gives string_bytes (read_string e)) (λ e. text_agrees (read_string e))
 
     all : (x : Answer (List Source)) (r : Result (Vec (String Global) Global) Fault) → After x (ReadsList (λ e. Gives string_bytes (read_string e))) r
-        → Agrees (λ v. map string_bytes v.items) (answered x >>= read_each read_text) r
-    all (answer.value ss) (Ok v) h = part_agrees (map string_bytes) (λ v. v.items) (read_each read_text ss) (Ok v) (each ss (Ok v.items) h)
-    all (answer.value ss) (Err f) h = part_agrees (map string_bytes) (λ (v : Vec (String Global) Global). v.items) (read_each read_text ss) (Err f) (each ss (Err f) h)
-    all (answer.fault g) (Ok v) h = cc
-    all (answer.fault g) (Err f) h = inl cc
-    all answer.refused (Ok v) h = absurd h
-    all answer.refused (Err f) h = inl h
+        → Agrees (λ v. map string_bytes v.items) (promised x >>= read_each read_text) r
+    all (Ok ss) (Ok v) h = part_agrees (map string_bytes) (λ v. v.items) (read_each read_text ss) (Ok v) (each ss (Ok v.items) h)
+    all (Ok ss) (Err f) h = part_agrees (map string_bytes) (λ (v : Vec (String Global) Global). v.items) (read_each read_text ss) (Err f) (each ss (Err f) h)
+    all (Err g) (Ok v) h = absurd h
+    all (Err g) (Err f) h = inl h
 
 -- ---- base64
 

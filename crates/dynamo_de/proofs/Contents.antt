@@ -7,14 +7,14 @@ use Rattle.dynamo_de.specs.Contents.{read_content, read_elements, read_entries}
 use Rattle.dynamo_de.specs.Meets.{Meets}
 use Rattle.dynamo_de.specs.Shown.{shown}
 use Rattle.dynamo_de.specs.Source.{Source, Entry, attribute, key_text, number_text, plain_text, byte_string}
-use Rattle.dynamo_de.specs.Takes.{Takes, Answers, Asks}
+use Rattle.dynamo_de.specs.Takes.{Takes, Visited, Asks}
 use Rattle.dynamo_de.specs.Visitors.{claims_option, take_content, claims_seq, take_elements, claims_map, take_entries}
 use Rattle.dynamo_de.specs.declared.request.Request.TheVariants as request
 use Rattle.dynamo_de.proofs.Meets.{meets_more}
 use Rattle.dynamo_de.proofs.Scalars.{unknown}
 
 module _ {V : Type 0} (next : Option Source → Result V Fault → Type 0) where
-  content_from : (s : Source) (r : Result V Fault) → Answers (Takes claims_option (λ x. After (take_content x) next)) (shown request.Option s) r → After (read_content s) next r
+  content_from : (s : Source) (r : Result V Fault) → Visited (Takes claims_option (λ x. After (take_content x) next)) (shown request.Option s) r → After (read_content s) next r
   content_from (attribute (av.Null true)) r h = h
   content_from (attribute (av.Null false)) r h = h
   content_from (attribute _) r h = h
@@ -27,7 +27,7 @@ module _ {V : Type 0} (next : Option Source → Result V Fault → Type 0) where
   content_read fault s r h = meets_more fault _ _ (content_from s) r h
 
 module _ {V : Type 0} (next : List Source → Result V Fault → Type 0) where
-  elements_from : (s : Source) (r : Result V Fault) → Answers (Takes claims_seq (λ x. After (take_elements x) next)) (shown request.Seq s) r → After (read_elements s) next r
+  elements_from : (s : Source) (r : Result V Fault) → Visited (Takes claims_seq (λ x. After (take_elements x) next)) (shown request.Seq s) r → After (read_elements s) next r
   elements_from (attribute (av.L as')) r h = h
   elements_from (attribute (av.Ss ts)) r h = h
   elements_from (attribute (av.Ns ts)) r h = h
@@ -50,7 +50,7 @@ module _ {V : Type 0} (next : List Source → Result V Fault → Type 0) where
   tuple_read fault (byte_string bytes) r h = elements_read fault (byte_string bytes) r h
 
 module _ {V : Type 0} (next : List Entry → Result V Fault → Type 0) where
-  entries_from : (s : Source) (r : Result V Fault) → Answers (Takes claims_map (λ x. After (take_entries x) next)) (shown request.Map s) r → After (read_entries s) next r
+  entries_from : (s : Source) (r : Result V Fault) → Visited (Takes claims_map (λ x. After (take_entries x) next)) (shown request.Map s) r → After (read_entries s) next r
   entries_from (attribute (av.M ms)) r h = h
   entries_from (attribute _) r h = h
   entries_from (key_text t) r h = h

@@ -6,7 +6,8 @@ use Rattle.dynamo_de.specs.Access.{NextElement, NextKey, NextValue}
 use Rattle.std.specs.declared.alloc.Global.{Global}
 use Rattle.std.specs.declared.vec.Vec.{Vec}
 use Rattle.dynamo_de.specs.Answer as answer
-use Rattle.dynamo_de.specs.Answer.{Answer, ◌>>=◌, After, Is, Gives}
+use Rattle.dynamo_de.specs.Answer.{Answer, After, Is, Gives}
+use Rattle.dynamo_value.specs.Steps.{◌>>=◌}
 use Rattle.dynamo_de.specs.Contents.{read_elements}
 use Rattle.dynamo_de.specs.Fields.{NamesOne, read_first, read_fields, read_all, LeadsTo}
 use Rattle.dynamo_de.specs.Meets.{IsMessage}
@@ -17,27 +18,21 @@ use Rattle.dynamo_de.proofs.Meets.{meets_more}
 -- ---- one step after another
 
 goes_on : {T A B V : Type 0} (seen : T → A) (x : Answer A) (f : A → Answer B) (next : B → Result V Fault → Type 0) (v : T) (r : Result V Fault) → Gives seen x (Ok v) → After (f (seen v)) next r → After (x >>= f) next r
-goes_on seen (answer.value y) f next v r h k = subst (λ z. After (f z) next r) h k
-goes_on seen (answer.fault g) f next v r h k = cc
-goes_on seen answer.refused f next v r h k = absurd h
+goes_on seen (Ok y) f next v r h k = subst (λ z. After (f z) next r) h k
+goes_on seen (Err g) f next v r h k = absurd h
 
 ok_same : {F : Type 0} (a b : F) → ◌≡◌ {A = Result F Fault} (Ok a) (Ok b) → a ≡ b
 ok_same a b e = cc
 
-err_same : {W : Type 0} (a b : Fault) → ◌≡◌ {A = Result W Fault} (Err a) (Err b) → a ≡ b
-err_same a b e = cc
-
 stops : {T A B V : Type 0} (seen : T → A) (x : Answer A) (f : A → Answer B) (next : B → Result V Fault → Type 0) (g : Fault) → Gives seen x (Err g) → After (x >>= f) next (Err g)
-stops seen (answer.value y) f next g h = absurd h
-stops {T} seen (answer.fault e) f next g h = ap Err (err_same {W = T} g e h)
-stops seen answer.refused f next g h = h
+stops seen (Ok y) f next g h = absurd h
+stops seen (Err e) f next g h = h
 
 -- what is made of what is read
 pub made : {T A B : Type 0} (seen : T → A) (make : A → B) (x : Answer A) (r : Result T Fault) → Gives seen x r → Gives (λ v. make (seen v)) (x >>= λ y. answer.value (make y)) r
-made seen make (answer.value y) (Ok v) h = ap make h
-made seen make (answer.value y) (Err f) h = absurd h
-made seen make (answer.fault g) r h = h
-made seen make answer.refused r h = h
+made seen make (Ok y) (Ok v) h = ap make h
+made seen make (Ok y) (Err f) h = absurd h
+made seen make (Err g) r h = h
 
 -- ---- in order
 
@@ -103,20 +98,17 @@ list_made {T} seen make reads s r h = along (read_elements s) r h
 
     along : (x : Answer (List Source)) (r : Result (Vec T Global) Fault) → After x (ReadsList (λ s. Gives seen (reads s))) r
         → Gives (λ v. map (λ x. make (seen x)) v.items) (x >>= read_all (λ s. reads s >>= λ x. answer.value (make x))) r
-    along (answer.value ss) (Ok v) h = listed (read_all (λ s. reads s >>= λ x. answer.value (make x)) ss) v (each_gives (λ x. make (seen x)) (λ s. reads s >>= λ x. answer.value (make x)) ss (Ok v.items) (each ss (Ok v.items) h))
+    along (Ok ss) (Ok v) h = listed (read_all (λ s. reads s >>= λ x. answer.value (make x)) ss) v (each_gives (λ x. make (seen x)) (λ s. reads s >>= λ x. answer.value (make x)) ss (Ok v.items) (each ss (Ok v.items) h))
       where
         listed : (y : Answer (List _)) (v : Vec T Global) → Gives (λ vs. map (λ x. make (seen x)) vs) y (Ok v.items) → Gives (λ v. map (λ x. make (seen x)) v.items) y (Ok v)
-        listed (answer.value ws) v h = h
-        listed (answer.fault g) v h = cc
-        listed answer.refused v h = h
-    along (answer.value ss) (Err f) h = failed (read_all (λ s. reads s >>= λ x. answer.value (make x)) ss) (each_gives (λ x. make (seen x)) (λ s. reads s >>= λ x. answer.value (make x)) ss (Err f) (each ss (Err f) h))
+        listed (Ok ws) v h = h
+        listed (Err g) v h = h
+    along (Ok ss) (Err f) h = failed (read_all (λ s. reads s >>= λ x. answer.value (make x)) ss) (each_gives (λ x. make (seen x)) (λ s. reads s >>= λ x. answer.value (make x)) ss (Err f) (each ss (Err f) h))
       where
         failed : (y : Answer (List _)) → Gives (λ (vs : List T). map (λ x. make (seen x)) vs) y (Err f) → Gives (λ (v : Vec T Global). map (λ x. make (seen x)) v.items) y (Err f)
-        failed (answer.value ws) h = h
-        failed (answer.fault g) h = ap Err (err_same {W = List T} f g h)
-        failed answer.refused h = h
-    along (answer.fault g) r h = h
-    along answer.refused r h = h
+        failed (Ok ws) h = h
+        failed (Err g) h = h
+    along (Err g) r h = h
 
 -- ---- by name
 
@@ -132,9 +124,8 @@ module _ {F S A V E : Type 0} (fault : E → Fault) (named : List ℕ → F) (en
   field_read seen reads set f l3 p3 v is h key value = along l h key
     where
       again : (x : Answer _) (f : S → Answer A) (r : Result V Fault) → Gives seen x (Ok v) → After (f (set (seen v))) next r → After ((x >>= λ y. answer.value (set y)) >>= f) next r
-      again (answer.value y) f r given k = subst (λ z. After (f (set z)) next r) given k
-      again (answer.fault g) f r given k = cc
-      again answer.refused f r given k = absurd given
+      again (Ok y) f r given k = subst (λ z. After (f (set z)) next r) given k
+      again (Err g) f r given k = absurd given
 
       along : (k : List Entry) → LeadsTo next (read_fields named entry finish so_far k) (read_fields named entry finish start es) → NextKey fault (NamesOne named) k p l2 p2 (Ok (Some f))
           → LeadsTo next (read_fields named entry finish (set (seen v)) l3) (read_fields named entry finish start es)
@@ -155,9 +146,8 @@ module _ {F S A V E : Type 0} (fault : E → Fault) (named : List ℕ → F) (en
   field_fails {T} {B} seen reads set f l3 p3 x is h key value = along l h key
     where
       again : (y : Answer B) (f : S → Answer A) → Gives seen y (Err (fault x)) → After ((y >>= λ z. answer.value (set z)) >>= f) next (Err (fault x))
-      again (answer.value z) f given = absurd given
-      again (answer.fault g) f given = ap Err (err_same {W = T} (fault x) g given)
-      again answer.refused f given = given
+      again (Ok z) f given = absurd given
+      again (Err g) f given = given
 
       along : (k : List Entry) → LeadsTo next (read_fields named entry finish so_far k) (read_fields named entry finish start es) → NextKey fault (NamesOne named) k p l2 p2 (Ok (Some f))
           → (fault x ≡ out_of_memory) ⊎ After (read_fields named entry finish start es) next (Err (fault x))

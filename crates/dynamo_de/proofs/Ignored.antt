@@ -6,7 +6,7 @@ use Rattle.dynamo_value.specs.Av.{Members, Elements}
 use Rattle.dynamo_value.specs.Fault.{Fault, failed_to_parse_float}
 use Rattle.dynamo_value.specs.Integer.{i64, u64}
 use Rattle.dynamo_de.specs.Answer as answer
-use Rattle.dynamo_de.specs.Answer.{◌>>=◌}
+use Rattle.dynamo_value.specs.Steps.{◌>>=◌}
 use Rattle.dynamo_de.specs.Ignored.{ignore_number, ignore_numbers, ignore, ignore_elements, ignore_members, read_ignored, ignore_sources, ignore_entries, ignore_shown, height, elements_height, members_height, source_height, sources_height, entries_height, shown_height}
 use Rattle.dynamo_de.specs.Number.{parse, is_float_text}
 use Rattle.dynamo_de.specs.Shown.{shown, number_shown, signed_or_other, unsigned_or_float}

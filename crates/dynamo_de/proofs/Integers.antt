@@ -14,7 +14,7 @@ use Rattle.dynamo_de.specs.Scalars.{read_integer}
 use Rattle.dynamo_de.specs.Shown.{shown, num_shown, integer_shown, or_fault, attribute_shown, number_text_shown, key_shown, plain_text_shown}
 use Rattle.dynamo_de.specs.Sight as sight
 use Rattle.dynamo_de.specs.Source.{Source, attribute, key_text, number_text, plain_text, byte_string}
-use Rattle.dynamo_de.specs.Takes.{Takes, TakesInteger, Answers, Asks}
+use Rattle.dynamo_de.specs.Takes.{Takes, TakesInteger, Visited, Asks}
 use Rattle.dynamo_de.specs.Visitors.{claims_integers, take_integer, checked, is_wide}
 use Rattle.dynamo_de.specs.declared.request.Request.{Request}
 use Rattle.dynamo_de.specs.declared.request.Request.TheVariants as request
@@ -117,22 +117,22 @@ module _ {V : Type 0} (number : V → ℤ) (k : IntegerKind) where
   claimed u64 same z r h = h
   claimed u128 same z r h = h
 
-  of_text : (t : List ℕ) (otherwise : Fault) (r : Result V Fault) → Answers (Takes (claims_integers (is_wide k)) takes) (integer_shown k otherwise t) r
+  of_text : (t : List ℕ) (otherwise : Fault) (r : Result V Fault) → Visited (Takes (claims_integers (is_wide k)) takes) (integer_shown k otherwise t) r
       → Gives number (value_or (parse k t) (answer.fault otherwise)) r
-  of_text t otherwise r h = elim (parse k t) as (λ o. parse k t ≡ o → Answers (Takes (claims_integers (is_wide k)) takes) (or_fault k o otherwise) r → Gives number (value_or o (answer.fault otherwise)) r) [
+  of_text t otherwise r h = elim (parse k t) as (λ o. parse k t ≡ o → Visited (Takes (claims_integers (is_wide k)) takes) (or_fault k o otherwise) r → Gives number (value_or o (answer.fault otherwise)) r) [
     | None ↦ λ is given. given
     | Some z ↦ λ is given. fitting z r (parsed_fits k t z is) (claimed k refl z r given)
   ] refl h
 
-  from_num : (a : av.Av) (r : Result V Fault) → Answers (Takes (claims_integers (is_wide k)) takes) (num_shown k a) r → Gives number (read_integer k (attribute a)) r
+  from_num : (a : av.Av) (r : Result V Fault) → Visited (Takes (claims_integers (is_wide k)) takes) (num_shown k a) r → Gives number (read_integer k (attribute a)) r
   from_num (av.N t) r h = of_text t (failed_to_parse_int t) r h
   from_num _ r h = h
 
-  integer_from : (s : Source) (r : Result V Fault) → Answers (Takes (claims_integers (is_wide k)) takes) (shown (asking k) s) r → Gives number (read_integer k s) r
-  integer_from (attribute a) r h = from_num a r (subst (λ x. Answers (Takes (claims_integers (is_wide k)) takes) x r) (of_attribute k a) h)
-  integer_from (key_text t) r h = of_text t expected_num r (subst (λ x. Answers (Takes (claims_integers (is_wide k)) takes) x r) (of_key k t) h)
-  integer_from (number_text t) r h = of_text t (failed_to_parse_int t) r (subst (λ x. Answers (Takes (claims_integers (is_wide k)) takes) x r) (of_number k t) h)
-  integer_from (plain_text t) r h = subst (λ x. Answers (Takes (claims_integers (is_wide k)) takes) x r) (of_plain k t) h
+  integer_from : (s : Source) (r : Result V Fault) → Visited (Takes (claims_integers (is_wide k)) takes) (shown (asking k) s) r → Gives number (read_integer k s) r
+  integer_from (attribute a) r h = from_num a r (subst (λ x. Visited (Takes (claims_integers (is_wide k)) takes) x r) (of_attribute k a) h)
+  integer_from (key_text t) r h = of_text t expected_num r (subst (λ x. Visited (Takes (claims_integers (is_wide k)) takes) x r) (of_key k t) h)
+  integer_from (number_text t) r h = of_text t (failed_to_parse_int t) r (subst (λ x. Visited (Takes (claims_integers (is_wide k)) takes) x r) (of_number k t) h)
+  integer_from (plain_text t) r h = subst (λ x. Visited (Takes (claims_integers (is_wide k)) takes) x r) (of_plain k t) h
   integer_from (byte_string bytes) r h = h
 
   pub integer_read : {E : Type 0} (fault : E → Fault) (s : Source) (r : Result V E) → Asks fault (claims_integers (is_wide k)) (λ x. Gives number (take_integer k x)) (asking k) s r → Meets fault (Gives number (read_integer k s)) r

@@ -10,9 +10,10 @@ use Rattle.dynamo_value.specs.Av as av
 use Rattle.dynamo_value.specs.Fault.{Fault, failed_to_parse_float}
 use Rattle.dynamo_value.specs.Integer.{i64, u64}
 use Rattle.dynamo_de.specs.Answer as answer
-use Rattle.dynamo_de.specs.Answer.{Answer, ◌>>=◌}
+use Rattle.dynamo_de.specs.Answer.{Answer}
+use Rattle.dynamo_value.specs.Steps.{◌>>=◌}
 use Rattle.dynamo_de.specs.Ignored.{source_height, sources_height, entries_height}
-use Rattle.dynamo_de.specs.JsonItems.{before}
+use Rattle.dynamo_de.specs.JsonItems.{items_before}
 use Rattle.dynamo_de.specs.Number.{parse, is_float_text}
 use Rattle.dynamo_de.specs.ReadJson.{number_or, read_number, read_numbers, read_blobs, read_value, read_elements, read_members, read_json, read_sources, read_entries, read_shown}
 use Rattle.dynamo_de.specs.Shown.{Shown, shown, number_shown, signed_or_other, unsigned_or_float}
@@ -36,9 +37,8 @@ members_same so_far (av.member t a ms) = entry (read_value a) (λ j. members_sam
   where
     entry : (x : Answer Data) → ((j : Data) → read_members (json.put t j so_far) ms ≡ read_entries (json.put t j so_far) (entries_of ms))
         → (x >>= λ j. read_members (json.put t j so_far) ms) ≡ (x >>= λ j. read_entries (json.put t j so_far) (entries_of ms))
-    entry (answer.value j) rest = rest j
-    entry (answer.fault f) rest = refl
-    entry answer.refused rest = refl
+    entry (Ok j) rest = rest j
+    entry (Err f) rest = refl
 
 numbers_same : (ts : List (List ℕ)) → read_numbers ts ≡ read_sources (each number_text ts)
 numbers_same [] = refl
@@ -86,25 +86,24 @@ json_as_shown (byte_string bytes) = refl
 
 -- ---- an array, one item more
 
-pub before-push : (vs : List Value) (v : Value) (rest : json.Items) → before (vs ++ v ∷ []) rest ≡ before vs (json.item (view v) rest)
+pub before-push : (vs : List Value) (v : Value) (rest : json.Items) → items_before (vs ++ v ∷ []) rest ≡ items_before vs (json.item (view v) rest)
 before-push [] v rest = refl
 before-push (w ∷ vs) v rest = ap (json.item (view w)) (before-push vs v rest)
 
-pub before_nothing : (vs : List Value) → before vs json.no_items ≡ items_view vs
+pub before_nothing : (vs : List Value) → items_before vs json.no_items ≡ items_view vs
 before_nothing [] = refl
 before_nothing (v ∷ vs) = ap (json.item (view v)) (before_nothing vs)
 
 -- what is read so far, with what is left behind it
 abbrev pub ItemsFrom : List Value → List Source → Answer json.Items
-ItemsFrom vs left = read_sources left >>= λ rest. answer.value (before vs rest)
+ItemsFrom vs left = read_sources left >>= λ rest. answer.value (items_before vs rest)
 
 pub item_read : (vs : List Value) (v : Value) (s : Source) (left : List Source) → read_json s ≡ answer.value (view v) → ItemsFrom vs (s ∷ left) ≡ ItemsFrom (vs ++ v ∷ []) left
 item_read vs v s left is = rw is (behind (read_sources left))
   where
-    behind : (x : Answer json.Items) → ((x >>= λ js. answer.value (json.item (view v) js)) >>= λ rest. answer.value (before vs rest)) ≡ (x >>= λ rest. answer.value (before (vs ++ v ∷ []) rest))
-    behind (answer.value js) = ap answer.value (sym (before-push vs v js))
-    behind (answer.fault f) = refl
-    behind answer.refused = refl
+    behind : (x : Answer json.Items) → ((x >>= λ js. answer.value (json.item (view v) js)) >>= λ rest. answer.value (items_before vs rest)) ≡ (x >>= λ rest. answer.value (items_before (vs ++ v ∷ []) rest))
+    behind (Ok js) = ap answer.value (sym (before-push vs v js))
+    behind (Err f) = refl
 
 -- ---- how deep it goes
 

@@ -1,5 +1,5 @@
 -- The steps by which a JSON value is read.
-use Rattle.std.proofs.Common.{◌≡◌, ℕ, ◌≤◌, List, [], ◌∷◌, ◌++◌, Option, Some, None, Result, Ok, String, Vec, BTreeMap, Global, string_bytes, refl, ap, sym, subst, ◌∙◌, arith}
+use Rattle.std.proofs.Common.{◌≡◌, ℕ, ◌≤◌, List, [], ◌∷◌, ◌++◌, Option, Some, None, Result, Ok, String, Vec, BTreeMap, Global, string_bytes, refl, ap, sym, subst, ◌∙◌, arith, Err}
 use Rattle.serde_json.specs.Data as json
 use Rattle.serde_json.specs.Data.{Data, put}
 use Rattle.serde_json.specs.View.{view, items_view, members_view}
@@ -7,7 +7,8 @@ use Rattle.serde_json.specs.declared.value.Value.{Value, Array, Object}
 use Rattle.serde_json.proofs.Views.{view-Array, view-Object}
 use Rattle.dynamo_value.specs.Fault.{Fault}
 use Rattle.dynamo_de.specs.Answer as answer
-use Rattle.dynamo_de.specs.Answer.{Answer, Gives, ◌>>=◌}
+use Rattle.dynamo_de.specs.Answer.{Answer, Gives}
+use Rattle.dynamo_value.specs.Steps.{◌>>=◌}
 use Rattle.dynamo_de.specs.Ignored.{source_height, sources_height, entries_height}
 use Rattle.dynamo_de.specs.ReadJson.{read_value, read_json, read_entries, read_shown}
 use Rattle.dynamo_de.specs.Scalars.{read_string}
@@ -20,9 +21,8 @@ use Rattle.dynamo_de.proofs.Json.{json_as_shown, ItemsFrom, item_read, before_no
 
 -- what is answered with is the value
 answered : {A V : Type 0} (seen : V → A) (x : Answer A) (v : V) → Gives seen x (Ok v) → x ≡ answer.value (seen v)
-answered seen (answer.value y) v is = ap answer.value (sym is)
-answered seen (answer.fault f) v is = cc
-answered seen answer.refused v is = absurd is
+answered seen (Ok y) v is = ap answer.value (sym is)
+answered seen (Err f) v is = absurd is
 
 gives : {A V : Type 0} (seen : V → A) (x : Answer A) (v : V) → x ≡ answer.value (seen v) → Gives seen x (Ok v)
 gives seen x v is = subst (λ y. Gives seen y (Ok v)) (sym is) refl

@@ -2,9 +2,9 @@
 use Rattle.std.proofs.Common.{◌≡◌, ◌⊎◌, Option, Some, None, List, [], ◌∷◌, ◌++◌, map, append-nil, inl, inr, Result, Ok, Err, ap, sym, subst, ◌∙◌, refl}
 use Rattle.dynamo_value.specs.Fault.{Fault, out_of_memory}
 use Rattle.dynamo_value.specs.Refusal.{Refusal, Refused, refusal_in}
-use Rattle.dynamo_de.specs.Answer as answer
 use Rattle.dynamo_de.specs.Answer.{Answer, Gives}
-use Rattle.dynamo_de.specs.Promises.{Reading, answered, promised, Agrees, ◌>>=◌}
+use Rattle.dynamo_de.specs.Promises.{Reading, promised, Agrees}
+use Rattle.dynamo_value.specs.Steps.{◌>>=◌}
 use Rattle.dynamo_de.specs.ReadAttribute.{read_each}
 use Rattle.dynamo_de.specs.Reads.{Through, ReadsEach}
 use Rattle.dynamo_de.specs.Shows.{TakesElement}
@@ -12,15 +12,13 @@ use Rattle.dynamo_de.specs.Source.{Source}
 
 module _ {A V : Type 0} (seen : V → A) where
   -- what is answered with is the value
-  pub value_answered : (x : Answer A) (v : V) → Gives seen x (Ok v) → answered x ≡ Ok (seen v)
-  value_answered (answer.value y) v is = ap Ok (sym is)
-  value_answered (answer.fault f) v is = cc
-  value_answered answer.refused v is = absurd is
+  pub value_answered : (x : Answer A) (v : V) → Gives seen x (Ok v) → promised x ≡ Ok (seen v)
+  value_answered (Ok y) v is = ap Ok (sym is)
+  value_answered (Err f) v is = absurd is
 
-  pub fault_answered : (x : Answer A) (f : Fault) → Gives seen x (Err f) → Agrees seen (answered x) (Err f)
-  fault_answered (answer.value y) f is = absurd is
-  fault_answered (answer.fault g) f is = inl cc
-  fault_answered answer.refused f is = inl is
+  pub fault_answered : (x : Answer A) (f : Fault) → Gives seen x (Err f) → Agrees seen (promised x) (Err f)
+  fault_answered (Ok y) f is = absurd is
+  fault_answered (Err g) f is = inl is
 
   -- what a reading gives is the value
   pub value_read : (x : Reading A) (v : V) → Agrees seen x (Ok v) → x ≡ Ok (seen v)

@@ -6,7 +6,7 @@ use Rattle.dynamo_value.specs.Fault.{Fault, expected_map, expected_seq, expected
 use Rattle.dynamo_de.specs.Answer as answer
 use Rattle.dynamo_de.specs.Answer.{Answer}
 use Rattle.dynamo_de.specs.Scalars.{unknown_number}
-use Rattle.dynamo_de.specs.Sight.{single}
+use Rattle.dynamo_de.specs.Sight.{only_entry}
 use Rattle.dynamo_de.specs.Source.{Source, attribute, key_text, number_text, plain_text, byte_string, Entry, entries_of, values_of, each}
 
 -- `Null(true)` alone is none
@@ -67,7 +67,7 @@ or_its_fault (Err f) = answer.fault f
 -- the name and the content of a variant
 abbrev pub read_variant : Source → Answer (List ℕ × Option Source)
 read_variant (attribute (av.S t)) = answer.value (t, None)
-read_variant (attribute (av.M ms)) = or_its_fault (single ms)
+read_variant (attribute (av.M ms)) = or_its_fault (only_entry ms)
 read_variant (attribute _) = answer.fault expected_enum
 read_variant (key_text t) = answer.value (t, None)
 read_variant (number_text t) = unknown_number t

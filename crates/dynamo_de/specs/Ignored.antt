@@ -4,7 +4,8 @@ use Rattle.dynamo_value.specs.Av as av
 use Rattle.dynamo_value.specs.Av.{Av, Members, Elements}
 use Rattle.dynamo_value.specs.Fault.{failed_to_parse_float, expected_unit}
 use Rattle.dynamo_de.specs.Answer as answer
-use Rattle.dynamo_de.specs.Answer.{Answer, ◌>>=◌}
+use Rattle.dynamo_de.specs.Answer.{Answer}
+use Rattle.dynamo_value.specs.Steps.{◌>>=◌}
 use Rattle.dynamo_de.specs.Number.{is_number_text}
 use Rattle.dynamo_de.specs.Shown.{Shown}
 use Rattle.dynamo_de.specs.Sight as sight

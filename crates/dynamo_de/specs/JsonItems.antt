@@ -4,6 +4,6 @@ use Rattle.serde_json.specs.Data as json
 use Rattle.serde_json.specs.View.{view}
 use Rattle.serde_json.specs.declared.value.Value.{Value}
 
-abbrev pub before : List Value → json.Items → json.Items
-before [] rest = rest
-before (v ∷ vs) rest = json.item (view v) (before vs rest)
+abbrev pub items_before : List Value → json.Items → json.Items
+items_before [] rest = rest
+items_before (v ∷ vs) rest = json.item (view v) (items_before vs rest)

@@ -1,8 +1,7 @@
 -- Reading where it is left open which of several faults is given: a value, or what is promised of the fault.
 use Rattle.std.specs.Prelude.{◌≡◌, ◌⊎◌, List, [], ◌∷◌, Result, Ok, Err}
 use Rattle.dynamo_value.specs.Fault.{Fault}
-use Rattle.dynamo_value.specs.Refusal.{Refusal, fault, any_message, Says}
-use Rattle.dynamo_de.specs.Answer as answer
+use Rattle.dynamo_value.specs.Refusal.{Refusal, Says}
 use Rattle.dynamo_de.specs.Answer.{Answer}
 
 -- a value, or promises of which the fault keeps one
@@ -12,21 +11,10 @@ Reading A = Result A (List Refusal)
 abbrev pub refuse : {A : Type 0} → Refusal → Reading A
 refuse r = Err (r ∷ [])
 
--- One step after another: what is promised of the first fault is promised.
-infixl 10 ◌>>=◌
-abbrev pub ◌>>=◌ : {A B : Type 0} → Reading A → (A → Reading B) → Reading B
-(Ok x) >>= f = f x
-(Err rs) >>= f = Err rs
-
 -- one promise alone
-abbrev pub promised : {A : Type 0} → Result A Refusal → Reading A
+abbrev pub promised : {A : Type 0} → Answer A → Reading A
 promised (Ok x) = Ok x
 promised (Err r) = refuse r
-
-abbrev pub answered : {A : Type 0} → Answer A → Reading A
-answered (answer.value x) = Ok x
-answered (answer.fault f) = refuse (fault f)
-answered answer.refused = refuse any_message
 
 -- the fault keeps one of the promises
 abbrev pub SaysOne : List Refusal → Fault → Type 0

@@ -15,14 +15,15 @@ use Rattle.dynamo_value.specs.SingleKey.{no_key, several_keys, known}
 use Rattle.dynamo_value.specs.View.{text_cmp}
 use Rattle.dynamo_de.specs.Contents as contents
 use Rattle.dynamo_de.specs.Number.{is_number_text}
-use Rattle.dynamo_de.specs.Promises.{Reading, refuse, promised, answered, ◌>>=◌}
+use Rattle.dynamo_de.specs.Promises.{Reading, refuse, promised}
+use Rattle.dynamo_value.specs.Steps.{◌>>=◌}
 use Rattle.dynamo_de.specs.Scalars.{read_string, read_bool}
 use Rattle.dynamo_de.specs.Source.{Source, attribute, number_text, plain_text, byte_string, Entry}
 
 -- ---- what holds no attribute values
 
 abbrev pub read_text : Source → Reading (List ℕ)
-read_text s = answered (read_string s)
+read_text s = promised (read_string s)
 
 abbrev pub read_blob : Source → Reading (List ℕ)
 read_blob s = read_text s >>= λ text. promised (bytes_of_base64 text)
@@ -36,10 +37,10 @@ read_each f (x ∷ xs) = do
   Ok (y ∷ ys)
 
 abbrev pub read_texts : Source → Reading (List (List ℕ))
-read_texts s = answered (contents.read_elements s) >>= read_each read_text
+read_texts s = promised (contents.read_elements s) >>= read_each read_text
 
 abbrev pub read_blobs : Source → Reading (List (List ℕ))
-read_blobs s = answered (contents.read_elements s) >>= read_each read_blob
+read_blobs s = promised (contents.read_elements s) >>= read_each read_blob
 
 -- A text, a number and a byte string that stand inside of an attribute value show no map.
 abbrev pub no_map : Source → Refusal
@@ -75,9 +76,9 @@ abbrev mutual
   pub read_content : Prefix → Av → Reading Av
   read_content prefix.N a = read_text (attribute a) >>= λ text. Ok (av.N text)
   read_content prefix.S a = read_text (attribute a) >>= λ text. Ok (av.S text)
-  read_content prefix.Bool a = answered (read_bool (attribute a)) >>= λ b. Ok (av.Boolean b)
+  read_content prefix.Bool a = promised (read_bool (attribute a)) >>= λ b. Ok (av.Boolean b)
   read_content prefix.B a = read_blob (attribute a) >>= λ bytes. Ok (av.B bytes)
-  read_content prefix.Null a = answered (read_bool (attribute a)) >>= λ b. Ok (av.Null b)
+  read_content prefix.Null a = promised (read_bool (attribute a)) >>= λ b. Ok (av.Null b)
   read_content prefix.M (av.M ms) = read_members [] ms >>= λ members. Ok (av.M members)
   read_content prefix.M _ = refuse (fault expected_map)
   read_content prefix.L (av.L as') = read_elements as' >>= λ elements. Ok (av.L elements)
@@ -140,11 +141,11 @@ read_entries so_far (e ∷ es) = do
 abbrev pub content_from : Prefix → Source → Reading Av
 content_from prefix.N s = read_text s >>= λ text. Ok (av.N text)
 content_from prefix.S s = read_text s >>= λ text. Ok (av.S text)
-content_from prefix.Bool s = answered (read_bool s) >>= λ b. Ok (av.Boolean b)
+content_from prefix.Bool s = promised (read_bool s) >>= λ b. Ok (av.Boolean b)
 content_from prefix.B s = read_blob s >>= λ bytes. Ok (av.B bytes)
-content_from prefix.Null s = answered (read_bool s) >>= λ b. Ok (av.Null b)
-content_from prefix.M s = answered (contents.read_entries s) >>= λ es. read_entries [] es >>= λ members. Ok (av.M members)
-content_from prefix.L s = answered (contents.read_elements s) >>= λ ss. read_each attribute_from ss >>= λ values. Ok (av.L (elements_of values))
+content_from prefix.Null s = promised (read_bool s) >>= λ b. Ok (av.Null b)
+content_from prefix.M s = promised (contents.read_entries s) >>= λ es. read_entries [] es >>= λ members. Ok (av.M members)
+content_from prefix.L s = promised (contents.read_elements s) >>= λ ss. read_each attribute_from ss >>= λ values. Ok (av.L (elements_of values))
 content_from prefix.Ss s = read_texts s >>= λ texts. Ok (av.Ss texts)
 content_from prefix.Ns s = read_texts s >>= λ texts. Ok (av.Ns texts)
 content_from prefix.Bs s = read_blobs s >>= λ blobs. Ok (av.Bs blobs)

@@ -11,7 +11,8 @@ use Rattle.dynamo_value.specs.Av.{Av}
 use Rattle.dynamo_value.specs.Fault.{failed_to_parse_float, expected_unit}
 use Rattle.dynamo_value.specs.Integer.{IntegerKind, i64, i128, u64, u128}
 use Rattle.dynamo_de.specs.Answer as answer
-use Rattle.dynamo_de.specs.Answer.{Answer, ◌>>=◌}
+use Rattle.dynamo_de.specs.Answer.{Answer}
+use Rattle.dynamo_value.specs.Steps.{◌>>=◌}
 use Rattle.dynamo_de.specs.Number.{parse, is_float_text}
 use Rattle.dynamo_de.specs.Shown.{Shown}
 use Rattle.dynamo_de.specs.Sight as sight

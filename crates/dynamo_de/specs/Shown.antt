@@ -6,7 +6,7 @@ use Rattle.dynamo_value.specs.Fault.{Fault, expected_string, expected_map, expec
 use Rattle.dynamo_value.specs.Integer.{IntegerKind, i8, i16, i32, i64, i128, u8, u16, u32, u64, u128}
 use Rattle.dynamo_de.specs.Number.{parse, is_float_text}
 use Rattle.dynamo_de.specs.Sight as sight
-use Rattle.dynamo_de.specs.Sight.{Sight, single}
+use Rattle.dynamo_de.specs.Sight.{Sight, only_entry}
 use Rattle.dynamo_de.specs.Source.{Source, attribute, key_text, number_text, plain_text, byte_string, entries_of, values_of, each}
 use Rattle.dynamo_de.specs.declared.request.Request.{Request}
 use Rattle.dynamo_de.specs.declared.request.Request.TheVariants.{Any, Bool as AskBool, I8, I16, I32, I64, I128, U8, U16, U32, U64, U128, Char, Str, String, Bytes, ByteBuf, Option, Unit, UnitStruct, NewtypeStruct, Seq, Tuple, TupleStruct, Map, Struct, Enum, Identifier, IgnoredAny}
@@ -111,7 +111,7 @@ named t = sight.variant (Ok (t, Nothing))
 
 abbrev pub enum_shown : Av → Shown
 enum_shown (av.S t) = Ok (named t)
-enum_shown (av.M ms) = Ok (sight.variant (single ms))
+enum_shown (av.M ms) = Ok (sight.variant (only_entry ms))
 enum_shown _ = Err expected_enum
 
 abbrev pub attribute_shown : Request → Av → Shown

@@ -25,7 +25,7 @@ pub data Sight : Type 0 where
   variant : Result (List ℕ × Option Source) Fault → Sight
 
 -- the variant whose name is the one key of a map, and whose content is the value
-abbrev pub single : Members → Result (List ℕ × Option Source) Fault
-single av.no_members = Err expected_single_key
-single (av.member k a av.no_members) = Ok (k, Some (attribute a))
-single (av.member k a (av.member _ _ _)) = Err expected_single_key
+abbrev pub only_entry : Members → Result (List ℕ × Option Source) Fault
+only_entry av.no_members = Err expected_single_key
+only_entry (av.member k a av.no_members) = Ok (k, Some (attribute a))
+only_entry (av.member k a (av.member _ _ _)) = Err expected_single_key

@@ -3,7 +3,8 @@ use Rattle.std.specs.Prelude.{◌≡◌, ◌⊎◌, ℕ, ℤ, Bool, true, false,
 use Rattle.std.specs.Char.{encode_utf8}
 use Rattle.dynamo_value.specs.Fault.{Fault, expected_char}
 use Rattle.dynamo_value.specs.Integer.{IntegerKind, i8, i16, i32, i64, i128, u8, u16, u32, u64, u128}
-use Rattle.dynamo_de.specs.Meets.{IsMessage, Meets}
+use Rattle.dynamo_value.specs.Refusal as refusal
+use Rattle.dynamo_de.specs.Meets.{Fails, IsMessage, Meets}
 use Rattle.dynamo_de.specs.Shown.{Shown, shown}
 use Rattle.dynamo_de.specs.Sight as sight
 use Rattle.dynamo_de.specs.Sight.{Sight}
@@ -64,9 +65,9 @@ Takes claimed takes (sight.entries es) r = Claims claimed takes kind.Map (sight.
 Takes claimed takes (sight.variant v) r = Claims claimed takes kind.Enum (sight.variant v) r
 
 -- a visitor's answer to what is shown, or the fault that comes in its place
-abbrev pub Answers : {V : Type 0} → (Sight → Result V Fault → Type 0) → Shown → Result V Fault → Type 0
-Answers takes (Ok s) r = takes s r
-Answers takes (Err f) r = r ≡ Err f
+abbrev pub Visited : {V : Type 0} → (Sight → Result V Fault → Type 0) → Shown → Result V Fault → Type 0
+Visited takes (Ok s) r = takes s r
+Visited takes (Err f) r = Fails (refusal.fault f) r
 
 -- a visit with a sight
 abbrev pub Visits : {V E : Type 0} → (E → Fault) → (Kind → Bool) → (Sight → Result V Fault → Type 0) → Sight → Result V E → Type 0
@@ -74,4 +75,4 @@ Visits fault claimed takes s r = Meets fault (Takes claimed takes s) r
 
 -- a request of a source, with a visitor
 abbrev pub Asks : {V E : Type 0} → (E → Fault) → (Kind → Bool) → (Sight → Result V Fault → Type 0) → Request → Source → Result V E → Type 0
-Asks fault claimed takes request s r = Meets fault (Answers (Takes claimed takes) (shown request s)) r
+Asks fault claimed takes request s r = Meets fault (Visited (Takes claimed takes) (shown request s)) r

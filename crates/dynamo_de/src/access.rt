@@ -5,7 +5,7 @@ ghost use Rattle.dynamo_de.specs.Meets.{Meets};
 ghost use Rattle.dynamo_de.specs.Shown.{shown};
 ghost use Rattle.dynamo_de.specs.Shows.{IsReaderOf};
 ghost use Rattle.dynamo_de.specs.Source.{Source, Entry};
-ghost use Rattle.dynamo_de.specs.Takes.{Takes, Answers};
+ghost use Rattle.dynamo_de.specs.Takes.{Takes, Visited};
 ghost use Rattle.dynamo_de.specs.declared.request.Request.TheVariants as request;
 
 use crate::{Deserialize, DeserializeSeed, Deserializer, Error, Reader, TypeSeed, Visitor};
@@ -178,7 +178,7 @@ pub trait VariantAccess: Sized + Drop {
         _len: usize,
         visitor: V,
     ) -> Result<V::Value, Self::Error>
-        ensures { Meets Self.Error.fault (OfContent (λ s r. Answers (Takes (V.claimed visitor) (V.takes visitor)) (shown request.Seq s) r) (content self)) result }
+        ensures { Meets Self.Error.fault (OfContent (λ s r. Visited (Takes (V.claimed visitor) (V.takes visitor)) (shown request.Seq s) r) (content self)) result }
     {
         self.reader()?.deserialize_seq(visitor)
     }
@@ -189,7 +189,7 @@ pub trait VariantAccess: Sized + Drop {
         _fields: &'static [&'static str],
         visitor: V,
     ) -> Result<V::Value, Self::Error>
-        ensures { Meets Self.Error.fault (OfContent (λ s r. Answers (Takes (V.claimed visitor) (V.takes visitor)) (shown request.Map s) r) (content self)) result }
+        ensures { Meets Self.Error.fault (OfContent (λ s r. Visited (Takes (V.claimed visitor) (V.takes visitor)) (shown request.Map s) r) (content self)) result }
     {
         self.reader()?.deserialize_map(visitor)
     }

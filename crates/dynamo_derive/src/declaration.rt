@@ -30,6 +30,9 @@ pub enum Body {
     /// A struct of one field without a name, by the text of its type.
     Newtype(String),
 
+    /// A struct of several fields without names, by the texts of their types.
+    Tuple(Vec<String>),
+
     /// A struct without a body.
     Unit,
 
@@ -41,11 +44,11 @@ pub enum Body {
 }
 
 impl Declaration {
-    /// What the lists of its named fields are called by: the struct, or the variants that have such fields.
+    /// What the lists of its fields are called by: the struct, or the variants whose fields have names.
     pub fn lists(&self, alloc: Global) -> Result<Vec<&str>, AllocError> {
         let mut names = Vec::new(alloc);
         match &self.body {
-            Body::Record(_) => names.push(self.name.as_str())?,
+            Body::Record(_) | Body::Tuple(_) => names.push(self.name.as_str())?,
             Body::Choices(variants) => {
                 for variant in variants {
                     if let Contents::Named(_) = variant.contents {

@@ -11,6 +11,7 @@ const WIDTH: usize = 98;
 #[derive(Clone, Copy, Default)]
 pub struct Mentions {
     pub records: bool,
+    pub tuples: bool,
     pub units: bool,
     pub unit_keys: bool,
     pub newtypes: bool,
@@ -39,6 +40,7 @@ pub fn mentioned(declarations: &[Declaration]) -> Mentions {
                 found.records = true;
                 found.mention_fields(fields);
             }
+            Body::Tuple(_) => found.tuples = true,
             Body::Newtype(_) => {
                 found.newtypes = true;
                 found.newtype_keys = found.newtype_keys || (declaration.is_key && !is_generic);
@@ -111,6 +113,7 @@ pub fn print_ghost_imports(
     let records = records.map(|name| (name, found.records));
     print_ghost(alloc, out, "dynamo_record.specs.Records", &records)?;
     print_newtype_imports(alloc, out, found)?;
+    print_tuple_imports(alloc, out, found)?;
     print_unit_imports(alloc, out, found)?;
     let choices = ["enum_of", "enum_tells", "enum_reads", "about_enum"];
     let choices = choices.map(|name| (name, found.choices));
@@ -136,6 +139,22 @@ fn print_newtype_imports(
         ("unit_struct_reads", found.unit_structs),
     ];
     print_ghost(alloc, out, "dynamo_record.specs.Newtypes", &newtypes)
+}
+
+fn print_tuple_imports(
+    alloc: Global,
+    out: &mut String,
+    found: &Mentions,
+) -> Result<(), AllocError> {
+    let tuples = [
+        "about_tuple_struct",
+        "tuple_struct_by_shape",
+        "tuple_struct_of",
+        "tuple_struct_reads",
+        "tuple_struct_tells",
+    ];
+    let tuples = tuples.map(|name| (name, found.tuples));
+    print_ghost(alloc, out, "dynamo_record.specs.TupleStructs", &tuples)
 }
 
 fn print_unit_imports(alloc: Global, out: &mut String, found: &Mentions) -> Result<(), AllocError> {
@@ -199,13 +218,13 @@ fn print_record_imports(
 }
 
 // The types and the traits of `dynamo_record`, and whether they are mentioned.
-fn record_types(found: &Mentions) -> [(&'static str, bool); 16] {
-    let lists = found.records || found.several || found.named;
+fn record_types(found: &Mentions) -> [(&'static str, bool); 17] {
+    let lists = found.records || found.tuples || found.several || found.named;
     [
         ("Choice", found.branches),
         ("Enumeration", found.choices),
         ("Field", lists),
-        ("FieldList", found.records),
+        ("FieldList", found.records || found.tuples),
         ("InBinarySet", found.binaries),
         ("InNumberSet", found.numbers),
         ("InStringSet", found.strings),
@@ -215,6 +234,7 @@ fn record_types(found: &Mentions) -> [(&'static str, bool); 16] {
         ("One", found.one),
         ("Record", found.records),
         ("Several", found.several),
+        ("TupleStruct", found.tuples),
         ("UnitEnum", found.units),
         ("VariantList", found.choices),
         ("WithDefault", found.defaults),
@@ -222,7 +242,7 @@ fn record_types(found: &Mentions) -> [(&'static str, bool); 16] {
 }
 
 // Its functions, and whether they are mentioned.
-fn record_functions(found: &Mentions) -> [(&'static str, bool); 19] {
+fn record_functions(found: &Mentions) -> [(&'static str, bool); 22] {
     [
         ("conform_unit_enum", found.units),
         ("named_conform", found.named),
@@ -230,10 +250,12 @@ fn record_functions(found: &Mentions) -> [(&'static str, bool); 19] {
         ("read_enum", found.choices),
         ("read_newtype", found.newtypes),
         ("read_record", found.records),
+        ("read_tuple_struct", found.tuples),
         ("read_unit_enum", found.units),
         ("read_unit_struct", found.unit_structs),
         ("record_conforms", found.records),
         ("several_conform", found.several),
+        ("tuple_struct_conforms", found.tuples),
         ("unit_conforms", found.nothing),
         ("variant_at", found.units),
         ("write_newtype", found.newtypes),
@@ -241,6 +263,7 @@ fn record_functions(found: &Mentions) -> [(&'static str, bool); 19] {
         ("write_record", found.records),
         ("write_several", found.several),
         ("write_struct", found.named),
+        ("write_tuple_struct", found.tuples),
         ("write_unit", found.nothing),
         ("write_unit_enum", found.units),
     ]

@@ -147,7 +147,7 @@ fn unnamed_body(
     };
     let mut types = unnamed_fields(alloc, inside, line)?;
     if types.len() > 1 {
-        return Err(Failure::Refused(line, Reason::TupleStruct));
+        return Ok(Body::Tuple(types));
     }
     let Some(of) = types.pop() else {
         return Err(Failure::Refused(line, Reason::NoFields));

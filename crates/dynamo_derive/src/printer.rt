@@ -1,7 +1,9 @@
 pub mod choices;
+pub mod fields;
 pub mod newtype;
 pub mod record;
 pub mod shared;
+pub mod tuple_struct;
 pub mod unit_enum;
 pub mod unit_struct;
 
@@ -20,6 +22,7 @@ pub fn print_impls(
     match &declaration.body {
         Body::Record(fields) => record::print_record(alloc, out, &about, fields),
         Body::Newtype(of) => newtype::print_newtype(alloc, out, &about, of),
+        Body::Tuple(types) => tuple_struct::print_tuple_struct(alloc, out, &about, types),
         Body::Unit => unit_struct::print_unit(alloc, out, &about),
         Body::Units(variants) => unit_enum::print_units(alloc, out, &about, variants, alias),
         Body::Choices(variants) => choices::print_choices(alloc, out, &about, variants, alias),

@@ -59,6 +59,15 @@ pub fn letters(alloc: Global, count: usize) -> Result<Vec<String>, AllocError> {
     Ok(found)
 }
 
+/// What so many fields without names are called in a value: by their places, from 0 on.
+pub fn places(alloc: Global, count: usize) -> Result<Vec<String>, AllocError> {
+    let mut found = Vec::new(alloc);
+    for place in 0..count {
+        found.push(format!(in alloc; "{place}")?)?;
+    }
+    Ok(found)
+}
+
 /// The names of the fields.
 pub fn names(alloc: Global, fields: &[Field]) -> Result<Vec<String>, AllocError> {
     let mut found = Vec::new(alloc);

@@ -9,7 +9,8 @@ use Rattle.serde_json.specs.Data.{Data}
 use Rattle.serde_json.specs.Find.{of_integer}
 use Rattle.dynamo_value.specs.Av as av
 use Rattle.dynamo_value.specs.Av.{Av}
-use Rattle.dynamo_value.specs.Fault.{Fault, ◌>>=◌}
+use Rattle.dynamo_value.specs.Fault.{Fault}
+use Rattle.dynamo_value.specs.Steps.{◌>>=◌}
 use Rattle.dynamo_value.specs.Integer.{IntegerKind, i8, i16, i32, i64, i128, u8, u16, u32, u64, u128}
 use Rattle.dynamo_ser.specs.Datum as datum
 use Rattle.dynamo_ser.specs.Datum.{Datum}
@@ -19,9 +20,9 @@ use Rattle.dynamo_ser.specs.Symbols.{SetKind}
 use Rattle.dynamo_de.specs.Number.{fits, value_bits, is_signed}
 use Rattle.dynamo_write.specs.Collect.{collect}
 use Rattle.dynamo_write.specs.Set.{named}
-use Rattle.dynamo_write.specs.Written.{written_elements, written_pairs, written_fields, map_of_entries, single as single_map}
+use Rattle.dynamo_write.specs.Written.{written_elements, written_pairs, written_fields, map_of_entries, one_member as single_map}
 use Rattle.dynamo_write.proofs.Collected.{Alike, collect_alike, collect_twice}
-use Rattle.dynamo_json.specs.Plain.{in_64_bits, members_of, object_of_entries, single, plain_elements, plain_pairs, plain_fields}
+use Rattle.dynamo_json.specs.Plain.{in_64_bits, members_of, object_of_entries, one_member, plain_elements, plain_pairs, plain_fields}
 use Rattle.dynamo_json.specs.Square.{SquareInteger, InSquare, ElementsInSquare, PairsInSquare, FieldsInSquare, AgreeBy, WritesAs, IsSquare}
 
 -- ---- steps
@@ -52,7 +53,7 @@ number_writes : (z : ℤ) → WritesAs (json.number (of_integer z)) (av.N (signe
 number_writes (pos n) = refl
 number_writes (negsuc n) = refl
 
-single_writes : (name : List ℕ) (j : Data) (a : Av) → WritesAs j a → WritesAs (single name j) (single_map name a)
+single_writes : (name : List ℕ) (j : Data) (a : Av) → WritesAs j a → WritesAs (one_member name j) (single_map name a)
 single_writes name j a h = rw h refl
 
 array_writes : (js : json.Items) (as' : av.Elements) → ItemsWriteAs js as' → WritesAs (json.array js) (av.L as')

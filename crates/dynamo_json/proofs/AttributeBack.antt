@@ -21,7 +21,7 @@ use Rattle.dynamo_ser.specs.JsonValue.{json_datum, json_elements, json_pairs}
 use Rattle.dynamo_de.specs.ReadAttribute.{read_each, read_text, read_blob, read_attribute, read_elements, read_members}
 use Rattle.dynamo_de.specs.Source.{values_of}
 use Rattle.dynamo_write.specs.Collect.{collect, collect_onto}
-use Rattle.dynamo_write.specs.Written.{single, written, written_elements, written_pairs}
+use Rattle.dynamo_write.specs.Written.{one_member, written, written_elements, written_pairs}
 use Rattle.dynamo_write.proofs.Collected.{Alike, sorted_alike, collect-sorted}
 use Rattle.dynamo_json.specs.AttributeBack.{EachDatumBack, EachItemDatumBack}
 use Rattle.dynamo_ser.specs.Without.{Without}
@@ -42,7 +42,7 @@ text_elements [] = av.no_elements
 text_elements (t ∷ ts) = av.element (av.S t) (text_elements ts)
 
 abbrev under : Prefix → Av → Av
-under p content = single (prefix_text p) content
+under p content = one_member (prefix_text p) content
 
 mutual
   form : Av → Av

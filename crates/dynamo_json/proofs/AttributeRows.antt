@@ -11,7 +11,7 @@ use Rattle.dynamo_ser.specs.AttributeDatum.{under}
 use Rattle.dynamo_ser.specs.Datum as datum
 use Rattle.dynamo_ser.specs.Datum.{Datum}
 use Rattle.dynamo_de.specs.ReadAttribute.{read_attribute, read_item}
-use Rattle.dynamo_write.specs.Written.{single, written}
+use Rattle.dynamo_write.specs.Written.{one_member, written}
 use Rattle.dynamo_json.specs.AttributeTells.{strings, Tells, ItemTells}
 use Rattle.dynamo_json.specs.Json.{json_of, item_json}
 use Rattle.dynamo_json.specs.Plain.{plain}
@@ -24,13 +24,13 @@ abbrev one : List ℕ → Data → Data
 one key content = json.object (json.member key content json.no_members)
 
 -- null keeps its flag
-null : Row (av.Null false) (under prefix.Null (datum.boolean false)) (single (codes "NULL") (av.Boolean false)) (one (codes "NULL") (json.boolean false))
+null : Row (av.Null false) (under prefix.Null (datum.boolean false)) (one_member (codes "NULL") (av.Boolean false)) (one (codes "NULL") (json.boolean false))
 null = (refl, refl, refl, refl, refl)
 
-empty_set : Row (av.Ss []) (under prefix.Ss (datum.seq (strings []))) (single (codes "SS") (av.L av.no_elements)) (one (codes "SS") (json.array json.no_items))
+empty_set : Row (av.Ss []) (under prefix.Ss (datum.seq (strings []))) (one_member (codes "SS") (av.L av.no_elements)) (one (codes "SS") (json.array json.no_items))
 empty_set = (refl, refl, refl, refl, refl)
 
-bytes : Row (av.B (1 ∷ 2 ∷ [])) (under prefix.B (datum.string (codes "AQI="))) (single (codes "B") (av.S (codes "AQI="))) (one (codes "B") (json.string (codes "AQI=")))
+bytes : Row (av.B (1 ∷ 2 ∷ [])) (under prefix.B (datum.string (codes "AQI="))) (one_member (codes "B") (av.S (codes "AQI="))) (one (codes "B") (json.string (codes "AQI=")))
 unfolding base64_on_literals
 bytes = (refl, refl, refl, refl, refl)
 
@@ -43,11 +43,11 @@ abbrev number : List ℕ → Datum
 number text = under prefix.N (datum.string text)
 
 abbrev number_form : List ℕ → Av
-number_form text = single (codes "N") (av.S text)
+number_form text = one_member (codes "N") (av.S text)
 
 item : ItemRow (av.member (codes "a") (av.N (codes "1")) av.no_members)
     (datum.map (datum.pair (datum.string (codes "a")) (number (codes "1")) datum.no_pairs))
-    (single (codes "a") (number_form (codes "1")))
+    (one_member (codes "a") (number_form (codes "1")))
     (one (codes "a") (one (codes "N") (json.string (codes "1"))))
 item = ((_, refl, (_, _, inl (refl, refl, refl), refl, refl)), refl, refl, refl, refl)
 

@@ -4,13 +4,14 @@ use Rattle.serde_json.specs.Data as json
 use Rattle.serde_json.specs.Data.{Data}
 use Rattle.serde_json.specs.View.{view}
 use Rattle.serde_json.specs.declared.value.Value.{Value}
-use Rattle.dynamo_value.specs.Fault.{Fault, out_of_memory, ◌>>=◌}
+use Rattle.dynamo_value.specs.Fault.{Fault, out_of_memory}
+use Rattle.dynamo_value.specs.Steps.{◌>>=◌}
 use Rattle.dynamo_value.specs.Kind.{fault_of}
 use Rattle.dynamo_value.specs.declared.error.Error.{Error}
 use Rattle.dynamo_ser.specs.Datum as datum
 use Rattle.dynamo_ser.specs.Datum.{Datum}
 use Rattle.dynamo_ser.specs.Key.{key_text}
-use Rattle.dynamo_de.specs.JsonItems.{before}
+use Rattle.dynamo_de.specs.JsonItems.{items_before}
 use Rattle.dynamo_de.proofs.Json.{before-push}
 use Rattle.dynamo_json.specs.Plain.{plain, plain_elements, plain_pairs, plain_fields, object_of_entries}
 use Rattle.dynamo_json.specs.PlainAnswers.{AnswersPart, GivesArray, GivesObject, GivesFields}
@@ -18,7 +19,7 @@ use Rattle.dynamo_json.specs.PlainAnswers.{AnswersPart, GivesArray, GivesObject,
 -- ---- arrays
 
 one_more_value : (vs : List Value) (v : Value) (whole : json.Items → Data) (x : Result json.Items Fault)
-    → (x >>= λ rest. Ok (whole (before (vs ++ v ∷ []) rest))) ≡ (x >>= λ rest. Ok (json.item (view v) rest)) >>= (λ rest. Ok (whole (before vs rest)))
+    → (x >>= λ rest. Ok (whole (items_before (vs ++ v ∷ []) rest))) ≡ (x >>= λ rest. Ok (json.item (view v) rest)) >>= (λ rest. Ok (whole (items_before vs rest)))
 one_more_value vs v whole (Ok rest) = ap (λ js. Ok (whole js)) (before-push vs v rest)
 one_more_value vs v whole (Err e) = refl
 

@@ -2,7 +2,8 @@
 use Rattle.std.proofs.Common.{◌≡◌, ℕ, ◌+◌, ◌<◌, ◌≤◌, List, [], ◌∷◌, ◌++◌, length, take, drop, get_or, map, Result, Ok, Err, refl, sym, ap, ◌∙◌, subst, inl, inr}
 use Rattle.std.proofs.lemmas.List.{take-append-drop, take_more, take_all, drop_more}
 use Rattle.dynamo_value.specs.Fault.{Fault}
-use Rattle.dynamo_value.specs.Refusal.{Refusal, Refused, refusal_in, ◌>>=◌}
+use Rattle.dynamo_value.specs.Refusal.{Refusal, Refused, refusal_in}
+use Rattle.dynamo_value.specs.Steps.{◌>>=◌}
 
 -- a fault of one step is one of a larger step that hands its refusals on
 pub refused_as : {A B : Type 0} (r : Result A Refusal) (s : Result B Refusal) (f : Fault) → ((x : Refusal) → r ≡ Err x → s ≡ Err x)

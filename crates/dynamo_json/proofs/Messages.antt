@@ -8,7 +8,8 @@ use Rattle.serde_json.specs.Data.{Data}
 use Rattle.dynamo_value.specs.Base64.{bytes_of_base64, not_base64}
 use Rattle.dynamo_value.specs.Prefix as prefix
 use Rattle.dynamo_value.specs.Prefix.{Prefix, prefix_of}
-use Rattle.dynamo_value.specs.Refusal.{Refusal, or_refuse, ◌>>=◌}
+use Rattle.dynamo_value.specs.Refusal.{Refusal, or_refuse}
+use Rattle.dynamo_value.specs.Steps.{◌>>=◌}
 use Rattle.dynamo_json.specs.Laws.{SaysMessage, RefusesByMessage, RefusesItemsByMessage}
 use Rattle.dynamo_json.specs.Parsed.{unknown_key, known, each_in, string_in, blob_in, parsed, parsed_content, parsed_elements, parsed_members}
 

@@ -8,15 +8,16 @@ use Rattle.serde_json.specs.Find.{of_integer}
 use Rattle.serde_json.specs.View.{items_of}
 use Rattle.dynamo_value.specs.Av as av
 use Rattle.dynamo_value.specs.Av.{Av}
-use Rattle.dynamo_value.specs.Fault.{Fault, ◌>>=◌}
+use Rattle.dynamo_value.specs.Fault.{Fault}
+use Rattle.dynamo_value.specs.Steps.{◌>>=◌}
 use Rattle.dynamo_ser.specs.Datum as datum
 use Rattle.dynamo_ser.specs.Datum.{Datum}
 use Rattle.dynamo_ser.specs.JsonValue.{json_elements, json_pairs}
 use Rattle.dynamo_ser.specs.Key.{key_text}
 use Rattle.dynamo_write.specs.Collect.{collect}
-use Rattle.dynamo_write.specs.Written.{written_elements, written_pairs, map_of_entries, single as single_map}
+use Rattle.dynamo_write.specs.Written.{written_elements, written_pairs, map_of_entries, one_member as single_map}
 use Rattle.dynamo_write.proofs.Collected.{EachValue, collect_each}
-use Rattle.dynamo_json.specs.Plain.{in_64_bits, byte_number, members_of, object_of_entries, single, plain, plain_elements, plain_pairs, plain_fields}
+use Rattle.dynamo_json.specs.Plain.{in_64_bits, byte_number, members_of, object_of_entries, one_member, plain, plain_elements, plain_pairs, plain_fields}
 use Rattle.dynamo_json.specs.Square.{IsWritten}
 
 abbrev AreWritten : json.Items → Type 0
@@ -36,7 +37,7 @@ object_written es h = let t = members_written (collect es) (collect_each IsWritt
 array_written : (js : json.Items) → AreWritten js → IsWritten (json.array js)
 array_written js h = (av.L h.0, rw h.1 refl)
 
-single_written : (name : List ℕ) (j : Data) → IsWritten j → IsWritten (single name j)
+single_written : (name : List ℕ) (j : Data) → IsWritten j → IsWritten (one_member name j)
 single_written name j h = (single_map name h.0, rw h.1 refl)
 
 bytes_written : (bytes : List ℕ) → AreWritten (items_of (map byte_number bytes))

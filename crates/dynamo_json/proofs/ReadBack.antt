@@ -19,7 +19,7 @@ use Rattle.dynamo_value.specs.Prefix as prefix
 use Rattle.dynamo_value.specs.Prefix.{Prefix, prefix_text, prefixes, prefix_of, prefix_among}
 use Rattle.dynamo_value.specs.Refusal.{or_refuse}
 use Rattle.dynamo_json.specs.Json.{json_of, elements_json, members_json, item_json, under}
-use Rattle.dynamo_json.specs.Laws.{ReadsExactly, StandsForOne, ReadsItemsExactly, StandsForOneItem}
+use Rattle.dynamo_json.specs.Laws.{ReadsItsJson, StandsForOne, ReadsItemsExactly, StandsForOneItem}
 use Rattle.dynamo_json.specs.Parsed.{unknown_key, known, each_in, string_in, blob_in, parsed, parsed_content, parsed_elements, parsed_members, parsed_item}
 use Rattle.dynamo_json.specs.Texts.{HasTexts, ItemsHaveTexts, MembersHaveTexts}
 use Rattle.dynamo_json.proofs.Results.{the_same, no_value, bound, was_some, was_ok}
@@ -150,7 +150,7 @@ pub item_is : (j : Data) (ms : av.Members) → HasTexts j → parsed_item j ≡ 
 item_is (json.object js) ms k h = ap json.object (members_are js ms k h)
 item_is _ ms k h = absurd (no_value h)
 
-pub reads_exactly : ReadsExactly
+pub reads_exactly : ReadsItsJson
 reads_exactly a j h k = (value_is j a k, λ e. ap parsed e ∙ value_back a h)
 
 pub reads_items_exactly : ReadsItemsExactly

@@ -18,7 +18,8 @@ use Rattle.serde_json.proofs.Views.{Entry, view-Object}
 use Rattle.dynamo_value.specs.Av.{Av, element, elements_of, member, members_of}
 use Rattle.dynamo_value.specs.Fault.{Fault}
 use Rattle.dynamo_value.specs.Prefix.{Prefix, prefix_of, M, L}
-use Rattle.dynamo_value.specs.Refusal.{Refusal, Refused, refusal_in, ◌>>=◌}
+use Rattle.dynamo_value.specs.Refusal.{Refusal, Refused, refusal_in}
+use Rattle.dynamo_value.specs.Steps.{◌>>=◌}
 use Rattle.dynamo_value.specs.View.{text_cmp}
 use Rattle.dynamo_json.specs.Parsed.{parsed, parsed_content, parsed_elements, parsed_members, each_in}
 use Rattle.dynamo_json.proofs.Each.{each, refused_as}

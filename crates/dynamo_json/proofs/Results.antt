@@ -4,7 +4,8 @@ use Rattle.std.specs.Prelude.{is_ok}
 use Rattle.std.specs.Result.{result_ok, result_unwrap_or}
 use Rattle.std.proofs.lemmas.Bool.{true≢false}
 use Rattle.std.proofs.lemmas.Option.{none-some, same_Some}
-use Rattle.dynamo_value.specs.Refusal.{Refusal, or_refuse, ◌>>=◌}
+use Rattle.dynamo_value.specs.Refusal.{Refusal, or_refuse}
+use Rattle.dynamo_value.specs.Steps.{◌>>=◌}
 
 pub the_same : {A E : Type 0} {x y : A} → ◌≡◌ {A = Result A E} (Ok x) (Ok y) → x ≡ y
 the_same {x = x} e = ap (λ r. result_unwrap_or r x) e

@@ -6,8 +6,8 @@ use Rattle.serde_json.specs.Data.{Data}
 use Rattle.serde_json.specs.View.{view}
 use Rattle.serde_json.specs.declared.value.Value.{Value}
 
-abbrev pub entries_of : List (String Global × Value) → List (List ℕ × Data)
-entries_of es = map (λ e. (string_bytes e.0, view e.1)) es
+abbrev pub held_members : List (String Global × Value) → List (List ℕ × Data)
+held_members es = map (λ e. (string_bytes e.0, view e.1)) es
 
 abbrev pub fields_of : List (Bor (List ℕ) × Value) → List (List ℕ × Data)
 fields_of fs = map (λ e. (e.0.now, view e.1)) fs

@@ -17,8 +17,8 @@ abbrev pub SaysMessage : Refusal → Type 0
 SaysMessage r = (f : Fault) → Says r f → (text : List ℕ) × (f ≡ message text)
 
 -- A JSON value is read as an attribute value exactly where it is the JSON value of it.
-abbrev pub ReadsExactly : Type 0
-ReadsExactly = (a : Av) (j : Data) → HasBytes a → HasTexts j → (parsed j ≡ Ok a) ↔ (j ≡ json_of a)
+abbrev pub ReadsItsJson : Type 0
+ReadsItsJson = (a : Av) (j : Data) → HasBytes a → HasTexts j → (parsed j ≡ Ok a) ↔ (j ≡ json_of a)
 
 -- What that asks of a JSON value holds of each in a program.
 abbrev pub HoldsTexts : Type 0

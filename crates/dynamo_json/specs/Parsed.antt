@@ -8,7 +8,8 @@ use Rattle.dynamo_value.specs.Av.{Av}
 use Rattle.dynamo_value.specs.Base64.{bytes_of_base64}
 use Rattle.dynamo_value.specs.Prefix as prefix
 use Rattle.dynamo_value.specs.Prefix.{Prefix}
-use Rattle.dynamo_value.specs.Refusal.{Refusal, any_message, ◌>>=◌}
+use Rattle.dynamo_value.specs.Refusal.{Refusal, any_message}
+use Rattle.dynamo_value.specs.Steps.{◌>>=◌}
 pub use Rattle.dynamo_value.specs.SingleKey.{not_an_object, no_key, several_keys, unknown_key, known}
 
 abbrev pub string_in : Data → Result (List ℕ) Refusal

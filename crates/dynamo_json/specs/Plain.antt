@@ -7,7 +7,8 @@ use Rattle.serde_json.specs.Data as json
 use Rattle.serde_json.specs.Data.{Data}
 use Rattle.serde_json.specs.Find.{of_integer}
 use Rattle.serde_json.specs.View.{items_of}
-use Rattle.dynamo_value.specs.Fault.{Fault, message, ◌>>=◌}
+use Rattle.dynamo_value.specs.Fault.{Fault, message}
+use Rattle.dynamo_value.specs.Steps.{◌>>=◌}
 use Rattle.dynamo_ser.specs.Datum as datum
 use Rattle.dynamo_ser.specs.Datum.{Datum}
 use Rattle.dynamo_ser.specs.Key.{key_text}
@@ -33,8 +34,8 @@ abbrev pub object_of_entries : List (List ℕ × Data) → Data
 object_of_entries es = json.object (members_of (collect es))
 
 -- the object of one member
-abbrev pub single : List ℕ → Data → Data
-single name j = json.object (json.member name j json.no_members)
+abbrev pub one_member : List ℕ → Data → Data
+one_member name j = json.object (json.member name j json.no_members)
 
 abbrev mutual
   pub plain : Datum → Result Data Fault
@@ -49,14 +50,14 @@ abbrev mutual
   plain (datum.some content) = plain content
   plain (datum.unit_variant variant) = Ok (json.string variant.name)
   plain (datum.newtype_struct name content) = plain content
-  plain (datum.newtype_variant variant content) = plain content >>= λ j. Ok (single variant.name j)
+  plain (datum.newtype_variant variant content) = plain content >>= λ j. Ok (one_member variant.name j)
   plain (datum.seq ds) = plain_elements ds >>= λ js. Ok (json.array js)
   plain (datum.tuple ds) = plain_elements ds >>= λ js. Ok (json.array js)
   plain (datum.tuple_struct name ds) = plain_elements ds >>= λ js. Ok (json.array js)
-  plain (datum.tuple_variant variant ds) = plain_elements ds >>= λ js. Ok (single variant.name (json.array js))
+  plain (datum.tuple_variant variant ds) = plain_elements ds >>= λ js. Ok (one_member variant.name (json.array js))
   plain (datum.map ps) = plain_pairs ps >>= λ es. Ok (object_of_entries es)
   plain (datum.struct name fs) = plain_fields fs >>= λ es. Ok (object_of_entries es)
-  plain (datum.struct_variant variant fs) = plain_fields fs >>= λ es. Ok (single variant.name (object_of_entries es))
+  plain (datum.struct_variant variant fs) = plain_fields fs >>= λ es. Ok (one_member variant.name (object_of_entries es))
   plain (datum.refuse text) = Err (message text)
 
   pub plain_elements : datum.Elements → Result json.Items Fault

@@ -5,7 +5,8 @@ use Rattle.serde_json.specs.Data as json
 use Rattle.serde_json.specs.Data.{Data}
 use Rattle.serde_json.specs.View.{view}
 use Rattle.serde_json.specs.declared.value.Value.{Value}
-use Rattle.dynamo_value.specs.Fault.{Fault, message, ◌>>=◌}
+use Rattle.dynamo_value.specs.Fault.{Fault, message}
+use Rattle.dynamo_value.specs.Steps.{◌>>=◌}
 use Rattle.dynamo_value.specs.Kind.{fault_of}
 use Rattle.dynamo_value.specs.View as av
 use Rattle.dynamo_value.specs.declared.attribute_value.AttributeValue.{AttributeValue}
@@ -13,7 +14,7 @@ use Rattle.dynamo_value.specs.declared.error.Error.{Error}
 use Rattle.dynamo_ser.specs.Datum as datum
 use Rattle.dynamo_ser.specs.Datum.{Datum}
 use Rattle.dynamo_ser.specs.JsonValue.{json_datum}
-use Rattle.dynamo_de.specs.JsonItems.{before}
+use Rattle.dynamo_de.specs.JsonItems.{items_before}
 use Rattle.dynamo_write.specs.Answers.{Answers}
 use Rattle.dynamo_write.specs.Memory.{MayTakeMemory}
 use Rattle.dynamo_json.specs.Plain.{plain, plain_elements, plain_pairs, plain_fields, object_of_entries}
@@ -41,7 +42,7 @@ AnswersViaJson wants d r = Answers av.view (wants ⊎ TakesMemory d ⊎ MatchRes
 
 -- what is answered where these values stand and the elements follow
 abbrev pub GivesArray : List Value → (json.Items → Data) → datum.Elements → Result Value Error → Type 0
-GivesArray values whole ds r = AnswersPart (plain_elements ds >>= λ rest. Ok (whole (before values rest))) r
+GivesArray values whole ds r = AnswersPart (plain_elements ds >>= λ rest. Ok (whole (items_before values rest))) r
 
 -- what is answered where these entries stand and the pairs follow
 abbrev pub GivesObject : List (List ℕ × Data) → datum.Pairs → Result Value Error → Type 0

@@ -1,7 +1,8 @@
 -- What is written by way of plain JSON: the attribute value of what the plain JSON value tells, or the fault of plain JSON.
 use Rattle.std.specs.Prelude.{Result}
 use Rattle.dynamo_value.specs.Av.{Av}
-use Rattle.dynamo_value.specs.Fault.{Fault, ◌>>=◌}
+use Rattle.dynamo_value.specs.Fault.{Fault}
+use Rattle.dynamo_value.specs.Steps.{◌>>=◌}
 use Rattle.dynamo_ser.specs.Datum.{Datum}
 use Rattle.dynamo_ser.specs.JsonValue.{json_datum}
 use Rattle.dynamo_write.specs.Written.{written}

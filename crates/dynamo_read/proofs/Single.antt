@@ -10,7 +10,7 @@ use Rattle.dynamo_value.proofs.Members.{Entry, view_sorted, found-view}
 use Rattle.dynamo_value.specs.Av.{Av, members_of}
 use Rattle.dynamo_value.specs.Fault.{expected_single_key}
 use Rattle.dynamo_value.specs.View.{text_cmp, entries_view, members_view, view}
-use Rattle.dynamo_de.specs.Sight.{single}
+use Rattle.dynamo_de.specs.Sight.{only_entry}
 
 -- a key that differs from all others isn't found among them
 absent : (q : String Global) (es : List Entry) → AllByRecursion (λ k. string_eq q k ≡ false) (keys_of es) → lookup (string_eq q) es ≡ None
@@ -28,12 +28,12 @@ length_view (e ∷ es) d =
     ∙ ap (λ (o : Option Av). cond (is_some o) (length (entries_view es)) (length (entries_view es) + 1)) is_new
     ∙ omega arith
 
-not_single : (es : List (List ℕ × Av)) → 2 ≤ length es → single (members_of es) ≡ Err expected_single_key
+not_single : (es : List (List ℕ × Av)) → 2 ≤ length es → only_entry (members_of es) ≡ Err expected_single_key
 not_single [] low = refl
 not_single (e ∷ []) low = absurd (omega arith)
 not_single (d ∷ e ∷ es) low = refl
 
 pub single_of_more : (es ds cs : List Entry) (d c : Entry) → es ≡ d ∷ ds → ds ≡ c ∷ cs → IsDistinct string_eq (keys_of es)
-    → single (members_view es) ≡ Err expected_single_key
+    → only_entry (members_view es) ≡ Err expected_single_key
 single_of_more es ds cs d c first second distinct =
     not_single (entries_view es) (omega (arith, length_view es distinct, ap length first, ap length second))

@@ -4,7 +4,7 @@ use Rattle.std.specs.Vec.Iter.{into_iter_items}
 use Rattle.dynamo_value.specs.Fault.{Fault}
 use Rattle.dynamo_value.specs.View.{elements_view, members_view}
 use Rattle.dynamo_de.specs.Shows.{content_of}
-use Rattle.dynamo_de.specs.Sight.{single}
+use Rattle.dynamo_de.specs.Sight.{only_entry}
 use Rattle.dynamo_de.specs.Source.{Source, Entry, values_of}
 use Rattle.dynamo_read.specs.Reader.{source_of}
 use Rattle.dynamo_read.specs.Unread.{entries_left}
@@ -26,7 +26,7 @@ map_pending a = content_of source_of a.access.pending
 
 -- the variant's name and the source of its content, or the fault of asking for it
 abbrev pub enum_chosen : DeserializerEnum → Result (List ℕ × Option Source) Fault
-enum_chosen a = single (members_view a.item.entries)
+enum_chosen a = only_entry (members_view a.item.entries)
 
 -- the source of the variant's content
 abbrev pub variant_content : DeserializerVariant → Option Source

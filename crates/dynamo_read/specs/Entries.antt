@@ -6,7 +6,7 @@ use Rattle.dynamo_value.specs.Kind.{fault_of}
 use Rattle.dynamo_value.specs.View.{view}
 use Rattle.dynamo_value.specs.declared.attribute_value.AttributeValue.{AttributeValue}
 use Rattle.dynamo_value.specs.declared.error.ErrorImpl.{ErrorImpl}
-use Rattle.dynamo_de.specs.Sight.{single}
+use Rattle.dynamo_de.specs.Sight.{only_entry}
 use Rattle.dynamo_de.specs.Source.{Entry, attribute}
 
 abbrev pub seen_entry : String Global × AttributeValue → Entry
@@ -17,5 +17,5 @@ seen_entries es = map seen_entry es
 
 -- the one entry of the members, or the fault of there being none or more
 abbrev pub IsSingle : Members → Result (String Global × AttributeValue) ErrorImpl → Type 0
-IsSingle ms (Ok e) = single ms ≡ Ok (string_bytes e.0, Some (attribute (view e.1)))
-IsSingle ms (Err e) = single ms ≡ Err (fault_of e)
+IsSingle ms (Ok e) = only_entry ms ≡ Ok (string_bytes e.0, Some (attribute (view e.1)))
+IsSingle ms (Err e) = only_entry ms ≡ Err (fault_of e)

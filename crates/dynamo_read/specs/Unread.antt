@@ -3,7 +3,7 @@ use Rattle.std.specs.Prelude.{ℕ, Bool, true, false, List, map, Option, None, R
 use Rattle.std.specs.Vec.Iter.{into_iter_items}
 use Rattle.dynamo_value.specs.Fault.{Fault}
 use Rattle.dynamo_value.specs.View.{elements_view, members_view}
-use Rattle.dynamo_de.specs.Sight.{single}
+use Rattle.dynamo_de.specs.Sight.{only_entry}
 use Rattle.dynamo_de.specs.Source.{Source, Entry, values_of, each, plain_text, number_text, byte_string}
 use Rattle.dynamo_read.specs.Entries.{seen_entries}
 use Rattle.dynamo_read.specs.declared.unread.Elements.{Elements}
@@ -38,7 +38,7 @@ entries_left e = seen_entries (into_iter_items e.rest)
 
 abbrev pub form_chosen : Form → Result (List ℕ × Option Source) Fault
 form_chosen (form.Name t) = Ok (string_bytes t, None)
-form_chosen (form.Map m) = single (members_view m.entries)
+form_chosen (form.Map m) = only_entry (members_view m.entries)
 
 -- the variant's name and the source of its content, or the fault of asking for it
 abbrev pub chosen_of : Choice → Result (List ℕ × Option Source) Fault

@@ -1,6 +1,6 @@
 ghost use Rattle.std.specs.Prelude.{◌≡◌, Some};
 ghost use Rattle.dynamo_value.specs.View.{view, members_view};
-ghost use Rattle.dynamo_de.specs.Sight.{single};
+ghost use Rattle.dynamo_de.specs.Sight.{only_entry};
 ghost use Rattle.dynamo_de.specs.Source.{attribute};
 ghost use Rattle.dynamo_read.specs.Accesses.{enum_chosen, variant_content};
 
@@ -25,7 +25,7 @@ impl DeserializerEnum {
     /// An item of no key, or of two and more, is refused when its variant is asked for, by
     /// [`ExpectedSingleKey`](dynamo_value::ErrorImpl::ExpectedSingleKey).
     pub fn from_item(alloc: Global, item: HashMap<String, AttributeValue>) -> Self
-        ensures { enum_chosen result ≡ single (members_view item.entries) }
+        ensures { enum_chosen result ≡ only_entry (members_view item.entries) }
     {
         DeserializerEnum { alloc, item }
     }

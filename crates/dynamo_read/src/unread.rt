@@ -2,7 +2,7 @@ ghost use Rattle.std.specs.Prelude.{◌≡◌, true, false, map, string_bytes, I
 ghost use Rattle.dynamo_value.specs.Fault.{out_of_memory};
 ghost use Rattle.dynamo_value.specs.Kind.{fault_of};
 ghost use Rattle.dynamo_value.specs.View.{elements_view, members_view, entries_view};
-ghost use Rattle.dynamo_de.specs.Sight.{single};
+ghost use Rattle.dynamo_de.specs.Sight.{only_entry};
 ghost use Rattle.dynamo_de.specs.Source.{entries_of, values_of, each, plain_text, number_text, byte_string};
 ghost use Rattle.dynamo_read.specs.Unread.{elements_left, elements_counted, entries_left, chosen_of};
 
@@ -130,7 +130,7 @@ impl Choice {
 
     // The variant that the one key of the map names, with the value as its content. It takes no memory.
     pub(crate) fn map(alloc: Global, map: HashMap<String, AttributeValue>) -> Self
-        ensures { chosen_of result ≡ single (members_view map.entries) }
+        ensures { chosen_of result ≡ only_entry (members_view map.entries) }
     {
         Choice {
             alloc,

@@ -7,46 +7,39 @@ use Rattle.dynamo_de.specs.Answer as answer
 use Rattle.dynamo_de.specs.Answer.{Answer, After}
 use Rattle.dynamo_de.specs.Meets.{Meets}
 use Rattle.dynamo_de.specs.Source.{Source, Entry}
-use Rattle.dynamo_shape.specs.Laws.{Answers}
+use Rattle.dynamo_shape.specs.Laws.{AnswersByShape}
 use Rattle.dynamo_shape.specs.Same.{Same}
 use Rattle.dynamo_shape.proofs.Scalars.{no_fault, same_fault}
 use Rattle.dynamo_shape.proofs.Results.{value_same}
 use Rattle.dynamo_record.specs.Listed.{IfRead}
 
 abbrev given : {A : Type 0} → Answer A → Type 0
-given (answer.value x) = Unit {0}
+given (Ok x) = Unit {0}
 given _ = ⊥
 
-pub after_read : {V : Type 0} (C : Datum → Type 0) (tells : V → Datum) (a : Answer Datum) (r : Result V Fault) → Answers C Same tells a r → After a (λ d. IfRead (λ v. C (tells v) → Same d (tells v))) r
-after_read C tells (answer.value x) (Ok v) h = λ c. subst (λ d. Same d (tells v)) (sym (value_same h.1)) (h.2 c)
-after_read C tells (answer.value x) (Err f) h = h
-after_read C tells (answer.fault g) (Ok v) h = absurd (subst given (sym h.1) tt)
-after_read C tells (answer.fault g) (Err f) h = ap Err h
-after_read C tells answer.refused (Ok v) h = absurd (subst given (sym h.1) tt)
-after_read C tells answer.refused (Err f) h = h
+pub after_read : {V : Type 0} (C : Datum → Type 0) (tells : V → Datum) (a : Answer Datum) (r : Result V Fault) → AnswersByShape C Same tells a r → After a (λ d. IfRead (λ v. C (tells v) → Same d (tells v))) r
+after_read C tells (Ok x) (Ok v) h = λ c. subst (λ d. Same d (tells v)) (sym (value_same h.1)) (h.2 c)
+after_read C tells (Ok x) (Err f) h = h
+after_read C tells (Err g) (Ok v) h = absurd (subst given (sym h.1) tt)
+after_read C tells (Err g) (Err f) h = h
 
-pub answers_after : {V : Type 0} (C : Datum → Type 0) (tells : V → Datum) (a : Answer Datum) (r : Result V Fault) → After a (λ d. IfRead (λ v. C (tells v) → Same d (tells v))) r → Answers C Same tells a r
-answers_after C tells (answer.value x) (Ok v) h = (x, refl, h)
-answers_after C tells (answer.value x) (Err f) h = h
-answers_after C tells (answer.fault g) (Ok v) h = absurd (no_fault h)
-answers_after C tells (answer.fault g) (Err f) h = same_fault h
-answers_after C tells answer.refused (Ok v) h = absurd h
-answers_after C tells answer.refused (Err f) h = h
+pub answers_after : {V : Type 0} (C : Datum → Type 0) (tells : V → Datum) (a : Answer Datum) (r : Result V Fault) → After a (λ d. IfRead (λ v. C (tells v) → Same d (tells v))) r → AnswersByShape C Same tells a r
+answers_after C tells (Ok x) (Ok v) h = (x, refl, h)
+answers_after C tells (Ok x) (Err f) h = h
+answers_after C tells (Err g) (Ok v) h = absurd h
+answers_after C tells (Err g) (Err f) h = h
 
 pub after_ok : {A V : Type 0} (a : Answer A) (P : A → V → Type 0) (v : V) → After a (λ d. IfRead (P d)) (Ok v) → (d : A) × (a ≡ answer.value d) × P d v
-after_ok (answer.value x) P v h = (x, refl, h)
-after_ok (answer.fault g) P v h = absurd (no_fault h)
-after_ok answer.refused P v h = absurd h
+after_ok (Ok x) P v h = (x, refl, h)
+after_ok (Err g) P v h = absurd h
 
 pub after_more : {A V W : Type 0} (a : Answer A) (P : A → V → Type 0) (Q : A → W → Type 0) (v : V) (w : W) → ((d : A) → P d v → Q d w) → After a (λ d. IfRead (P d)) (Ok v) → After a (λ d. IfRead (Q d)) (Ok w)
-after_more (answer.value x) P Q v w more h = more x h
-after_more (answer.fault g) P Q v w more h = absurd (no_fault h)
-after_more answer.refused P Q v w more h = absurd h
+after_more (Ok x) P Q v w more h = more x h
+after_more (Err g) P Q v w more h = absurd h
 
 pub after_err : {A V W : Type 0} (a : Answer A) (P : A → V → Type 0) (Q : A → W → Type 0) (f : Fault) → After a (λ d. IfRead (P d)) (Err f) → After a (λ d. IfRead (Q d)) (Err f)
-after_err (answer.value x) P Q f h = h
-after_err (answer.fault g) P Q f h = ap Err (same_fault h)
-after_err answer.refused P Q f h = h
+after_err (Ok x) P Q f h = h
+after_err (Err g) P Q f h = h
 
 -- ---- the pending value, read as a part
 
@@ -68,9 +61,8 @@ module _ {V W E : Type 0} (fault : E → Fault) (P : Source → Result V Fault �
 -- ---- what is answered on a condition
 
 pub after_given : {A V : Type 0} (C : Type 0) (a : Answer A) (P : A → Result V Fault → Type 0) → C → (r : Result V Fault) → After a (λ x r. C → P x r) r → After a P r
-after_given C (answer.value x) P c r h = h c
-after_given C (answer.fault f) P c r h = h
-after_given C answer.refused P c r h = h
+after_given C (Ok x) P c r h = h c
+after_given C (Err f) P c r h = h
 
 pub meets_on : {V E : Type 0} (C : Type 0) (fault : E → Fault) (P : Result V Fault → Type 0) (r : Result V E) → Meets fault P r → Meets fault (λ r. C → P r) r
 meets_on C fault P (Ok v) h = λ _. h

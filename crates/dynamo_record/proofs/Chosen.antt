@@ -113,7 +113,7 @@ module _ {V L : Type 0} (a : AboutEnum V L) (named : VariantsNamed a) where
       ]
 
     pub tag_fails : (v : Result (Text × Option Source) Fault) (e : E) → Tagged v (Err e) → Permitted v (Err e)
-    tag_fails (Err f) e h = elim h [ inl lacks ↦ inl lacks | inr failed ↦ inr (ap Err failed) ]
+    tag_fails (Err f) e h = h
     tag_fails (Ok p) e h = elim h [ inl lacks ↦ inl lacks | inr failed ↦ inr (subst (λ q. Permits Same q (Err (fault e))) (sym (refuses p.0 p.1 failed.0)) failed.1) ]
 
   pub enum_by_source : {E : Type 0} (fault : E → Fault) (s : Source) (r : Result V E) → Meets fault (After (read_variant s) (FromVariant a)) r → Meets fault (enum_reads a s) r
@@ -158,7 +158,7 @@ module _ {V L E C : Type 0} (b : AboutEnum V L) (list : AboutVariants L) (named 
     list_fails (Ok p) e h k = fails p e (λ many. enum_fails (of_variants b list) (named_as b list named many) fault content place t (Ok p) e h (there (Ok p) (Err e) many h k))
 
   pub name_fails : (v : Result (Text × Option Source) Fault) (e : E) → Chooses v (Err e) → Listed v (Err e)
-  name_fails (Err f) e h = elim h [ inl lacks ↦ inl lacks | inr failed ↦ inr (ap Err failed) ]
+  name_fails (Err f) e h = h
   name_fails (Ok p) e h = fails p e (λ many. tag_fails (of_variants b list) (named_as b list named many) fault content (Ok p) e h)
 
 pub list_by_source : {V L E : Type 0} (b : AboutEnum V L) (list : AboutVariants L) → VariantsNamed b → AsMany b list → (fault : E → Fault) (s : Source) (r : Result V E) → Meets fault (After (read_variant s) (FromVariants b list)) r → Meets fault (enum_reads (of_variants b list) s) r
@@ -167,9 +167,8 @@ list_by_source {V} b list named many fault s r h =
     (meets_more fault (After (read_variant s) (FromVariants b list)) (After (read_variant s) (FromVariant (of_variants b list))) (λ r k. along (read_variant s) r k) r h)
   where
     along : (a : Answer (Text × Option Source)) (r : Result V Fault) → After a (FromVariants b list) r → After a (FromVariant (of_variants b list)) r
-    along (answer.value p) r k = k many
-    along (answer.fault f) r k = k
-    along answer.refused r k = k
+    along (Ok p) r k = k many
+    along (Err f) r k = k
 
 -- ---- a text that names no variant
 

@@ -6,7 +6,8 @@ use Rattle.dynamo_value.specs.Fault.{Fault}
 use Rattle.dynamo_ser.specs.Datum as datum
 use Rattle.dynamo_ser.specs.Datum.{Datum, Fields}
 use Rattle.dynamo_de.specs.Answer as answer
-use Rattle.dynamo_de.specs.Answer.{Answer, After, ◌>>=◌, value_or}
+use Rattle.dynamo_de.specs.Answer.{Answer, After, value_or}
+use Rattle.dynamo_value.specs.Steps.{◌>>=◌}
 use Rattle.dynamo_de.specs.Contents.{by_name, read_parts}
 use Rattle.dynamo_de.specs.Meets.{Meets, IsMessage}
 use Rattle.dynamo_de.specs.Source.{Source, Text, Entry}
@@ -121,11 +122,9 @@ empty_unread ns (s ∷ ss) gs = ap (λ os. None ∷ os) (empty_unread (other_nam
 
 -- a field and the others, under names
 named_then : (ns : Names) (a : Answer Datum) (b : Answer Data) → (a >>= λ d. into (named_fields (other_names ns)) b >>= λ fs. answer.value (datum.field (first_name ns) d fs)) ≡ into (named_fields ns) (a >>= λ d. b >>= λ ds. answer.value (d ∷ ds))
-named_then ns (answer.value d) (answer.value ds) = refl
-named_then ns (answer.value d) (answer.fault f) = refl
-named_then ns (answer.value d) answer.refused = refl
-named_then ns (answer.fault f) b = refl
-named_then ns answer.refused b = refl
+named_then ns (Ok d) (Ok ds) = refl
+named_then ns (Ok d) (Err f) = refl
+named_then ns (Err f) b = refl
 
 pub close_complete : (ns : Names) (ss : Shapes) (gs : Defaults) (os : Slots) → close (field_shapes ns ss gs) os ≡ into (named_fields ns) (complete ss gs os)
 close_complete ns [] gs os = refl
@@ -164,9 +163,8 @@ module _ {V L : Type 0} (a : AboutRecord V L) where
   struct_missed x f h m = rw h m
 
   pub struct_fails : (x : Answer Data) (f : Fault) → Permits SameData x (Err f) → RecordAnswers a (answer_of x) (Err f)
-  struct_fails (answer.value ds) f h = absurd h
-  struct_fails (answer.fault g) f h = h
-  struct_fails answer.refused f h = h
+  struct_fails (Ok ds) f h = absurd h
+  struct_fails (Err g) f h = h
 
   -- as what comes after
   pub after_struct : (x : Answer Datum) (r : Result V Fault) → RecordAnswers a x r → After x (IsAlike a) r

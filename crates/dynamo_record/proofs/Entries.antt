@@ -1,10 +1,10 @@
 -- A struct's entries, one after another.
-use Rattle.std.proofs.Common.{◌≡◌, ◌⊎◌, ℕ, List, [], ◌∷◌, Option, Some, None, Result, Ok, Err, length, ◌<◌, sym, ap, subst, ◌∙◌, inl, inr}
+use Rattle.std.proofs.Common.{◌≡◌, ◌⊎◌, ℕ, List, [], ◌∷◌, Option, Some, None, Result, Ok, Err, length, ◌<◌, sym, subst, ◌∙◌, inl, inr}
 use Rattle.dynamo_value.specs.Fault.{Fault, out_of_memory}
 use Rattle.dynamo_ser.specs.Datum.{Datum, Fields}
 use Rattle.dynamo_de.specs.Access.{NextKey, NextValue}
-use Rattle.dynamo_de.specs.Answer as answer
-use Rattle.dynamo_de.specs.Answer.{Answer, After, ◌>>=◌}
+use Rattle.dynamo_de.specs.Answer.{Answer, After}
+use Rattle.dynamo_value.specs.Steps.{◌>>=◌}
 use Rattle.dynamo_de.specs.Fields.{NamesOne, read_fields, LeadsTo}
 use Rattle.dynamo_de.specs.Source.{Source, Entry, attribute}
 use Rattle.dynamo_de.proofs.Fields as fields
@@ -12,7 +12,6 @@ use Rattle.dynamo_de.proofs.Fields.{fields_start, entry_falls}
 use Rattle.dynamo_shape.specs.Read.{into}
 use Rattle.dynamo_shape.specs.Shape.{FieldShapes}
 use Rattle.dynamo_shape.proofs.FieldsByName.{Slots, empty}
-use Rattle.dynamo_shape.proofs.Scalars.{same_fault}
 use Rattle.dynamo_record.specs.Entries.{read_at, fill_at, FillsAt, entry_at, finish, reads_on, SoFar}
 use Rattle.dynamo_record.specs.Listed.{IfRead}
 use Rattle.dynamo_record.specs.Records.{place_in}
@@ -58,9 +57,8 @@ module _ {X V E : Type 0} (fault : E → Fault) (make : Fields → Datum) (fs : 
     entry_fails i y l3 p3 f h key value = along l h key
       where
         failed : (a : Answer Datum) (os : Slots) (k : List Entry) → After a (λ d. IfRead (λ (_ : Unit {0}). holds y (fill_at i fs d os))) (Err (fault f)) → After (into (λ d. fill_at i fs d os) a >>= λ new. reads_on make fs new k) answers (Err (fault f))
-        failed (answer.value d) os k h = absurd h
-        failed (answer.fault g) os k h = ap Err (same_fault h)
-        failed answer.refused os k h = h
+        failed (Ok d) os k h = absurd h
+        failed (Err g) os k h = h
 
         along : (k : List Entry) → SoFar make fs answers holds x k es → NextKey fault (NamesOne (place_in 0 fs)) k p l2 p2 (Ok (Some i)) → (fault f ≡ out_of_memory) ⊎ After (reads_on make fs (empty fs) es) answers (Err (fault f))
         along [] h a = cc

@@ -3,7 +3,8 @@ use Rattle.std.proofs.Common.{[], List, Result, refl, sym, ap, subst}
 use Rattle.dynamo_value.specs.Fault.{Fault}
 use Rattle.dynamo_ser.specs.Datum as datum
 use Rattle.dynamo_ser.specs.Datum.{Datum, elements_of}
-use Rattle.dynamo_de.specs.Answer.{After, ◌>>=◌}
+use Rattle.dynamo_de.specs.Answer.{After}
+use Rattle.dynamo_value.specs.Steps.{◌>>=◌}
 use Rattle.dynamo_de.specs.Contents.{read_elements}
 use Rattle.dynamo_de.specs.Meets.{Meets}
 use Rattle.dynamo_de.specs.Source.{Source, Text, attribute, key_text, number_text, plain_text, byte_string}

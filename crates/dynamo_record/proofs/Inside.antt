@@ -5,7 +5,8 @@ use Rattle.dynamo_ser.specs.Datum as datum
 use Rattle.dynamo_ser.specs.Datum.{Datum, Elements, Variant, elements_of}
 use Rattle.dynamo_de.specs.Access.{OfContent}
 use Rattle.dynamo_de.specs.Answer as answer
-use Rattle.dynamo_de.specs.Answer.{Answer, After, ◌>>=◌}
+use Rattle.dynamo_de.specs.Answer.{Answer, After}
+use Rattle.dynamo_value.specs.Steps.{◌>>=◌}
 use Rattle.dynamo_de.specs.Contents.{read_elements}
 use Rattle.dynamo_de.specs.Meets.{Meets}
 use Rattle.dynamo_de.specs.Shown.{shown}
@@ -16,7 +17,7 @@ use Rattle.dynamo_de.specs.Visitors.{claims_seq, take_elements}
 use Rattle.dynamo_de.specs.declared.request.Request.TheVariants as request
 use Rattle.dynamo_de.proofs.Contents.{elements_read}
 use Rattle.dynamo_shape.specs.Conforms.{conforms, conform_each, conforms_content}
-use Rattle.dynamo_shape.specs.Laws.{Answers, ReadsByShape}
+use Rattle.dynamo_shape.specs.Laws.{AnswersByShape, ReadsByShape}
 use Rattle.dynamo_shape.specs.Permits.{Permits}
 use Rattle.dynamo_shape.specs.Read.{read, into, read_each}
 use Rattle.dynamo_shape.specs.Same.{Same, SameElements}
@@ -44,7 +45,7 @@ module _ {C E : Type 0} (fault : E → Fault) (a : AboutContent C) (name : Text)
 -- ---- one value
 
 module _ {A X W : Type 0} (C : A → Type 0) (R : A → A → Type 0) (D : Datum → Type 0) (told : X → A) (tells : W → Datum) (f : A → Datum) (inner : (y : A) → D (f y) → C y) (outer : (y z : A) → R y z → Same (f y) (f z)) where
-  made_of : (a : Answer A) (x : X) (w : W) → tells w ≡ f (told x) → Answers C R told a (Ok x) → Answers D Same tells (into f a) (Ok w)
+  made_of : (a : Answer A) (x : X) (w : W) → tells w ≡ f (told x) → AnswersByShape C R told a (Ok x) → AnswersByShape D Same tells (into f a) (Ok w)
   made_of a x w e h = (f h.0, rw h.1 refl, λ k. subst (Same (f h.0)) (sym e) (outer h.0 (told x) (h.2 (inner (told x) (subst D e k)))))
 
 module _ {C T E : Type 0} (fault : E → Fault) (part : C → T) (a : About T) (reads : Source → Result T Fault → Type 0) (by_shape : ReadsByShape a.shape a.tells reads) (v : Variant) where
@@ -69,14 +70,12 @@ read_tuple (s ∷ ss) [] = refl
 read_tuple (s ∷ ss) (x ∷ xs) = step (read s x) (read_each (shapes_of ss) xs) (read_fields ss xs) (read_tuple ss xs)
   where
     others : (d : Datum) (b : Answer Data) → (into elements_of b >>= λ es. answer.value (datum.element d es)) ≡ into elements_of (b >>= λ ds. answer.value (d ∷ ds))
-    others d (answer.value ds) = refl
-    others d (answer.fault f) = refl
-    others d answer.refused = refl
+    others d (Ok ds) = refl
+    others d (Err f) = refl
 
     step : (a : Answer Datum) (es : Answer Elements) (ds : Answer Data) → es ≡ into elements_of ds → (a >>= λ d. es >>= λ xs. answer.value (datum.element d xs)) ≡ into elements_of (a >>= λ d. ds >>= λ xs. answer.value (d ∷ xs))
-    step (answer.value d) es ds e = rw e (others d ds)
-    step (answer.fault f) es ds e = refl
-    step answer.refused es ds e = refl
+    step (Ok d) es ds e = rw e (others d ds)
+    step (Err f) es ds e = refl
 
 module _ {L E : Type 0} (fault : E → Fault) (a : AboutList L) (xs : List Source) where
   abbrev All : Answer Data
@@ -90,7 +89,7 @@ module _ {L E : Type 0} (fault : E → Fault) (a : AboutList L) (xs : List Sourc
 
 module _ {C L E : Type 0} (fault : E → Fault) (part : C → L) (a : AboutList L) (v : Variant) where
   abbrev AsksElements : Option Source → Result L E → Type 0
-  AsksElements s r = Meets fault (OfContent (λ s r. takes.Answers (Takes claims_seq (λ x. After (take_elements x) (ReadsInOrder a))) (shown request.Seq s) r) s) r
+  AsksElements s r = Meets fault (OfContent (λ s r. takes.Visited (Takes claims_seq (λ x. After (take_elements x) (ReadsInOrder a))) (shown request.Seq s) r) s) r
 
   abbrev Tuple : Option Source → Result C E → Type 0
   Tuple s = Meets fault (ReadsInside (about_several part a).shape (about_several part a).told v s)
@@ -101,7 +100,7 @@ module _ {C L E : Type 0} (fault : E → Fault) (part : C → L) (a : AboutList 
   abbrev Shapes_ : shape.Shapes
   Shapes_ = shapes_of (a.shapes [])
 
-  pub as_elements : (xs : List Source) (r : Result L Fault) → ReadsInOrder a xs r → Answers (conform_each Shapes_) SameElements Told (read_each Shapes_ xs) r
+  pub as_elements : (xs : List Source) (r : Result L Fault) → ReadsInOrder a xs r → AnswersByShape (conform_each Shapes_) SameElements Told (read_each Shapes_ xs) r
   as_elements xs (Ok x) h = (
     elements_of h.0,
     rw (read_tuple (a.shapes []) xs) (ap (into elements_of) h.1),
@@ -109,7 +108,7 @@ module _ {C L E : Type 0} (fault : E → Fault) (part : C → L) (a : AboutList 
   )
   as_elements xs (Err f) h = subst (λ q. Permits SameElements q (Err f)) (sym (read_tuple (a.shapes []) xs)) (stops SameData SameElements (read_fields (a.shapes []) xs) (λ ds. answer.value (elements_of ds)) f h)
 
-  pub in_order : (s : Source) (r : Result L Fault) → After (read_elements s) (ReadsInOrder a) r → Answers (conform_each Shapes_) SameElements Told (read_elements s >>= read_each Shapes_) r
+  pub in_order : (s : Source) (r : Result L Fault) → After (read_elements s) (ReadsInOrder a) r → AnswersByShape (conform_each Shapes_) SameElements Told (read_elements s >>= read_each Shapes_) r
   in_order s r h = after (conform_each Shapes_) SameElements Told (ReadsInOrder a) (read_each Shapes_) as_elements (read_elements s) r h
 
   pub values_read : (s : Option Source) (x : L) (w : C) → part w ≡ x → AsksElements s (Ok x) → Tuple s (Ok w)

@@ -6,7 +6,8 @@ use Rattle.dynamo_ser.specs.Datum as datum
 use Rattle.dynamo_ser.specs.Datum.{Datum, Fields, Variant}
 use Rattle.dynamo_de.specs.Access.{OfContent}
 use Rattle.dynamo_de.specs.Answer as answer
-use Rattle.dynamo_de.specs.Answer.{Answer, After, ◌>>=◌}
+use Rattle.dynamo_de.specs.Answer.{Answer, After}
+use Rattle.dynamo_value.specs.Steps.{◌>>=◌}
 use Rattle.dynamo_de.specs.Contents.{Parts, by_name, read_entries}
 use Rattle.dynamo_de.specs.Meets.{Meets}
 use Rattle.dynamo_de.specs.Shown.{shown}
@@ -18,7 +19,7 @@ use Rattle.dynamo_de.specs.declared.request.Request.TheVariants as request
 use Rattle.dynamo_de.proofs.Meets.{meets_more}
 use Rattle.dynamo_de.proofs.Scalars.{unknown}
 use Rattle.dynamo_shape.specs.Conforms.{conform_fields, conforms_content}
-use Rattle.dynamo_shape.specs.Laws.{Answers}
+use Rattle.dynamo_shape.specs.Laws.{AnswersByShape}
 use Rattle.dynamo_shape.specs.Read.{into, read_field, fields_by_name}
 use Rattle.dynamo_shape.specs.Same.{Same, SameFields}
 use Rattle.dynamo_shape.specs.Shape as shape
@@ -37,7 +38,7 @@ use Rattle.dynamo_record.proofs.Answering.{after_given}
 
 module _ {V : Type 0} (next : Parts → Result V Fault → Type 0) where
   abbrev Asked : Source → Result V Fault → Type 0
-  Asked s = takes.Answers (Takes claims_struct (λ x. After (take_parts x) next)) (shown request.Map s)
+  Asked s = takes.Visited (Takes claims_struct (λ x. After (take_parts x) next)) (shown request.Map s)
 
   abbrev Entries : Source → Result V Fault → Type 0
   Entries s = After (read_entries s) (λ es. next (by_name es))
@@ -72,13 +73,13 @@ module _ {C L : Type 0} (own : Text) (names : Names) (list : C → L) (l : About
   Told w = named_fields names (l.told (list w) [])
 
   abbrev FieldAnswers : Answer Fields → Result C Fault → Type 0
-  FieldAnswers = Answers (conform_fields (record_fields Struct)) SameFields Told
+  FieldAnswers = AnswersByShape (conform_fields (record_fields Struct)) SameFields Told
 
   abbrev by_names : FieldShapes → Source → Answer Fields
   by_names fs s = read_entries s >>= fields_by_name fs (read_field fs)
 
   fields_answered : (a : Answer Fields) (r : Result C Fault) → RecordAnswers Struct (into (datum.struct own) a) r → FieldAnswers a r
-  fields_answered (answer.value gs) (Ok w) h = (
+  fields_answered (Ok gs) (Ok w) h = (
     gs,
     refl,
     λ c.
@@ -86,18 +87,16 @@ module _ {C L : Type 0} (own : Text) (names : Names) (list : C → L) (l : About
         let k = subst (λ d. Same d (datum.struct own (Told w))) (sym (value_same h.1)) e in
         subst (SameFields gs) (sym (ap fields_in k.1)) k.2,
   )
-  fields_answered (answer.value gs) (Err f) h = h
-  fields_answered (answer.fault g) (Ok w) h = cc
-  fields_answered (answer.fault g) (Err f) h = h
-  fields_answered answer.refused (Ok w) h = cc
-  fields_answered answer.refused (Err f) h = h
+  fields_answered (Ok gs) (Err f) h = h
+  fields_answered (Err g) (Ok w) h = cc
+  fields_answered (Err g) (Err f) h = h
 
   entries_answered : (s : Source) (r : Result C Fault) → After (read_entries s) (λ es. FromParts Struct (by_name es)) r → FieldAnswers (by_names (record_fields Struct) s) r
   entries_answered s r h =
       after (conform_fields (record_fields Struct)) SameFields Told (λ es. FromParts Struct (by_name es)) (fields_by_name (record_fields Struct) (read_field (record_fields Struct)))
       (λ es r k. fields_answered (fields_by_name (record_fields Struct) (read_field (record_fields Struct)) es) r k) (read_entries s) r h
 
-  in_variant : (a : Answer Fields) (r : Result C Fault) → FieldAnswers a r → Answers (conforms_content (shape.named (record_fields Struct)) v) Same (λ w. datum.struct_variant v (Told w)) (into (datum.struct_variant v) a) r
+  in_variant : (a : Answer Fields) (r : Result C Fault) → FieldAnswers a r → AnswersByShape (conforms_content (shape.named (record_fields Struct)) v) Same (λ w. datum.struct_variant v (Told w)) (into (datum.struct_variant v) a) r
   in_variant a (Ok w) h = (
     datum.struct_variant v h.0,
     ap (into (datum.struct_variant v)) h.1,

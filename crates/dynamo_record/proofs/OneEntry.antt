@@ -1,17 +1,15 @@
 -- One entry of a struct: it fills the field of its name, or is ignored.
-use Rattle.std.proofs.Common.{ℕ, List, [], Option, Some, None, Result, Ok, Err, length, ◌<◌, ◌≤◌, sym, ap, subst}
+use Rattle.std.proofs.Common.{ℕ, List, [], Option, Some, None, Result, Ok, Err, length, ◌<◌, ◌≤◌, sym, subst}
 use Rattle.dynamo_value.specs.Fault.{Fault}
 use Rattle.dynamo_ser.specs.Datum as datum
 use Rattle.dynamo_ser.specs.Datum.{Datum}
 use Rattle.dynamo_de.specs.Access.{NextValue}
-use Rattle.dynamo_de.specs.Answer as answer
 use Rattle.dynamo_de.specs.Answer.{Answer, After, Gives}
 use Rattle.dynamo_de.specs.Ignored.{read_ignored}
 use Rattle.dynamo_de.specs.Source.{Source, Entry}
 use Rattle.dynamo_de.proofs.Meets.{meets_more}
 use Rattle.dynamo_shape.specs.Read.{into}
 use Rattle.dynamo_shape.proofs.FieldsByName.{Slots, fill_slot}
-use Rattle.dynamo_shape.proofs.Scalars.{no_fault, same_fault}
 use Rattle.dynamo_record.specs.Entries.{read_one, fill_one, read_at, FillsAt}
 use Rattle.dynamo_record.specs.Fields.{Defaults, field_shapes}
 use Rattle.dynamo_record.specs.Listed.{Shapes, Holds, Fills, IfRead}
@@ -44,14 +42,12 @@ module _ {X : Type 0} (holds : Holds X) (ns : Names) (ss : Shapes) (gs : Default
     ignored held v a = value_taken fault Ignored (FillsAt front i (field_shapes ns ss gs) os new) l l2 p p2 v tt (λ s k. back beyond s (Ok tt) (along (read_ignored s) k)) a
       where
         along : (a : Answer (Unit {0})) → Gives (λ (_ : T). tt) a (Ok v) → After (into (λ _. datum.unit) a) (λ d. IfRead (λ (_ : Unit {0}). front new os)) (Ok tt)
-        along (answer.value x) h = held
-        along (answer.fault f) h = absurd (no_fault h)
-        along answer.refused h = absurd h
+        along (Ok x) h = held
+        along (Err f) h = absurd h
 
     pub not_ignored : (e : E) → NextValue {V = T} fault Ignored l p l2 p2 (Err e) → NextValue fault (FillsAt front i (field_shapes ns ss gs) os new) l p l2 p2 (Err e)
     not_ignored e a = value_refused fault Ignored (FillsAt front i (field_shapes ns ss gs) os new) l l2 p p2 e (λ s f k. back beyond s (Err f) (along (read_ignored s) f k)) a
       where
         along : (a : Answer (Unit {0})) (f : Fault) → Gives (λ (_ : T). tt) a (Err f) → After (into (λ _. datum.unit) a) (λ d. IfRead (λ (_ : Unit {0}). front new os)) (Err f)
-        along (answer.value x) f h = absurd h
-        along (answer.fault g) f h = ap Err (same_fault h)
-        along answer.refused f h = h
+        along (Ok x) f h = absurd h
+        along (Err g) f h = h

@@ -3,7 +3,8 @@ use Rattle.std.proofs.Common.{◌≡◌, ℕ, zero, suc, List, [], ◌∷◌, Op
 use Rattle.dynamo_ser.specs.Datum as datum
 use Rattle.dynamo_ser.specs.Datum.{Datum, Fields}
 use Rattle.dynamo_de.specs.Answer as answer
-use Rattle.dynamo_de.specs.Answer.{◌>>=◌, value_or}
+use Rattle.dynamo_de.specs.Answer.{value_or}
+use Rattle.dynamo_value.specs.Steps.{◌>>=◌}
 use Rattle.dynamo_de.specs.Ignored.{ignore}
 use Rattle.dynamo_de.specs.Source.{Text, Entry}
 use Rattle.dynamo_shape.specs.Read.{read, into, missing, read_field, fields_by_name}

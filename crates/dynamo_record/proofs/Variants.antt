@@ -102,7 +102,7 @@ module _ {T : Type 0} (a : AboutUnits T) where
 
     pub variant_fails : (chosen : Result (Text × Option Source) Fault) (e : E) → ReadsVariant {T = T} {C = C} fault (λ s. After (read_identifier s) (FromName a)) content chosen (Err e) → (fault e ≡ out_of_memory) ⊎ After (or_its_fault chosen) (FromVariant a) (Err (fault e))
     variant_fails (Ok p) e h = elim h [ inl lacks ↦ inl lacks | inr failed ↦ inr (from_variant p (Err (fault e)) failed) ]
-    variant_fails (Err f) e h = elim h [ inl lacks ↦ inl lacks | inr failed ↦ inr (ap Err failed) ]
+    variant_fails (Err f) e h = h
 
   pub enum_answered : {E : Type 0} (fault : E → Fault) (source : Source) (r : Result T E) → Asks fault claims_enum (λ s. After (take_variant s) (FromVariant a)) request.Enum source r → Meets fault (unit_enum_reads a source) r
   enum_answered fault source r h =

@@ -5,7 +5,7 @@ use Rattle.dynamo_ser.specs.Datum.{Datum}
 use Rattle.dynamo_de.specs.Answer.{Answer}
 use Rattle.dynamo_de.specs.Source.{Source, Text}
 use Rattle.dynamo_shape.specs.Conforms.{conforms}
-use Rattle.dynamo_shape.specs.Laws.{Answers}
+use Rattle.dynamo_shape.specs.Laws.{AnswersByShape}
 use Rattle.dynamo_shape.specs.Permits.{IsMessageFault}
 use Rattle.dynamo_shape.specs.Read.{read, read_one_of}
 use Rattle.dynamo_shape.specs.Same.{Same}
@@ -50,7 +50,7 @@ module _ {V L : Type 0} (a : AboutEnum V L) where
   enum_same v w = a.list.same (a.parts v) (a.parts w)
 
   abbrev pub EnumAnswers : Answer Datum → Result V Fault → Type 0
-  EnumAnswers = Answers (conforms enum_shape) Same enum_tells
+  EnumAnswers = AnswersByShape (conforms enum_shape) Same enum_tells
 
   -- what may be answered on a source: what reading at the shape gives
   abbrev pub enum_reads : Source → Result V Fault → Type 0

@@ -7,13 +7,14 @@ use Rattle.dynamo_value.specs.Fault.{Fault, out_of_memory}
 use Rattle.dynamo_ser.specs.Datum as datum
 use Rattle.dynamo_ser.specs.Datum.{Datum}
 use Rattle.dynamo_ser.specs.Symbols.{SetKind, symbol}
-use Rattle.dynamo_de.specs.Answer.{After, ◌>>=◌}
+use Rattle.dynamo_de.specs.Answer.{After}
+use Rattle.dynamo_value.specs.Steps.{◌>>=◌}
 use Rattle.dynamo_de.specs.Contents.{read_elements}
 use Rattle.dynamo_de.specs.Reads.{ReadsList}
 use Rattle.dynamo_de.specs.Source.{Source}
 use Rattle.dynamo_shape.specs.ByValue.{SameEach}
 use Rattle.dynamo_shape.specs.Conforms.{conforms}
-use Rattle.dynamo_shape.specs.Laws.{Answers, ReadsByShape}
+use Rattle.dynamo_shape.specs.Laws.{AnswersByShape, ReadsByShape}
 use Rattle.dynamo_shape.specs.Read.{read, read_list}
 use Rattle.dynamo_shape.specs.Same.{Same}
 use Rattle.dynamo_shape.specs.Shape as shape
@@ -47,7 +48,7 @@ content_in d = d
 -- a set is read as a list is
 pub set_permitted : {T : Type 0} (k : SetKind) (s : Shape) (tells : T → Datum) (reads : Source → Result T Fault → Type 0) → ReadsByShape s tells reads → ReadsByShape {T = Vec T Global} (shape.set k s) (set_tells k tells) (λ source. After (read_elements source) (ReadsList reads))
 set_permitted {T} k s tells reads h source r a =
-    subst (λ x. Answers (conforms (shape.set k s)) Same (set_tells {T = T} k tells) x r) (into_into datum.seq (datum.newtype_struct (symbol k)) (read_elements source >>= read_list (read s)))
+    subst (λ x. AnswersByShape (conforms (shape.set k s)) Same (set_tells {T = T} k tells) x r) (into_into datum.seq (datum.newtype_struct (symbol k)) (read_elements source >>= read_list (read s)))
     (made (conforms (shape.list s)) Same (conforms (shape.set k s)) Same (list_tells tells) (datum.newtype_struct (symbol k))
     (λ d c. (c.0, ap content_in c.1, c.2)) (λ d e same. (e, refl, same)) (read (shape.list s) source) r (list_permitted s tells reads h source r a))
 

@@ -1,8 +1,9 @@
 -- Fields in order: their shapes, what a missing one reads as, and the data that are told; and the same under names.
 use Rattle.std.specs.Prelude.{ℕ, suc, List, [], ◌∷◌, Option, Some, None, ⊤}
-use Rattle.std.proofs.Common.{zero}
+use Rattle.std.proofs.Common.{zero, Ok, Err}
 use Rattle.dynamo_ser.specs.Datum.{Datum, Fields, no_fields, field}
-use Rattle.dynamo_de.specs.Answer.{Answer, value, fault, refused, ◌>>=◌, value_or}
+use Rattle.dynamo_de.specs.Answer.{Answer, value, refused, value_or}
+use Rattle.dynamo_value.specs.Steps.{◌>>=◌}
 use Rattle.dynamo_de.specs.Source.{Source, Text}
 use Rattle.dynamo_shape.specs.Conforms.{conforms}
 use Rattle.dynamo_shape.specs.Read.{read, missing}
@@ -54,9 +55,8 @@ unread (s ∷ ss) = None ∷ unread ss
 
 -- this name, where a field is not read; else that of a later one
 abbrev pub unless_read : Text → Answer Datum → Option Text → Option Text
-unless_read n (value d) later = later
-unless_read n (fault f) later = Some n
-unless_read n refused later = Some n
+unless_read n (Ok d) later = later
+unless_read n (Err r) later = Some n
 
 -- where nothing was read of a field, its default is read; without one an option is none, and any other field is missed
 abbrev pub complete : List Shape → Defaults → Slots → Answer (List Datum)

@@ -6,7 +6,7 @@ use Rattle.dynamo_ser.specs.Datum as datum
 use Rattle.dynamo_ser.specs.Datum.{Datum, Elements, elements_of}
 use Rattle.dynamo_de.specs.Source.{Source}
 use Rattle.dynamo_shape.specs.Conforms.{conforms, conform_each}
-use Rattle.dynamo_shape.specs.Laws.{Answers}
+use Rattle.dynamo_shape.specs.Laws.{AnswersByShape}
 use Rattle.dynamo_shape.specs.Same.{Same, SameElements}
 use Rattle.dynamo_record.specs.Fields.{ConformEach, SameData, shapes_of, read_fields}
 use Rattle.dynamo_record.specs.Listed.{AboutList, Shapes, Data}
@@ -52,4 +52,4 @@ same_each (d ∷ ds) (e ∷ es) h = (subst (Same d) (sym (ap first_element h.2))
 
 -- what may be answered on the elements of a tuple: what reading the fields in order gives
 abbrev pub ReadsInOrder : {L : Type 0} → AboutList L → List Source → Result L Fault → Type 0
-ReadsInOrder a xs r = Answers (ConformEach (a.shapes [])) SameData (λ v. a.told v []) (read_fields (a.shapes []) xs) r
+ReadsInOrder a xs r = AnswersByShape (ConformEach (a.shapes [])) SameData (λ v. a.told v []) (read_fields (a.shapes []) xs) r

@@ -36,3 +36,7 @@ names_from (suc i) ns = other_names (names_from i ns)
 -- the refusal of a map that has no entry for the field of this name
 abbrev pub missing_text : Text → Text
 missing_text n = codes "missing field `" ++ (n ++ codes "`")
+
+-- the refusal of a list that ends too soon, by what is expected
+abbrev pub too_few_text : Text → Text
+too_few_text expecting = codes "invalid length: too few elements, expected " ++ expecting

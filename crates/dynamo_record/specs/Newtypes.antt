@@ -9,7 +9,7 @@ use Rattle.dynamo_ser.specs.Datum.{Datum}
 use Rattle.dynamo_de.specs.Reads.{Through}
 use Rattle.dynamo_de.specs.Source.{Source, Text}
 use Rattle.dynamo_shape.specs.Conforms.{conforms}
-use Rattle.dynamo_shape.specs.Laws.{Answers, EqualAsTold, ReadsByShape, ToldApart}
+use Rattle.dynamo_shape.specs.Laws.{AnswersByShape, EqualAsTold, ReadsByShape, ToldApart}
 use Rattle.dynamo_shape.specs.Read.{read}
 use Rattle.dynamo_shape.specs.Same.{Same}
 use Rattle.dynamo_shape.specs.Shape as shape
@@ -21,7 +21,7 @@ use Rattle.dynamo_types.specs.Keys.{AboutKey, IsKeyOf}
 
 -- what may be answered on a source: what reading at the shape gives
 unfoldable pub ReadsAs : {T : Type 0} → About T → Source → Result T Fault → Type 0
-ReadsAs a source r = Answers (conforms a.shape) Same a.tells (read a.shape source) r
+ReadsAs a source r = AnswersByShape (conforms a.shape) Same a.tells (read a.shape source) r
 
 pub as_shape : {T : Type 0} (a : About T) → ReadsByShape a.shape a.tells (ReadsAs a)
 unfolding ReadsAs
@@ -96,7 +96,7 @@ about_unit_struct name one = record {
 
 -- what may be answered on a source: the one value, where reading at the shape gives it
 unfoldable pub ReadsUnitStruct : Text → Source → Result ⊤ Fault → Type 0
-ReadsUnitStruct name source r = Answers (conforms (shape.unit_struct name)) Same (λ _. datum.unit_struct name) (read (shape.unit_struct name) source) r
+ReadsUnitStruct name source r = AnswersByShape (conforms (shape.unit_struct name)) Same (λ _. datum.unit_struct name) (read (shape.unit_struct name) source) r
 
 abbrev pub unit_struct_reads : {T : Type 0} → Text → Source → Result T Fault → Type 0
 unit_struct_reads name source r = Through (λ _. tt) (ReadsUnitStruct name source) r

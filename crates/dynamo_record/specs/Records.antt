@@ -8,7 +8,7 @@ use Rattle.dynamo_de.specs.Answer.{Answer}
 use Rattle.dynamo_de.specs.Contents.{Parts}
 use Rattle.dynamo_de.specs.Source.{Source, Text}
 use Rattle.dynamo_shape.specs.Conforms.{conforms}
-use Rattle.dynamo_shape.specs.Laws.{Answers}
+use Rattle.dynamo_shape.specs.Laws.{AnswersByShape}
 use Rattle.dynamo_shape.specs.Read.{read, into, fields_of, fields_in_order, read_field}
 use Rattle.dynamo_shape.specs.Same.{Same}
 use Rattle.dynamo_shape.specs.Shape as shape
@@ -52,7 +52,7 @@ module _ {V L : Type 0} (a : AboutRecord V L) where
   record_same v w = a.list.same (a.parts v) (a.parts w)
 
   abbrev pub RecordAnswers : Answer Datum → Result V Fault → Type 0
-  RecordAnswers = Answers (conforms record_shape) Same record_tells
+  RecordAnswers = AnswersByShape (conforms record_shape) Same record_tells
 
   -- the value tells the datum, so far as it conforms
   abbrev pub IsAlike : Datum → Result V Fault → Type 0

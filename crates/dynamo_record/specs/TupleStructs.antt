@@ -46,12 +46,30 @@ module _ {L : Type 0} (name : Text) (a : AboutList L) where
 
 -- ---- a struct with these fields
 
-abbrev pub about_tuple_struct : {V L : Type 0} → Text → (V → L) → AboutList L → About V
-about_tuple_struct name parts a = about_part parts (named_tuple name a)
+-- The name of a tuple struct, its fields, and what is known of these.
+pub record AboutTupleStruct (V L : Type 0) : Type 1 where
+  pub name : Text
+  pub parts : V → L
+  pub list : AboutList L
 
--- what may be answered on a source: the struct of the fields that are read
-abbrev pub tuple_struct_reads : {V L : Type 0} → Text → (V → L) → AboutList L → Source → Result V Fault → Type 0
-tuple_struct_reads name parts a source r = Through parts (ReadsAs (named_tuple name a) source) r
+abbrev pub tuple_struct_of : {V L : Type 0} → Text → (V → L) → AboutList L → AboutTupleStruct V L
+tuple_struct_of name parts list = record { name = name; parts = parts; list = list }
 
-pub tuple_struct_by_shape : {V L : Type 0} (name : Text) (parts : V → L) (a : AboutList L) → ReadsByShape (fields_shape name a) (λ v. fields_tell name a (parts v)) (tuple_struct_reads name parts a)
-tuple_struct_by_shape name parts a = through_permitted (fields_shape name a) (fields_tell name a) (ReadsAs (named_tuple name a)) parts (as_shape (named_tuple name a))
+-- the same description, by this list of the fields
+abbrev pub with_fields : {V L : Type 0} → AboutTupleStruct V L → AboutList L → AboutTupleStruct V L
+with_fields a list = tuple_struct_of a.name a.parts list
+
+module _ {V L : Type 0} (a : AboutTupleStruct V L) where
+  abbrev pub about_tuple_struct : About V
+  about_tuple_struct = about_part a.parts (named_tuple a.name a.list)
+
+  -- the tuple struct of its name, and of its fields in order
+  abbrev pub tuple_struct_tells : V → Datum
+  tuple_struct_tells v = fields_tell a.name a.list (a.parts v)
+
+  -- what may be answered on a source: the struct of the fields that are read
+  abbrev pub tuple_struct_reads : Source → Result V Fault → Type 0
+  tuple_struct_reads source r = Through a.parts (ReadsAs (named_tuple a.name a.list) source) r
+
+  pub tuple_struct_by_shape : ReadsByShape (fields_shape a.name a.list) tuple_struct_tells tuple_struct_reads
+  tuple_struct_by_shape = through_permitted (fields_shape a.name a.list) (fields_tell a.name a.list) (ReadsAs (named_tuple a.name a.list)) a.parts (as_shape (named_tuple a.name a.list))

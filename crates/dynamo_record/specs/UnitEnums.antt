@@ -16,7 +16,7 @@ use Rattle.dynamo_ser.specs.Datum as datum
 use Rattle.dynamo_ser.specs.Datum.{Datum}
 use Rattle.dynamo_de.specs.Source.{Source, Text}
 use Rattle.dynamo_shape.specs.Conforms.{conforms}
-use Rattle.dynamo_shape.specs.Laws.{Answers, EqualAsTold, ToldApart, IsToldByValue}
+use Rattle.dynamo_shape.specs.Laws.{AnswersByShape, EqualAsTold, ToldApart, IsToldByValue}
 use Rattle.dynamo_shape.specs.Read.{read, read_one_of}
 use Rattle.dynamo_shape.specs.Same.{Same}
 use Rattle.dynamo_shape.specs.Shape as shape
@@ -80,15 +80,15 @@ module _ {T : Type 0} (a : AboutUnits T) where
 
   -- what may be answered on a source: what reading at the shape gives
   abbrev pub unit_enum_reads : Source → Result T Fault → Type 0
-  unit_enum_reads source r = Answers (conforms unit_enum_shape) Same unit_enum_tells (read unit_enum_shape source) r
+  unit_enum_reads source r = AnswersByShape (conforms unit_enum_shape) Same unit_enum_tells (read unit_enum_shape source) r
 
   -- what may be answered on the name of a variant
   abbrev pub FromName : Text → Result T Fault → Type 0
-  FromName t r = Answers (conforms unit_enum_shape) Same unit_enum_tells (read_one_of (unit_variants a.names) a.name 0 t None) r
+  FromName t r = AnswersByShape (conforms unit_enum_shape) Same unit_enum_tells (read_one_of (unit_variants a.names) a.name 0 t None) r
 
   -- what may be answered on the name of a variant and its content
   abbrev pub FromVariant : Text × Option Source → Result T Fault → Type 0
-  FromVariant v r = Answers (conforms unit_enum_shape) Same unit_enum_tells (read_one_of (unit_variants a.names) a.name 0 v.0 v.1) r
+  FromVariant v r = AnswersByShape (conforms unit_enum_shape) Same unit_enum_tells (read_one_of (unit_variants a.names) a.name 0 v.0 v.1) r
 
   pub unit_enum_equal : EqualAsTold unit_enum_tells a.eq
   unit_enum_equal v w = (λ t. ap unit_enum_tells (a.one v w ((a.equal v w).0 t)), λ e. (a.equal v w).1 (ap number_in e))

@@ -9,7 +9,7 @@ use Rattle.dynamo_de.specs.Answer as answer
 use Rattle.dynamo_de.specs.Answer.{Answer}
 use Rattle.dynamo_de.specs.Source.{Source, Text}
 use Rattle.dynamo_shape.specs.Conforms.{conforms_content, conforms_variant}
-use Rattle.dynamo_shape.specs.Laws.{Answers}
+use Rattle.dynamo_shape.specs.Laws.{AnswersByShape}
 use Rattle.dynamo_shape.specs.Read.{read_inside}
 use Rattle.dynamo_shape.specs.Same.{Same}
 use Rattle.dynamo_shape.specs.Shape.{Content, Variants, no_variants, variant}
@@ -57,7 +57,7 @@ pub record AboutContent (C : Type 0) : Type 1 where
 
 -- what may be answered on the content of a variant
 abbrev pub ReadsInside : {C : Type 0} → Content → (Variant → C → Datum) → Variant → Option Source → Result C Fault → Type 0
-ReadsInside c told v s r = Answers (conforms_content c v) Same (told v) (read_inside c v s) r
+ReadsInside c told v s r = AnswersByShape (conforms_content c v) Same (told v) (read_inside c v s) r
 
 -- ---- all variants
 
@@ -103,7 +103,7 @@ pub record AboutVariants (L : Type 0) : Type 1 where
 
 -- what may be answered on the content of the variant at a place among these
 abbrev pub ReadsAt : {L : Type 0} → (Contents → Contents) → Told L → Text → Names → ℕ → Contents → ℕ → Option Source → Result L Fault → Type 0
-ReadsAt contents told name ns i cs place s r = Answers (ConformsToOne name ns i (contents cs)) Same (told name ns i) (read_at name ns i (contents cs) place s) r
+ReadsAt contents told name ns i cs place s r = AnswersByShape (ConformsToOne name ns i (contents cs)) Same (told name ns i) (read_at name ns i (contents cs) place s) r
 
 -- ---- one variant
 

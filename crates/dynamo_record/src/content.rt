@@ -1,7 +1,11 @@
+ghost use Rattle.std.specs.Prelude.{◌≡◌, ◌⊎◌};
+ghost use Rattle.dynamo_value.specs.Fault.{message, out_of_memory};
 ghost use Rattle.dynamo_de.specs.Answer.{After};
+ghost use Rattle.dynamo_de.specs.Meets.{Meets};
 ghost use Rattle.dynamo_de.specs.Visitors.{claims_seq, take_elements};
 ghost use Rattle.dynamo_record.specs.Contents.{about_nothing, about_one, about_several};
 ghost use Rattle.dynamo_record.specs.InOrder.{ReadsInOrder};
+ghost use Rattle.dynamo_record.specs.Names.{too_few_text};
 ghost use Rattle.dynamo_record.specs.Variants.{about_content};
 
 use crate::{FieldList, FieldType, VariantList};
@@ -78,13 +82,35 @@ impl<L: FieldList + Drop> VariantList for Several<L> {
     }
 }
 
-/// Why a list is no such elements.
-const TOO_FEW: &str = "invalid length: too few elements, expected tuple";
+/// The refusal of a sequence that ends before the last of what is expected.
+pub(crate) fn too_few<E: Error>(alloc: Global, expecting: &str) -> E
+    ensures { (E.fault result ≡ message (too_few_text expecting.now)) ⊎ (E.fault result ≡ out_of_memory) }
+{
+    match format!(in alloc; "invalid length: too few elements, expected {expecting}") {
+        Ok(text) => E::custom(alloc, &text),
+        Err(_) => E::out_of_memory(),
+    }
+}
+
+/// Reads the fields one after another.
+pub(crate) fn read_elements<L: FieldList + Drop, A: SeqAccess>(
+    mut seq: A,
+    alloc: Global,
+    expecting: &str,
+) -> Result<L, A::Error>
+    ensures { Meets A.Error.fault (ReadsInOrder L.about (A.left seq)) result }
+{
+    match L::read_in_order(&mut seq, alloc) {
+        Ok(Some(fields)) => Ok(fields),
+        Ok(None) => Err(too_few(alloc, expecting)),
+        Err(error) => Err(error),
+    }
+}
 
 #[derive(Drop)]
-pub(crate) struct ElementsVisitor<L> {
-    pub(crate) alloc: Global,
-    pub(crate) of: PhantomData<L>,
+struct ElementsVisitor<L> {
+    alloc: Global,
+    of: PhantomData<L>,
 }
 
 impl<L: FieldList + Drop> Visitor for ElementsVisitor<L> {
@@ -95,7 +121,7 @@ impl<L: FieldList + Drop> Visitor for ElementsVisitor<L> {
     ghost takes = { λ _ s. After (take_elements s) (ReadsInOrder L.about) };
 
     fn expecting(&self) -> &'static str {
-        "tuple"
+        "tuple variant"
     }
 
     fn alloc(&self) -> Global {
@@ -106,11 +132,7 @@ impl<L: FieldList + Drop> Visitor for ElementsVisitor<L> {
         matches!(kind, Kind::Seq)
     }
 
-    fn visit_seq<A: SeqAccess>(self, mut seq: A) -> Result<L, A::Error> {
-        match L::read_in_order(&mut seq, self.alloc) {
-            Ok(Some(fields)) => Ok(fields),
-            Ok(None) => Err(A::Error::custom(self.alloc, TOO_FEW)),
-            Err(error) => Err(error),
-        }
+    fn visit_seq<A: SeqAccess>(self, seq: A) -> Result<L, A::Error> {
+        read_elements(seq, self.alloc, "tuple variant")
     }
 }

@@ -30,7 +30,7 @@ pub use named::{Named, NamedFields};
 pub use newtype::{read_newtype, write_newtype};
 pub use record::{Record, read_record, record_conforms, write_record};
 pub use ref_list::RefList;
-pub use tuple_struct::{conform_tuple_struct, read_tuple_struct, write_tuple_struct};
+pub use tuple_struct::{TupleStruct, read_tuple_struct, tuple_struct_conforms, write_tuple_struct};
 pub use unit_enum::{UnitEnum, conform_unit_enum, read_unit_enum, variant_at, write_unit_enum};
 pub use unit_struct::read_unit_struct;
 pub use variant_list::{Choice, VariantList};

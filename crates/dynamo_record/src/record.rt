@@ -1,5 +1,4 @@
-ghost use Rattle.std.specs.Prelude.{◌≡◌, ◌⊎◌, ◌++◌, Ok, codes, map, []};
-ghost use Rattle.dynamo_value.specs.Fault.{out_of_memory};
+ghost use Rattle.std.specs.Prelude.{◌≡◌, ◌++◌, Ok, codes, map, []};
 ghost use Rattle.dynamo_ser.specs.Datum as datum;
 ghost use Rattle.dynamo_ser.specs.Writes.{Writes};
 ghost use Rattle.dynamo_de.specs.Access.{NextValue};
@@ -9,7 +8,6 @@ ghost use Rattle.dynamo_de.specs.Fields.{NamesOne};
 ghost use Rattle.dynamo_de.specs.Meets.{Meets};
 ghost use Rattle.dynamo_de.specs.Visitors.{claims_str, take_identifier, claims_struct, take_parts};
 ghost use Rattle.dynamo_shape.specs.Conforms.{conforms};
-ghost use Rattle.dynamo_shape.specs.Permits.{IsMessageFault};
 ghost use Rattle.dynamo_shape.specs.Shape.{struct};
 ghost use Rattle.dynamo_shape.proofs.FieldsByName.{Slots};
 ghost use Rattle.dynamo_record.specs.Entries.{FillsAt};
@@ -17,6 +15,7 @@ ghost use Rattle.dynamo_record.specs.Fields.{field_shapes, named_fields};
 ghost use Rattle.dynamo_record.specs.Names.{place_of};
 ghost use Rattle.dynamo_record.specs.Records.{AboutRecord, listed, record_fields, record_reads, FromParts, FromPartsOf, AreNamed, AsLong};
 
+use crate::content::too_few;
 use crate::names::place_of;
 use crate::{FieldList, RefList};
 use dynamo_de::{
@@ -101,16 +100,6 @@ impl<R: Record> DeserializeSeed for PlaceSeed<R> {
             alloc: self.alloc,
             of: PhantomData,
         })
-    }
-}
-
-/// The refusal of a sequence that ends before its last field.
-fn too_few<E: Error>(alloc: Global, expecting: &str) -> E
-    ensures { IsMessageFault (E.fault result) ⊎ (E.fault result ≡ out_of_memory) }
-{
-    match format!(in alloc; "invalid length: too few elements, expected {expecting}") {
-        Ok(text) => E::custom(alloc, &text),
-        Err(_) => E::out_of_memory(),
     }
 }
 

@@ -19,14 +19,14 @@ Keeps {B} {P} {A} {E} gives old new = (pieces : P) (answer : Result A E) → giv
 
 -- the piece that `before` puts before what follows is taken; or it is at fault, whatever follows, and the builder holds
 -- what it held
-abbrev pub Takes : {B P A E U : Type 0} → (B → P → Result A E → Type 0) → B → B → (P → P) → Result U E → Type 0
-Takes {B} {P} {A} {E} {U} gives old new before r = MatchResult r
+abbrev pub TakesPiece : {B P A E U : Type 0} → (B → P → Result A E → Type 0) → B → B → (P → P) → Result U E → Type 0
+TakesPiece {B} {P} {A} {E} {U} gives old new before r = MatchResult r
     (λ _. (pieces : P) (answer : Result A E) → gives new pieces answer → gives old (before pieces) answer)
     (λ e. ((pieces : P) → gives old (before pieces) (Err e)) × Keeps gives old new)
 
 -- what was written for a datum is taken in its place
 abbrev pub TakesWritten : {B P A E U : Type 0} → (Datum → Result A E → Type 0) → A → (B → P → Result A E → Type 0) → B → B → (Datum → P → P) → Result U E → Type 0
-TakesWritten outcome written gives old new before r = (d : Datum) → outcome d (Ok written) → Takes gives old new (before d) r
+TakesWritten outcome written gives old new before r = (d : Datum) → outcome d (Ok written) → TakesPiece gives old new (before d) r
 
 -- a fault of the datum is a fault of all that begins with it
 abbrev pub PassesOn : {B P A E : Type 0} → (E → Fault) → (Datum → Result A E → Type 0) → (B → P → Result A E → Type 0) → B → (Datum → P → P) → Type 0
@@ -44,7 +44,7 @@ PassesOnValue {B} {A} {E} fault outcome gives b = (k v : Datum) (text : List ℕ
 
 -- what was written for a value is taken under the text of a key
 abbrev pub TakesEntry : {B A E U : Type 0} → List ℕ → (Datum → Result A E → Type 0) → A → (B → Pairs → Result A E → Type 0) → B → B → Result U E → Type 0
-TakesEntry text outcome written gives old new r = (k v : Datum) → key_text k ≡ Ok text → outcome v (Ok written) → Takes gives old new (pair k v) r
+TakesEntry text outcome written gives old new r = (k v : Datum) → key_text k ≡ Ok text → outcome v (Ok written) → TakesPiece gives old new (pair k v) r
 
 -- ---- one content
 

@@ -18,7 +18,6 @@
 #![tactic(auto)]
 
 pub mod binary_set;
-mod error;
 mod impls;
 mod list_builder;
 mod map_key;
@@ -31,7 +30,7 @@ pub mod string_set;
 mod struct_builder;
 
 pub use binary_set::BinarySet;
-pub use error::Error;
+pub use dynamo_value::serde_error::Error;
 pub use list_builder::{
     ListBuilder, SerializeSeq, SerializeTuple, SerializeTupleStruct, SerializeTupleVariant,
 };

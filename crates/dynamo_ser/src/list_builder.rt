@@ -1,6 +1,6 @@
 ghost use Rattle.std.specs.Prelude.{◌≡◌, Result};
 ghost use Rattle.dynamo_ser.specs.Datum.{Elements, element, no_elements};
-ghost use Rattle.dynamo_ser.specs.Pieces.{Takes, TakesWritten, PassesOn};
+ghost use Rattle.dynamo_ser.specs.Pieces.{TakesPiece, TakesWritten, PassesOn};
 
 use crate::{Error, Outcomes, Serialize, Serializer};
 
@@ -30,7 +30,7 @@ pub trait ListBuilder<S: Outcomes<Ok = Self::Ok, Error = Self::Error>>: Sized + 
     final fn add_element<T: Serialize>(&mut self, value: &T) -> Result<(), Self::Error>
     where
         S: Serializer,
-        ensures { Takes Self.gives self.old self.new (element (T.tells value.now)) result }
+        ensures { TakesPiece Self.gives self.old self.new (element (T.tells value.now)) result }
     {
         let written = value.serialize(self.element_serializer())?;
         self.push_element(written)
@@ -47,7 +47,7 @@ pub trait SerializeSeq<S: Outcomes<Ok = Self::Ok, Error = Self::Error>>: ListBui
     final fn serialize_element<T: Serialize>(&mut self, value: &T) -> Result<(), Self::Error>
     where
         S: Serializer,
-        ensures { Takes Self.gives self.old self.new (element (T.tells value.now)) result }
+        ensures { TakesPiece Self.gives self.old self.new (element (T.tells value.now)) result }
     {
         self.add_element(value)
     }
@@ -66,7 +66,7 @@ pub trait SerializeTuple<S: Outcomes<Ok = Self::Ok, Error = Self::Error>>: ListB
     final fn serialize_element<T: Serialize>(&mut self, value: &T) -> Result<(), Self::Error>
     where
         S: Serializer,
-        ensures { Takes Self.gives self.old self.new (element (T.tells value.now)) result }
+        ensures { TakesPiece Self.gives self.old self.new (element (T.tells value.now)) result }
     {
         self.add_element(value)
     }
@@ -85,7 +85,7 @@ pub trait SerializeTupleStruct<S: Outcomes<Ok = Self::Ok, Error = Self::Error>>:
     final fn serialize_field<T: Serialize>(&mut self, value: &T) -> Result<(), Self::Error>
     where
         S: Serializer,
-        ensures { Takes Self.gives self.old self.new (element (T.tells value.now)) result }
+        ensures { TakesPiece Self.gives self.old self.new (element (T.tells value.now)) result }
     {
         self.add_element(value)
     }
@@ -104,7 +104,7 @@ pub trait SerializeTupleVariant<S: Outcomes<Ok = Self::Ok, Error = Self::Error>>
     final fn serialize_field<T: Serialize>(&mut self, value: &T) -> Result<(), Self::Error>
     where
         S: Serializer,
-        ensures { Takes Self.gives self.old self.new (element (T.tells value.now)) result }
+        ensures { TakesPiece Self.gives self.old self.new (element (T.tells value.now)) result }
     {
         self.add_element(value)
     }

@@ -3,7 +3,7 @@ ghost use Rattle.dynamo_value.specs.Fault.{out_of_memory, serialize_map_key_call
 ghost use Rattle.dynamo_value.specs.Kind.{fault_of};
 ghost use Rattle.dynamo_ser.specs.Datum.{Datum, Pairs, pair, no_pairs};
 ghost use Rattle.dynamo_ser.specs.Key.{key_text};
-ghost use Rattle.dynamo_ser.specs.Pieces.{Keeps, Takes, TakesEntry, PassesOnKey, PassesOnValue};
+ghost use Rattle.dynamo_ser.specs.Pieces.{Keeps, TakesPiece, TakesEntry, PassesOnKey, PassesOnValue};
 
 use crate::map_key::MapKeySerializer;
 use crate::{Error, Outcomes, Serialize, Serializer};
@@ -95,7 +95,7 @@ pub trait SerializeMap<S: Outcomes<Ok = Self::Ok, Error = Self::Error>>: Sized +
     where
         S: Serializer,
         ensures before { Self.pending self.old ≡ None → MatchResult result (λ _. ⊥) (λ e. (Self.Error.fault e ≡ serialize_map_value_before_key) × Keeps Self.gives self.old self.new) }
-        ensures takes { (text : List ℕ) (k : Datum) → Self.pending self.old ≡ Some text → key_text k ≡ Ok text → Takes Self.gives self.old self.new (pair k (V.tells value.now)) result }
+        ensures takes { (text : List ℕ) (k : Datum) → Self.pending self.old ≡ Some text → key_text k ≡ Ok text → TakesPiece Self.gives self.old self.new (pair k (V.tells value.now)) result }
         ensures pending { Self.pending self.new ≡ None }
     {
         match self.take_key() {
@@ -118,7 +118,7 @@ pub trait SerializeMap<S: Outcomes<Ok = Self::Ok, Error = Self::Error>>: Sized +
     ) -> Result<(), Self::Error>
     where
         S: Serializer,
-        ensures takes { Takes Self.gives self.old self.new (pair (K.tells key.now) (V.tells value.now)) result }
+        ensures takes { TakesPiece Self.gives self.old self.new (pair (K.tells key.now) (V.tells value.now)) result }
         ensures pending { Self.pending self.new ≡ Self.pending self.old }
     {
         match key.serialize(MapKeySerializer::new(self.alloc())) {

@@ -1,6 +1,6 @@
 ghost use Rattle.std.specs.Prelude.{◌≡◌, Result, List, ℕ};
 ghost use Rattle.dynamo_ser.specs.Datum.{Fields, field, no_fields};
-ghost use Rattle.dynamo_ser.specs.Pieces.{Takes, TakesWritten, PassesOn};
+ghost use Rattle.dynamo_ser.specs.Pieces.{TakesPiece, TakesWritten, PassesOn};
 
 use crate::{Error, Outcomes, Serialize, Serializer};
 
@@ -34,7 +34,7 @@ pub trait StructBuilder<S: Outcomes<Ok = Self::Ok, Error = Self::Error>>: Sized 
     ) -> Result<(), Self::Error>
     where
         S: Serializer,
-        ensures { Takes Self.gives self.old self.new (field key.now (T.tells value.now)) result }
+        ensures { TakesPiece Self.gives self.old self.new (field key.now (T.tells value.now)) result }
     {
         let written = value.serialize(self.field_serializer())?;
         self.push_field(key, written)
@@ -55,7 +55,7 @@ pub trait SerializeStruct<S: Outcomes<Ok = Self::Ok, Error = Self::Error>>: Stru
     ) -> Result<(), Self::Error>
     where
         S: Serializer,
-        ensures { Takes Self.gives self.old self.new (field key.now (T.tells value.now)) result }
+        ensures { TakesPiece Self.gives self.old self.new (field key.now (T.tells value.now)) result }
     {
         self.add_field(key, value)
     }
@@ -80,7 +80,7 @@ pub trait SerializeStructVariant<S: Outcomes<Ok = Self::Ok, Error = Self::Error>
     ) -> Result<(), Self::Error>
     where
         S: Serializer,
-        ensures { Takes Self.gives self.old self.new (field key.now (T.tells value.now)) result }
+        ensures { TakesPiece Self.gives self.old self.new (field key.now (T.tells value.now)) result }
     {
         self.add_field(key, value)
     }

@@ -24,7 +24,7 @@ use Rattle.dynamo_shape.specs.Shape.{Shape, boolean, char, string, bytes, unit, 
 use Rattle.dynamo_value.specs.Av.{Av, N, S, B, Boolean, Null, L, M, members_of}
 use Rattle.dynamo_write.specs.Collect.{collect}
 use Rattle.dynamo_write.specs.Set.{set_kind}
-use Rattle.dynamo_write.specs.Written.{single, written, written_elements}
+use Rattle.dynamo_write.specs.Written.{one_member, written, written_elements}
 
 -- some of what is read, unless it is null
 option_at : (s : Shape) (x y : Datum) (a : Av) → read s (attribute a) ≡ value y → Same x y → (e : Datum) × (read (option s) (attribute a) ≡ value e) × Same (cond (is_null a) datum.none (datum.some x)) e
@@ -64,7 +64,7 @@ struct_back name fs gs n t = let r = all_named fs gs n t in (M (members_of (coll
 
 -- written as the name alone, or as a member under it
 abbrev Enumerated : (Text → Answer Datum) → (Text → Av → Answer Datum) → Text → Datum → Type 0
-Enumerated U V t d = (e : Datum) × Same (kept d) e × (((written d ≡ Ok (S t)) × (U t ≡ value e)) ⊎ ((b : Av) × (written d ≡ Ok (single t b)) × (V t b ≡ value e)))
+Enumerated U V t d = (e : Datum) × Same (kept d) e × (((written d ≡ Ok (S t)) × (U t ≡ value e)) ⊎ ((b : Av) × (written d ≡ Ok (one_member t b)) × (V t b ≡ value e)))
 
 abbrev ContentBack : Content → Variant → Datum → Type 0
 ContentBack c v d = Enumerated (λ t. read_inside c v None) (λ t b. read_inside c v (Some (attribute b))) v.name d
@@ -106,7 +106,7 @@ later_variant v c vs name i d n h =
     )
 
 enum_back : (name : Text) (vs : Variants) (d : Datum) → VariantsBack vs name 0 d → ReadsBack (enum name vs) d
-enum_back name vs d h = elim h.2.2 [ inl x ↦ (S h.0, h.2.0, x.0, x.1, h.2.1) | inr y ↦ (single h.0 y.0, h.2.0, y.1, y.2, h.2.1) ]
+enum_back name vs d h = elim h.2.2 [ inl x ↦ (S h.0, h.2.0, x.0, x.1, h.2.1) | inr y ↦ (one_member h.0 y.0, h.2.0, y.1, y.2, h.2.1) ]
 
 one_back : (s : Shape) (v : Variant) (e : Datum) → ReadsBack s e → ContentBack (one s) v (datum.newtype_variant v e)
 one_back s v e h = (datum.newtype_variant v h.1, (h.1, refl, h.4), inr (h.0, rw h.2 refl, rw h.3 refl))

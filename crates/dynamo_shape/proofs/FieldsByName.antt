@@ -1,12 +1,13 @@
 -- A struct that is read by hand, entry by entry, each field by its name, reads as its shape says.
-use Rattle.std.proofs.Common.{◌≡◌, ℕ, zero, suc, true, false, cond, List, [], ◌∷◌, Option, Some, None, refl, sym, ap, ◌∙◌}
+use Rattle.std.proofs.Common.{◌≡◌, ℕ, zero, suc, true, false, cond, List, [], ◌∷◌, Option, Some, None, refl, sym, ap, ◌∙◌, Ok, Err}
 use Rattle.std.specs.Prelude.{⊤, if◌then◌else◌, bytes_eq}
 use Rattle.std.proofs.lemmas.Slice.Eq.{bytes_eq-Decides}
 use Rattle.dynamo_value.specs.Av.{Av}
 use Rattle.dynamo_ser.specs.Datum as datum
 use Rattle.dynamo_ser.specs.Datum.{Datum, Fields}
 use Rattle.dynamo_de.specs.Answer as answer
-use Rattle.dynamo_de.specs.Answer.{Answer, ◌>>=◌, value_or}
+use Rattle.dynamo_de.specs.Answer.{Answer, value_or}
+use Rattle.dynamo_value.specs.Steps.{◌>>=◌}
 use Rattle.dynamo_de.specs.Fields.{read_fields}
 use Rattle.dynamo_de.specs.Ignored.{ignore}
 use Rattle.dynamo_de.specs.Source.{Source, Text, Entry, attribute}
@@ -142,14 +143,12 @@ module _ {F S B : Type 0} (entry : F → S → Av → Answer S) (slots : S → S
   closed l os = into make (close fs (after fs l os))
 
   pushed : (t : Text) (d : Datum) (rest : Answer (List (Text × Datum))) (os : Slots) → (rest >>= λ l. closed l (fill_named fs t d os)) ≡ ((rest >>= λ l. answer.value ((t, d) ∷ l)) >>= λ l. closed l os)
-  pushed t d (answer.value l) os = ap (λ x. into make (close fs x)) (after_filled fs t d l os differ)
-  pushed t d (answer.fault f) os = refl
-  pushed t d answer.refused os = refl
+  pushed t d (Ok l) os = ap (λ x. into make (close fs x)) (after_filled fs t d l os differ)
+  pushed t d (Err f) os = refl
 
   regrouped : {X Y : Type 0} (a : Answer X) (f : X → Answer Y) (g : Y → Answer B) → (a >>= λ x. f x >>= g) ≡ ((a >>= f) >>= g)
-  regrouped (answer.value x) f g = refl
-  regrouped (answer.fault e) f g = refl
-  regrouped answer.refused f g = refl
+  regrouped (Ok x) f g = refl
+  regrouped (Err e) f g = refl
 
   from_here : (es : List Entry) (u : S) → read_fields named entry finish u es ≡ (read_each_entry (read_field fs) es >>= λ l. closed l (slots u))
   unfolding read_fields Reads
@@ -161,9 +160,8 @@ module _ {F S B : Type 0} (entry : F → S → Av → Answer S) (slots : S → S
       ∙ regrouped (read_field fs e.0 e.1) (λ d. read_each_entry (read_field fs) es >>= λ l. answer.value ((e.0, d) ∷ l)) (λ l. closed l (slots u))
 
   among : (rest : Answer (List (Text × Datum))) → (rest >>= λ l. closed l (empty fs)) ≡ into make (rest >>= fields_among fs [])
-  among (answer.value l) = ap (into make) (close_among fs [] l differ (unseen_none fs))
-  among (answer.fault f) = refl
-  among answer.refused = refl
+  among (Ok l) = ap (into make) (close_among fs [] l differ (unseen_none fs))
+  among (Err f) = refl
 
   -- all entries, from a start at which nothing was read
   pub all_named : (start : S) → slots start ≡ empty fs → (es : List Entry) → read_fields named entry finish start es ≡ into make (fields_by_name fs (read_field fs) es)

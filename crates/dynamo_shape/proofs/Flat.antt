@@ -12,7 +12,8 @@ use Rattle.dynamo_shape.specs.Conforms.{AllElements, AllPairs, conforms, conform
 use Rattle.dynamo_shape.specs.Kept.{is_null, kept, kept_elements, kept_pairs, kept_fields, is_written_null}
 use Rattle.dynamo_shape.specs.Shape.{Shape, boolean, char, string, bytes, unit, integer, unit_struct, option, newtype, list, set, tuple, tuple_struct, map, struct, enum, Shapes, no_shapes, shape, FieldShapes, no_field_shapes, field_shape, Content, nothing, one, several, named, Variants, no_variants, variant}
 use Rattle.dynamo_value.specs.Av.{Av, L}
-use Rattle.dynamo_value.specs.Fault.{Fault, ◌>>=◌}
+use Rattle.dynamo_value.specs.Fault.{Fault}
+use Rattle.dynamo_value.specs.Steps.{◌>>=◌}
 use Rattle.dynamo_write.specs.Set.{set_of, set_elements}
 use Rattle.dynamo_write.specs.Written.{written, written_elements, written_pairs, written_fields}
 

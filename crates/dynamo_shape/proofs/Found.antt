@@ -73,10 +73,6 @@ put_keys P k v (m ∷ ms) p h = elim (text_cmp k m.0) as (λ o. KeysIn P (by_ord
   | Greater ↦ (h.0, put_keys P k v ms p h.1)
 ]
 
-onto_keys : (P : Text → Type 0) (es ms : List (Text × Av)) → KeysIn P es → KeysIn P ms → KeysIn P (collect_onto ms es)
-onto_keys P [] ms h k = k
-onto_keys P (e ∷ es) ms h k = onto_keys P es (put text_cmp e.0 e.1 ms) h.1 (put_keys P e.0 e.1 ms h.0 k)
-
 or_true : (a b : Bool) → b ≡ true → (a || b) ≡ true
 or_true true b h = refl
 or_true false b h = h

@@ -1,9 +1,10 @@
 -- Fields that are read by hand, one after another, read as their shapes say.
-use Rattle.std.proofs.Common.{◌≡◌, List, [], ◌∷◌, Option, refl, sym, ◌∙◌}
+use Rattle.std.proofs.Common.{◌≡◌, List, [], ◌∷◌, Option, refl, sym, ◌∙◌, Ok, Err}
 use Rattle.dynamo_ser.specs.Datum as datum
 use Rattle.dynamo_ser.specs.Datum.{Datum, Fields}
 use Rattle.dynamo_de.specs.Answer as answer
-use Rattle.dynamo_de.specs.Answer.{Answer, ◌>>=◌}
+use Rattle.dynamo_de.specs.Answer.{Answer}
+use Rattle.dynamo_value.specs.Steps.{◌>>=◌}
 use Rattle.dynamo_de.specs.Fields.{read_first}
 use Rattle.dynamo_de.specs.Source.{Source, Text}
 use Rattle.dynamo_shape.specs.Read.{into, fields_in_order}
@@ -11,9 +12,8 @@ use Rattle.dynamo_shape.specs.Shape.{Shape, FieldShapes, no_field_shapes, field_
 use Rattle.dynamo_shape.proofs.ByHand.{IsReadAs, into_into}
 
 made_next : {A B C D E : Type 0} (make : A → B) (r : Answer A) (next : A → Answer E) (rest : Answer C) (join : B → C → D) (f : D → E) → ((x : A) → next x ≡ into (λ y. f (join (make x) y)) rest) → r >>= next ≡ into f (into make r >>= λ d. rest >>= λ y. answer.value (join d y))
-made_next make (answer.value x) next rest join f h = h x ∙ sym (into_into (join (make x)) f rest)
-made_next make (answer.fault e) next rest join f h = refl
-made_next make answer.refused next rest join f h = refl
+made_next make (Ok x) next rest join f h = h x ∙ sym (into_into (join (make x)) f rest)
+made_next make (Err e) next rest join f h = refl
 
 -- what is read of these sources, one after another, is what is made of the fields
 unfoldable pub ListsFields : {B : Type 0} → FieldShapes → (List Source → Answer B) → (Fields → B) → Type 0

@@ -9,12 +9,13 @@ use Rattle.dynamo_ser.specs.Datum as datum
 use Rattle.dynamo_ser.specs.Datum.{Datum, Elements, elements_of}
 use Rattle.dynamo_ser.specs.Options.{option_tells}
 use Rattle.dynamo_de.specs.Answer as answer
-use Rattle.dynamo_de.specs.Answer.{After, ◌>>=◌}
+use Rattle.dynamo_de.specs.Answer.{After}
+use Rattle.dynamo_value.specs.Steps.{◌>>=◌}
 use Rattle.dynamo_de.specs.Contents.{read_content, read_elements}
 use Rattle.dynamo_de.specs.Reads.{Through, ReadsOption, ReadsEach, ReadsList}
 use Rattle.dynamo_de.specs.Source.{Source}
 use Rattle.dynamo_shape.specs.Conforms.{conforms, AllElements}
-use Rattle.dynamo_shape.specs.Laws.{Answers, ReadsByShape}
+use Rattle.dynamo_shape.specs.Laws.{AnswersByShape, ReadsByShape}
 use Rattle.dynamo_shape.specs.Read.{read, read_list, read_some}
 use Rattle.dynamo_shape.specs.Same.{Same, SameElements}
 use Rattle.dynamo_shape.specs.Shape as shape
@@ -31,7 +32,7 @@ elements_in _ = datum.no_elements
 abbrev pub told_each : {T : Type 0} → (T → Datum) → List T → Elements
 told_each tells vs = elements_of (map tells vs)
 
-pub each_answered : {T : Type 0} (s : Shape) (tells : T → Datum) (reads : Source → Result T Fault → Type 0) → ReadsByShape s tells reads → (ss : List Source) (r : Result (List T) Fault) → ReadsEach reads ss r → Answers (AllElements (conforms s)) SameElements (told_each tells) (read_list (read s) ss) r
+pub each_answered : {T : Type 0} (s : Shape) (tells : T → Datum) (reads : Source → Result T Fault → Type 0) → ReadsByShape s tells reads → (ss : List Source) (r : Result (List T) Fault) → ReadsEach reads ss r → AnswersByShape (AllElements (conforms s)) SameElements (told_each tells) (read_list (read s) ss) r
 each_answered s tells reads h [] (Ok vs) e = (datum.no_elements, refl, λ c. subst (λ ws. SameElements datum.no_elements (told_each tells ws)) (sym e) refl)
 each_answered s tells reads h [] (Err f) e = absurd e
 each_answered s tells reads h (x ∷ ss) (Ok vs) (v, ws, e, a, b) =
@@ -49,7 +50,7 @@ each_answered s tells reads h (x ∷ ss) (Err f) (inr (v, a, b)) =
     let q = each_answered s tells reads h ss (Err f) b in
     rw p.1 (stops SameElements SameElements (read_list (read s) ss) (λ ds. answer.value (datum.element p.0 ds)) f q)
 
-list_answered : {T : Type 0} (s : Shape) (tells : T → Datum) (reads : Source → Result T Fault → Type 0) → ReadsByShape s tells reads → (ss : List Source) (r : Result (Vec T Global) Fault) → ReadsList reads ss r → Answers (AllElements (conforms s)) SameElements (λ v. told_each tells v.items) (read_list (read s) ss) r
+list_answered : {T : Type 0} (s : Shape) (tells : T → Datum) (reads : Source → Result T Fault → Type 0) → ReadsByShape s tells reads → (ss : List Source) (r : Result (Vec T Global) Fault) → ReadsList reads ss r → AnswersByShape (AllElements (conforms s)) SameElements (λ v. told_each tells v.items) (read_list (read s) ss) r
 list_answered s tells reads h ss (Ok v) a = each_answered s tells reads h ss (Ok v.items) a
 list_answered s tells reads h ss (Err f) a = each_answered s tells reads h ss (Err f) a
 
@@ -63,19 +64,12 @@ list_permitted {T} s tells reads h source r a =
 
 -- ---- a walk over a list whose elements conform one after another
 
-pub none_yet : {T : Type 0} (P : Datum → Type 0) (tells : T → Datum) (vs : List T) → AllElements P (told_each tells (take 0 vs))
-none_yet P tells [] = tt
-none_yet P tells (v ∷ vs) = tt
-
 all_append : {T : Type 0} (P : Datum → Type 0) (tells : T → Datum) (vs : List T) (x : T) → AllElements P (told_each tells vs) → P (tells x) → AllElements P (told_each tells (vs ++ x ∷ []))
 all_append P tells [] x h p = (p, tt)
 all_append P tells (v ∷ vs) x h p = (h.0, all_append P tells vs x h.1 p)
 
 pub one_more : {T : Type 0} (P : Datum → Type 0) (tells : T → Datum) (vs : List T) (i : ℕ) (x : T) → i < length vs → x ≡ get_or vs i x → AllElements P (told_each tells (take i vs)) → P (tells x) → AllElements P (told_each tells (take (i + 1) vs))
 one_more P tells vs i x lt at h p = subst (λ us. AllElements P (told_each tells us)) (sym (take_more vs i x lt ∙ ap (λ y. take i vs ++ y ∷ []) (sym at))) (all_append P tells (take i vs) x h p)
-
-pub all_taken : {T : Type 0} (P : Datum → Type 0) (tells : T → Datum) (vs : List T) (i : ℕ) → length vs ≤ i → AllElements P (told_each tells (take i vs)) → AllElements P (told_each tells vs)
-all_taken P tells vs i le h = subst (λ us. AllElements P (told_each tells us)) (take_all i vs le) h
 
 -- ---- options
 
@@ -95,7 +89,7 @@ pub some_conforms : (s : Shape) (d : Datum) → conforms (shape.option s) (datum
 some_conforms s d (inl n) = absurd (subst IsSome n tt)
 some_conforms s d (inr (e, same, c)) = subst (conforms s) (sym (ap content_in same)) c
 
-option_answered : {T : Type 0} (s : Shape) (tells : T → Datum) (reads : Source → Result T Fault → Type 0) → ReadsByShape s tells reads → (o : Option Source) (r : Result (Option T) Fault) → ReadsOption reads o r → Answers (conforms (shape.option s)) Same (option_tells tells) (read_some (read s) o) r
+option_answered : {T : Type 0} (s : Shape) (tells : T → Datum) (reads : Source → Result T Fault → Type 0) → ReadsByShape s tells reads → (o : Option Source) (r : Result (Option T) Fault) → ReadsOption reads o r → AnswersByShape (conforms (shape.option s)) Same (option_tells tells) (read_some (read s) o) r
 option_answered s tells reads h None (Ok v) e = (datum.none, refl, λ c. subst (λ o. Same datum.none (option_tells tells o)) (sym (ap (λ r. value_or r v) e)) refl)
 option_answered s tells reads h None (Err f) e = absurd (no_fault (sym e))
 option_answered s tells reads h (Some x) (Ok None) e = absurd e

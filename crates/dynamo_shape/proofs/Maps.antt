@@ -17,7 +17,7 @@ use Rattle.dynamo_ser.specs.Datum as datum
 use Rattle.dynamo_de.specs.Answer.{value}
 use Rattle.dynamo_de.specs.Source.{Text, attribute, key_text, entries_of}
 use Rattle.dynamo_ser.specs.Datum.{Datum, Pairs, no_pairs, pair}
-use Rattle.dynamo_shape.specs.Conforms.{AllPairs, HasKey, KeysDiffer}
+use Rattle.dynamo_shape.specs.Conforms.{AllPairs, HasKey, PairsDiffer}
 use Rattle.dynamo_shape.specs.Kept.{kept, kept_pairs}
 use Rattle.dynamo_shape.specs.Read.{read, read_pairs}
 use Rattle.dynamo_shape.specs.ReadsBack.{ReadsBack}
@@ -64,7 +64,7 @@ pub record PairsRead (k s : Shape) (acc qs : Pairs) (ms : Members) : Type 0 wher
   pub from : (l y : Datum) → Has l y qs → Has l y acc ⊎ SomeMember (Gives k s l y) ms
   pub keeps : (l : Datum) → HasKey l acc → HasKey l qs
   pub each : EachMember (λ t a. (l : Datum) → read k (key_text t) ≡ value l → HasKey l qs) ms
-  pub differ : KeysDiffer acc → KeysDiffer qs
+  pub differ : PairsDiffer acc → PairsDiffer qs
 
 pairs_read : (k s : Shape) (ms : Members) (acc : Pairs) → EachMember (Readable k s) ms → (qs : Pairs) × (read_pairs (read k) (read s) acc (entries_of ms) ≡ value qs) × PairsRead k s acc qs ms
 pairs_read k s no_members acc h = (acc, refl, record { from = λ l y g. inl g; keeps = λ l g. g; each = tt; differ = λ g. g })
@@ -121,7 +121,7 @@ module _ (k s : Shape) where
       ] in
       (other, listed_fresh ps es l t h.2 (λ g. n (inr g)) f)
 
-  listed_distinct : (ps : Pairs) (es : List (Text × Av)) → KeysDiffer ps → Listed k s ps es → Distinct es
+  listed_distinct : (ps : Pairs) (es : List (Text × Av)) → PairsDiffer ps → Listed k s ps es → Distinct es
   listed_distinct no_pairs [] n h = tt
   listed_distinct no_pairs (x ∷ es) n h = absurd h
   listed_distinct (pair l e ps) [] n h = absurd h
@@ -153,11 +153,11 @@ module _ (k s : Shape) where
   key_in no_pairs l h = absurd h
   key_in (pair m d ps) l h = elim h [ inl x ↦ (d, inl (x, refl)) | inr z ↦ let r = key_in ps l z in (r.0, inr r.1) ]
 
-  values_differ : (ps : Pairs) → KeysDiffer ps → KeysDiffer (values ps)
+  values_differ : (ps : Pairs) → PairsDiffer ps → PairsDiffer (values ps)
   values_differ no_pairs h = tt
   values_differ (pair l e ps) h = (λ n. let r = key_in ps l n in h.0 (has_key l r.0 ps r.1), values_differ ps h.1)
 
-  entries_read : (ps : Pairs) (es : List (Text × Av)) → KeysDiffer ps → Listed k s ps es → (qs : Pairs) × (read_pairs (read k) (read s) no_pairs (entries_of (members_of (collect es))) ≡ value qs) × SamePairs (values ps) qs
+  entries_read : (ps : Pairs) (es : List (Text × Av)) → PairsDiffer ps → Listed k s ps es → (qs : Pairs) × (read_pairs (read k) (read s) no_pairs (entries_of (members_of (collect es))) ≡ value qs) × SamePairs (values ps) qs
   entries_read ps es n h =
       let ms : Members = members_of (collect es) in
       let each : EachMember (OfPair k s ps) ms = collected (OfPair k s ps) es (listed_each ps ps es h (λ l e g. g)) in
@@ -192,13 +192,13 @@ module _ (k s : Shape) where
       let t = pairs_back ps c.1 in
       ((a.0, b.0) ∷ t.0, rw (a.1, b.2, t.1) refl, ((a.2, a.3), (b.1, b.3, b.4), t.2))
 
-  pub map_back : (ps : Pairs) → KeysDiffer ps → PairsBack ps → ReadsBack (map k s) (datum.map ps)
+  pub map_back : (ps : Pairs) → PairsDiffer ps → PairsBack ps → ReadsBack (map k s) (datum.map ps)
   unfolding PairsBack
   map_back ps n t =
       let r = entries_read ps t.0 n t.2 in
       (M (members_of (collect t.0)), datum.map r.0, rw t.1 refl, rw r.1 refl, (r.0, refl, subst (λ xs. SamePairs xs r.0) (sym (listed_flat ps t.0 t.2)) r.2))
 
-  pub distinct_back : (ps : Pairs) → KeysDiffer ps → PairsBack ps → (es : List (Text × Av)) × (written_pairs ps ≡ Ok es) × Distinct es
+  pub distinct_back : (ps : Pairs) → PairsDiffer ps → PairsBack ps → (es : List (Text × Av)) × (written_pairs ps ≡ Ok es) × Distinct es
   unfolding PairsBack
   distinct_back ps n t = (t.0, t.1, listed_distinct ps t.0 n t.2)
 

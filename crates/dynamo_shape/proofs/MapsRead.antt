@@ -9,12 +9,13 @@ use Rattle.dynamo_ser.specs.Datum as datum
 use Rattle.dynamo_ser.specs.Datum.{Datum, Pairs, no_pairs, pair, pairs_of}
 use Rattle.dynamo_de.specs.Access.{ReadsPair}
 use Rattle.dynamo_de.specs.Answer as answer
-use Rattle.dynamo_de.specs.Answer.{Answer, After, ◌>>=◌}
+use Rattle.dynamo_de.specs.Answer.{Answer, After}
+use Rattle.dynamo_value.specs.Steps.{◌>>=◌}
 use Rattle.dynamo_de.specs.Contents.{read_entries}
 use Rattle.dynamo_de.specs.Reads.{ReadsEach, ReadsMap}
 use Rattle.dynamo_de.specs.Source.{Source, Entry, attribute, key_text}
-use Rattle.dynamo_shape.specs.Conforms.{conforms, AllPairs, HasKey, KeysDiffer}
-use Rattle.dynamo_shape.specs.Laws.{Answers, ReadsByShape, EqualAsTold}
+use Rattle.dynamo_shape.specs.Conforms.{conforms, AllPairs, HasKey, PairsDiffer}
+use Rattle.dynamo_shape.specs.Laws.{AnswersByShape, ReadsByShape, EqualAsTold}
 use Rattle.dynamo_shape.specs.Permits.{Permits}
 use Rattle.dynamo_shape.specs.Read.{read, read_pairs}
 use Rattle.dynamo_shape.specs.Same.{Same, SamePairs}
@@ -36,7 +37,7 @@ key_has l no_pairs h = absurd h
 key_has l (pair k d ps) (inl e) = (d, inl (e, refl))
 key_has l (pair k d ps) (inr h) = let t = key_has l ps h in (t.0, inr t.1)
 
-alone : (l y z : Datum) (ps : Pairs) → KeysDiffer ps → Has l y ps → Has l z ps → y ≡ z
+alone : (l y z : Datum) (ps : Pairs) → PairsDiffer ps → Has l y ps → Has l z ps → y ≡ z
 alone l y z no_pairs d h g = absurd h
 alone l y z (pair k e ps) d (inl h) (inl g) = h.1 ∙ sym g.1
 alone l y z (pair k e ps) d (inl h) (inr g) = absurd (d.0 (subst (λ m. HasKey m ps) h.0 (has_key l z ps g)))
@@ -48,7 +49,7 @@ value_conforms k s l y no_pairs all h = absurd h
 value_conforms k s l y (pair m e ps) all (inl h) = subst (conforms s) (sym h.1) all.0.1
 value_conforms k s l y (pair m e ps) all (inr h) = value_conforms k s l y ps all.1 h
 
-put_there : (l e : Datum) (ps : Pairs) → IsKeyDatum l → KeysDiffer ps → (y : Datum) → Has l y (put_pair l e ps) → y ≡ e
+put_there : (l e : Datum) (ps : Pairs) → IsKeyDatum l → PairsDiffer ps → (y : Datum) → Has l y (put_pair l e ps) → y ≡ e
 put_there l e no_pairs s d y h = elim h [ inl x ↦ x.1 | inr x ↦ absurd x ]
 put_there l e (pair k c ps) s d y h =
     elim (same_key l k) as (λ b. same_key l k ≡ b → Has l y (cond b (pair k e ps) (pair k c (put_pair l e ps))) → y ≡ e) [
@@ -57,9 +58,8 @@ put_there l e (pair k c ps) s d y h =
     ] refl h
 
 in_turn : {A B C : Type 0} (a : Answer A) (f : A → Answer B) (g : B → Answer C) → ((a >>= f) >>= g) ≡ (a >>= λ x. f x >>= g)
-in_turn (answer.value x) f g = refl
-in_turn (answer.fault e) f g = refl
-in_turn answer.refused f g = refl
+in_turn (Ok x) f g = refl
+in_turn (Err e) f g = refl
 
 -- ---- what a map tells, and what it has at a key
 
@@ -76,7 +76,7 @@ module _ {K V : Type 0} (eq : K → K → Bool) (tk : K → Datum) (tv : V → D
       ] refl h
 
   -- with distinct keys, the first is the only one
-  pub own : (q : K) (y : Datum) (es : List (K × V)) → KeysDiffer (told es) → Has (tk q) y (told es) → (v : V) × (lookup (eq q) es ≡ Some v) × (tv v ≡ y)
+  pub own : (q : K) (y : Datum) (es : List (K × V)) → PairsDiffer (told es) → Has (tk q) y (told es) → (v : V) × (lookup (eq q) es ≡ Some v) × (tv v ≡ y)
   own q y [] d h = absurd h
   own q y (e ∷ es) d h =
       elim (eq q e.0) as (λ b. eq q e.0 ≡ b → (v : V) × (cond b (Some e.1) (lookup (eq q) es) ≡ Some v) × (tv v ≡ y)) [
@@ -129,7 +129,7 @@ module _ {K V : Type 0} (eq : K → K → Bool) (tk : K → Datum) (tv : V → D
   module _ (k s : Shape) (keys : Source → Result K Fault → Type 0) (values : Source → Result V Fault → Type 0) (hk : ReadsByShape k tk keys) (hv : ReadsByShape s tv values) (apart : (l : Datum) (q : K) → IsKeyDatum l → Same l (tk q) → l ≡ tk q) where
     -- the pairs that were read, and what the map has at each key
     pub record Tracks (acc : Pairs) (f : K → Option V) : Type 0 where
-      pub differ : KeysDiffer acc
+      pub differ : PairsDiffer acc
       pub from : (l y : Datum) → Has l y acc → (q : K) × (v : V) × (tk q ≡ l) × (f q ≡ Some v) × (conforms s (tv v) → Same y (tv v))
       pub to : (q : K) (v : V) → f q ≡ Some v → HasKey (tk q) acc
 
@@ -184,7 +184,7 @@ module _ {K V : Type 0} (eq : K → K → Bool) (tk : K → Datum) (tv : V → D
         rw (l.1, y.1) (entries_fail es f more (put_pair l.0 y.0 acc))
 
     -- the map has what was read at each key
-    module _ (qs : Pairs) (f : K → Option V) (es : List (K × V)) (tracks : Tracks qs f) (same : (q : K) → lookup (eq q) es ≡ f q) (parts : AllPairs (λ l e. conforms k l × conforms s e) (told es)) (differ : KeysDiffer (told es)) where
+    module _ (qs : Pairs) (f : K → Option V) (es : List (K × V)) (tracks : Tracks qs f) (same : (q : K) → lookup (eq q) es ≡ f q) (parts : AllPairs (λ l e. conforms k l × conforms s e) (told es)) (differ : PairsDiffer (told es)) where
       there : (l : Datum) → HasKey l qs → HasKey l (told es)
       there l h =
           let y = key_has l qs h in
@@ -212,7 +212,7 @@ module _ {K V : Type 0} (eq : K → K → Bool) (tk : K → Datum) (tv : V → D
           | false ↦ λ t g. keys_conform es q v all.1 g
         ] refl h
 
-    map_answered : {M : Type 0} (entries : M → List (K × V)) (get : M → K → Option V) → ((m : M) (q : K) → get m q ≡ lookup (eq q) (entries m)) → (es : List Entry) (r : Result M Fault) → ReadsMap get eq keys values es r → Answers (conforms (shape.map k s)) Same (λ m. datum.map (told (entries m))) (read_pairs (read k) (read s) no_pairs es >>= λ ps. answer.value (datum.map ps)) r
+    map_answered : {M : Type 0} (entries : M → List (K × V)) (get : M → K → Option V) → ((m : M) (q : K) → get m q ≡ lookup (eq q) (entries m)) → (es : List Entry) (r : Result M Fault) → ReadsMap get eq keys values es r → AnswersByShape (conforms (shape.map k s)) Same (λ m. datum.map (told (entries m))) (read_pairs (read k) (read s) no_pairs es >>= λ ps. answer.value (datum.map ps)) r
     unfolding ReadsMap
     map_answered entries get gets es (Ok m) (ps, r, has) =
         let t = entries_read es ps r no_pairs (λ _. None) in (
@@ -221,7 +221,7 @@ module _ {K V : Type 0} (eq : K → K → Bool) (tk : K → Datum) (tv : V → D
           λ c.
               let known : told (entries m) ≡ c.0 = ap pairs_in c.1 in
               let parts : AllPairs (λ l e. conforms k l × conforms s e) (told (entries m)) = subst (AllPairs (λ l e. conforms k l × conforms s e)) (sym known) c.2 in
-              let differ : KeysDiffer (told (entries m)) = subst KeysDiffer (sym known) c.3 in
+              let differ : PairsDiffer (told (entries m)) = subst PairsDiffer (sym known) c.3 in
               let same : (q : K) → lookup (eq q) (entries m) ≡ update_all eq (λ _. None) ps q = λ q. sym (gets m q) ∙ has q in
               let conform = all_found ps (λ _. None) (λ q. conforms k (tk q)) (λ q v h. keys_conform (entries m) q v parts (same q ∙ h)) in
               (told (entries m), refl, read_as_told t.0 (update_all eq (λ _. None) ps) (entries m) (t.2 conform nothing_yet) same parts differ),
@@ -230,5 +230,5 @@ module _ {K V : Type 0} (eq : K → K → Bool) (tk : K → Datum) (tv : V → D
 
     pub map_permitted : {M : Type 0} (entries : M → List (K × V)) (get : M → K → Option V) → ((m : M) (q : K) → get m q ≡ lookup (eq q) (entries m)) → ReadsByShape (shape.map k s) (λ m. datum.map (told (entries m))) (λ source. After (read_entries source) (ReadsMap get eq keys values))
     map_permitted {M} entries get gets source r a =
-        subst (λ x. Answers (conforms (shape.map k s)) Same (λ m. datum.map (told (entries m))) x r) (sym (in_turn (read_entries source) (read_pairs (read k) (read s) no_pairs) (λ ps. answer.value (datum.map ps))))
+        subst (λ x. AnswersByShape (conforms (shape.map k s)) Same (λ m. datum.map (told (entries m))) x r) (sym (in_turn (read_entries source) (read_pairs (read k) (read s) no_pairs) (λ ps. answer.value (datum.map ps))))
         (after (conforms (shape.map k s)) Same (λ m. datum.map (told (entries m))) (ReadsMap get eq keys values) (λ es. read_pairs (read k) (read s) no_pairs es >>= λ ps. answer.value (datum.map ps)) (map_answered entries get gets) (read_entries source) r a)

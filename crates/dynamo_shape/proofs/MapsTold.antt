@@ -7,7 +7,7 @@ use Rattle.std.proofs.lemmas.Option.{none-some, same_Some}
 use Rattle.dynamo_ser.specs.Datum as datum
 use Rattle.dynamo_ser.specs.Datum.{Datum, Pairs, no_pairs, pair}
 use Rattle.dynamo_shape.specs.ByValue.{SameMap, SameOption}
-use Rattle.dynamo_shape.specs.Conforms.{conforms, AllPairs, HasKey, KeysDiffer}
+use Rattle.dynamo_shape.specs.Conforms.{conforms, AllPairs, HasKey, PairsDiffer}
 use Rattle.dynamo_shape.specs.Laws.{EqualAsTold, ToldApart, IsToldByValue, ToldAlike}
 use Rattle.dynamo_shape.specs.Same.{Same, SamePairs}
 use Rattle.dynamo_shape.specs.Shape as shape
@@ -32,12 +32,12 @@ pairs_in _ = no_pairs
 pairs_of_maps : (ps qs : Pairs) → Same (datum.map ps) (datum.map qs) → SamePairs ps qs
 pairs_of_maps ps qs h = subst (SamePairs ps) (sym (ap pairs_in h.1)) h.2
 
-in_map : (k s : Shape) (ps : Pairs) → conforms (shape.map k s) (datum.map ps) → AllPairs (λ l e. conforms k l × conforms s e) ps × KeysDiffer ps
-in_map k s ps c = let known : ps ≡ c.0 = ap pairs_in c.1 in (subst (AllPairs (λ l e. conforms k l × conforms s e)) (sym known) c.2, subst KeysDiffer (sym known) c.3)
+in_map : (k s : Shape) (ps : Pairs) → conforms (shape.map k s) (datum.map ps) → AllPairs (λ l e. conforms k l × conforms s e) ps × PairsDiffer ps
+in_map k s ps c = let known : ps ≡ c.0 = ap pairs_in c.1 in (subst (AllPairs (λ l e. conforms k l × conforms s e)) (sym known) c.2, subst PairsDiffer (sym known) c.3)
 
 module _ {K V : Type 0} (eq : K → K → Bool) (tk : K → Datum) (tv : V → Datum) (equal : EqualAsTold tk eq) (apart : ToldApart tk) (k s : Shape) (same : V → V → Type 0) (hv : IsToldByValue s tv same) where
   -- what one has at a key, the other has too
-  has_too : (es fs : List (K × V)) → KeysDiffer (told eq tk tv equal fs) → SamePairs (told eq tk tv equal es) (told eq tk tv equal fs) → (q : K) (v : V) → lookup (eq q) es ≡ Some v → (w : V) × (lookup (eq q) fs ≡ Some w) × Same (tv v) (tv w)
+  has_too : (es fs : List (K × V)) → PairsDiffer (told eq tk tv equal fs) → SamePairs (told eq tk tv equal es) (told eq tk tv equal fs) → (q : K) (v : V) → lookup (eq q) es ≡ Some v → (w : V) × (lookup (eq q) fs ≡ Some w) × Same (tv v) (tv w)
   has_too es fs differ alike q v h =
       let t = like_it (told eq tk tv equal es) (told eq tk tv equal fs) alike (tk q) (tv v) (found eq tk tv equal q v es h) in
       let p = a_key eq tk tv equal t.0 t.1 fs t.2 in
@@ -132,7 +132,7 @@ module _ {K V : Type 0} (eq : K → K → Bool) (tk : K → Datum) (tv : V → D
   none_equal q (e ∷ es) all (inl h) = true≢false (sym ((equal q e.0).1 h) ∙ all.0)
   none_equal q (e ∷ es) all (inr h) = none_equal q es all.1 h
 
-  keys_differ : (es : List (K × V)) → IsDistinct eq (keys_of es) → KeysDiffer (told eq tk tv equal es)
+  keys_differ : (es : List (K × V)) → IsDistinct eq (keys_of es) → PairsDiffer (told eq tk tv equal es)
   unfolding IsDistinct
   keys_differ [] d = tt
   keys_differ (e ∷ es) d = (none_equal e.0 es d.0, keys_differ es d.1)

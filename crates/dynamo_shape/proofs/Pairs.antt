@@ -1,5 +1,5 @@
 -- Pairs of which each key stands once.
-use Rattle.std.proofs.Common.{◌≡◌, ◌⊎◌, ℕ, ℤ, pos, negsuc, Bool, true, false, cond, ◌&&◌, ◌==◌, Option, Some, None, refl, sym, ap, subst, ◌∙◌, inl, inr, arith}
+use Rattle.std.proofs.Common.{◌≡◌, ◌⊎◌, ℕ, ℤ, pos, negsuc, Bool, true, false, cond, ◌&&◌, ◌==◌, Option, Some, None, refl, sym, ap, subst, ◌∙◌, inl, inr, arith, Ok, Err}
 use Rattle.std.specs.Prelude.{⊤, bytes_eq, codes}
 use Rattle.std.proofs.lemmas.Bool.{true≢false, and_parts}
 use Rattle.std.proofs.lemmas.Bool.Decides.{nat_tests}
@@ -12,7 +12,7 @@ use Rattle.dynamo_de.specs.Scalars.{one_char}
 use Rattle.dynamo_de.specs.Source.{Text, key_text}
 use Rattle.dynamo_value.specs.Fault.{expected_string, expected_num}
 use Rattle.dynamo_ser.specs.Datum.{Variant, Datum, Pairs, no_pairs, pair}
-use Rattle.dynamo_shape.specs.Conforms.{HasKey, KeysDiffer}
+use Rattle.dynamo_shape.specs.Conforms.{HasKey, PairsDiffer}
 use Rattle.dynamo_shape.specs.Read.{into, read, read_inside, read_one_of}
 use Rattle.dynamo_ser.specs.Without.{Without}
 use Rattle.dynamo_shape.specs.Same.{Same, SamePairs}
@@ -88,10 +88,6 @@ same_is (datum.unit_variant v) e s h = h
 same_is (datum.newtype_struct name l) e s h = let (a, b) = and_parts (bytes_eq name name) (same_key l l) s in ap (datum.newtype_struct name) (same_is l h.0 b h.2) ∙ sym h.1
 same_is _ e s h = absurd (true≢false (sym s))
 
-self_bool : (b : Bool) → same_bool b b ≡ true
-self_bool true = refl
-self_bool false = refl
-
 self_kind : (k : IntegerKind) → same_kind k k ≡ true
 self_kind datum.i8 = refl
 self_kind datum.i16 = refl
@@ -116,7 +112,7 @@ self_variant v = rw (same_bytes v.enum, self_number v.index, same_bytes v.name) 
 
 -- each value of an answer is one
 abbrev KeysOnly : Answer Datum → Type 0
-KeysOnly (value l) = IsKeyDatum l
+KeysOnly (Ok l) = IsKeyDatum l
 KeysOnly _ = ⊤
 
 bool_self : (b c : Bool) → KeysOnly (into datum.boolean (cond b (value true) (cond c (value false) (fault expected_string))))
@@ -147,9 +143,8 @@ integer_self k (Some z) = rw (self_kind k, self_integer z) refl
 integer_self k None = tt
 
 newtype_self : (name : Text) (x : Answer Datum) → KeysOnly x → KeysOnly (into (datum.newtype_struct name) x)
-newtype_self name (value l) h = rw (same_bytes name, h) refl
-newtype_self name (fault f) h = tt
-newtype_self name refused h = tt
+newtype_self name (Ok l) h = rw (same_bytes name, h) refl
+newtype_self name (Err r) h = tt
 
 key_self : (k : Shape) (t : Text) → KeysOnly (read k (key_text t))
 key_self boolean t = bool_self (bytes_eq t (codes "true")) (bytes_eq t (codes "false"))
@@ -206,10 +201,10 @@ put_keys l e (pair k d ps) x h =
       | false ↦ λ g. elim g [ inl a ↦ inr (inl a) | inr b ↦ elim (put_keys l e ps x b) [ inl q ↦ inl q | inr q ↦ inr (inr q) ] ]
     ] h
 
-pub put_differ : (l e : Datum) (ps : Pairs) → IsKeyDatum l → KeysDiffer ps → KeysDiffer (put_pair l e ps)
+pub put_differ : (l e : Datum) (ps : Pairs) → IsKeyDatum l → PairsDiffer ps → PairsDiffer (put_pair l e ps)
 put_differ l e no_pairs s h = (λ x. x, tt)
 put_differ l e (pair k d ps) s h =
-    elim (same_key l k) as (λ c. same_key l k ≡ c → KeysDiffer (cond c (pair k e ps) (pair k d (put_pair l e ps)))) [
+    elim (same_key l k) as (λ c. same_key l k ≡ c → PairsDiffer (cond c (pair k e ps) (pair k d (put_pair l e ps)))) [
       | true ↦ λ q. h
       | false ↦ λ q. (λ g. elim (put_keys l e ps k g) [ inl a ↦ true≢false (sym s ∙ ap (same_key l) (sym a) ∙ q) | inr b ↦ h.0 b ], put_differ l e ps s h.1)
     ] refl
@@ -245,19 +240,19 @@ key_of_rest (pair k d qs) l y rest w x h = elim w [
   | inr b ↦ elim (subst (HasKey x) b.1 h) [ inl e ↦ inl e | inr f ↦ inr (key_of_rest qs l y b.0 b.2 x f) ]
 ]
 
-rest_differ : (qs : Pairs) (l y : Datum) (rest : Pairs) → Without qs l y rest → KeysDiffer qs → KeysDiffer rest × ¬ (HasKey l rest)
+rest_differ : (qs : Pairs) (l y : Datum) (rest : Pairs) → Without qs l y rest → PairsDiffer qs → PairsDiffer rest × ¬ (HasKey l rest)
 rest_differ no_pairs l y rest w h = absurd w
 rest_differ (pair k d qs) l y rest w h = elim w [
-  | inl a ↦ (subst KeysDiffer (sym a.2) h.1, λ n. h.0 (subst (λ x. HasKey x qs) (sym a.0) (subst (HasKey l) a.2 n)))
+  | inl a ↦ (subst PairsDiffer (sym a.2) h.1, λ n. h.0 (subst (λ x. HasKey x qs) (sym a.0) (subst (HasKey l) a.2 n)))
   | inr b ↦
       let r = rest_differ qs l y b.0 b.2 h.1 in (
-        subst KeysDiffer (sym b.1) (λ n. h.0 (key_of_rest qs l y b.0 b.2 k n), r.0),
+        subst PairsDiffer (sym b.1) (λ n. h.0 (key_of_rest qs l y b.0 b.2 k n), r.0),
         λ n. elim (subst (HasKey l) b.1 n) [ inl e ↦ h.0 (subst (λ x. HasKey x qs) e (has_key l y qs (taken_in qs l y b.0 b.2))) | inr f ↦ r.1 f ],
       )
 ]
 
 -- the same keys, each once, with the same values: so the same pairs in some order
-pub same_pairs : (ps qs : Pairs) → KeysDiffer ps → KeysDiffer qs → ((l : Datum) → HasKey l ps → HasKey l qs) → ((l y : Datum) → Has l y qs → (e : Datum) × Has l e ps × Same e y) → ((l : Datum) → HasKey l ps → Same l l) → SamePairs ps qs
+pub same_pairs : (ps qs : Pairs) → PairsDiffer ps → PairsDiffer qs → ((l : Datum) → HasKey l ps → HasKey l qs) → ((l y : Datum) → Has l y qs → (e : Datum) × Has l e ps × Same e y) → ((l : Datum) → HasKey l ps → Same l l) → SamePairs ps qs
 same_pairs no_pairs no_pairs dp dq to from r = refl
 same_pairs no_pairs (pair k d qs) dp dq to from r = absurd (from k d (inl (refl, refl))).1
 same_pairs (pair l e ps) qs dp dq to from r =

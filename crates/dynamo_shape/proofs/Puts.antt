@@ -5,7 +5,7 @@ use Rattle.std.proofs.lemmas.Bool.{true≢false, and_parts}
 use Rattle.dynamo_shape.proofs.Alike.{same_refl}
 use Rattle.dynamo_shape.proofs.Pairs.{IsKeyDatum, Has, has_key, equal_keys, put_differ, put_keys, taken_in, key_of_rest, same_pairs}
 use Rattle.dynamo_ser.specs.Datum.{Datum, some, newtype_struct, newtype_variant, seq, tuple, tuple_struct, tuple_variant, map, struct, struct_variant, Pairs, no_pairs, pair}
-use Rattle.dynamo_shape.specs.Conforms.{AllPairs, HasKey, KeysDiffer}
+use Rattle.dynamo_shape.specs.Conforms.{AllPairs, HasKey, PairsDiffer}
 use Rattle.dynamo_ser.specs.Without.{Without}
 use Rattle.dynamo_shape.specs.Same.{Same, SamePairs}
 use Rattle.dynamo_shape.specs.SameKey.{same_key, put_pair}
@@ -79,7 +79,7 @@ pub record Replaces (l e : Datum) (qs rs : Pairs) : Type 0 where
   pub keeps : (x : Datum) → HasKey x qs → HasKey x rs
 
 -- so a map that is told in any order stays the same as what is read
-pub put_same : (ps qs rs : Pairs) (l d e : Datum) → IsKeyDatum l → KeyData ps → KeysDiffer ps → KeysDiffer rs → SamePairs ps qs → Same d e → Replaces l e qs rs → SamePairs (put_pair l d ps) rs
+pub put_same : (ps qs rs : Pairs) (l d e : Datum) → IsKeyDatum l → KeyData ps → PairsDiffer ps → PairsDiffer rs → SamePairs ps qs → Same d e → Replaces l e qs rs → SamePairs (put_pair l d ps) rs
 put_same ps qs rs l d e n k p q s t w = same_pairs (put_pair l d ps) rs (put_differ l d ps n p) q
     (λ x h. elim (put_keys l d ps x h) [ inl a ↦ subst (λ z. HasKey z rs) (sym a) (has_key l e rs w.here) | inr b ↦ w.keeps x (to_same ps qs k s x b) ])
     (λ x y h. elim (w.from x y h) [

@@ -6,9 +6,10 @@ use Rattle.std.specs.Char.{IsScalar}
 use Rattle.std.proofs.lemmas.Bool.{true≢false}
 use Rattle.std.proofs.lemmas.Str.{chars-encodes}
 use Rattle.dynamo_write.proofs.Collected.{nothing_more}
-use Rattle.dynamo_de.specs.Answer.{Answer, value, fault, refused}
+use Rattle.dynamo_de.specs.Answer.{Answer, value}
 use Rattle.dynamo_de.specs.Scalars.{one_char, the_only}
-use Rattle.dynamo_value.specs.Fault.{Fault, ◌>>=◌}
+use Rattle.dynamo_value.specs.Fault.{Fault}
+use Rattle.dynamo_value.specs.Steps.{◌>>=◌}
 
 pub ok_same : {A : Type 0} {x y : A} → ◌≡◌ {A = Result A Fault} (Ok x) (Ok y) → x ≡ y
 ok_same {x = x} e = ap (λ r. result_unwrap_or r x) e
@@ -17,9 +18,8 @@ pub err_ok : {A : Type 0} {f : Fault} {x : A} → ◌≡◌ {A = Result A Fault}
 err_ok e = true≢false (sym (ap is_ok e))
 
 abbrev given : {A : Type 0} → Answer A → A → A
-given (value x) y = x
-given (fault f) y = y
-given refused y = y
+given (Ok x) y = x
+given (Err r) y = y
 
 pub value_same : {A : Type 0} {x y : A} → value x ≡ value y → x ≡ y
 value_same {x = x} e = ap (λ r. given r x) e

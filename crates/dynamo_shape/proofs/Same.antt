@@ -19,11 +19,12 @@ use Rattle.dynamo_shape.specs.Kept.{is_written_null, kept, kept_elements, kept_p
 use Rattle.dynamo_ser.specs.Without.{Without}
 use Rattle.dynamo_shape.specs.Same.{Same, SameElements, SamePairs, SameFields}
 use Rattle.dynamo_value.specs.Av.{Av, Null, L, M, members_of}
-use Rattle.dynamo_value.specs.Fault.{Fault, ◌>>=◌}
+use Rattle.dynamo_value.specs.Fault.{Fault}
+use Rattle.dynamo_value.specs.Steps.{◌>>=◌}
 use Rattle.dynamo_value.specs.View.{text_cmp}
 use Rattle.dynamo_write.specs.Collect.{collect}
 use Rattle.dynamo_write.specs.Set.{set_kind}
-use Rattle.dynamo_write.specs.Written.{written, written_elements, written_pairs, written_fields, single}
+use Rattle.dynamo_write.specs.Written.{written, written_elements, written_pairs, written_fields, one_member}
 
 -- ---- flat
 
@@ -45,14 +46,14 @@ mutual
   pub enc_flat : (d : Datum) → written (kept d) ≡ written d
   enc_flat (some d) = some_flat d (is_written_null (written d)) refl (enc_flat d)
   enc_flat (newtype_struct name d) = ap (λ r. r >>= sets.named (set_kind name)) (enc_flat d)
-  enc_flat (newtype_variant v d) = ap (λ r. r >>= λ a. Ok (single v.name a)) (enc_flat d)
+  enc_flat (newtype_variant v d) = ap (λ r. r >>= λ a. Ok (one_member v.name a)) (enc_flat d)
   enc_flat (seq ds) = ap (λ r. r >>= λ a. Ok (L a)) (list_flat ds)
   enc_flat (tuple ds) = ap (λ r. r >>= λ a. Ok (L a)) (list_flat ds)
   enc_flat (tuple_struct name ds) = ap (λ r. r >>= λ a. Ok (L a)) (list_flat ds)
-  enc_flat (tuple_variant v ds) = ap (λ r. r >>= λ a. Ok (single v.name (L a))) (list_flat ds)
+  enc_flat (tuple_variant v ds) = ap (λ r. r >>= λ a. Ok (one_member v.name (L a))) (list_flat ds)
   enc_flat (map ps) = ap (λ r. r >>= λ es. Ok (M (members_of (collect es)))) (pairs_flat ps)
   enc_flat (struct name fs) = ap (λ r. r >>= λ es. Ok (M (members_of (collect es)))) (fields_flat fs)
-  enc_flat (struct_variant v fs) = ap (λ r. r >>= λ es. Ok (single v.name (M (members_of (collect es))))) (fields_flat fs)
+  enc_flat (struct_variant v fs) = ap (λ r. r >>= λ es. Ok (one_member v.name (M (members_of (collect es))))) (fields_flat fs)
   enc_flat d = refl
 
   list_flat : (ds : datum.Elements) → written_elements (kept_elements ds) ≡ written_elements ds

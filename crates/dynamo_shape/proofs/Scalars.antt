@@ -6,11 +6,10 @@ use Rattle.dynamo_value.specs.Fault.{Fault}
 use Rattle.dynamo_value.specs.Integer.{IntegerKind}
 use Rattle.dynamo_ser.specs.Datum as datum
 use Rattle.dynamo_ser.specs.Datum.{Datum}
-use Rattle.dynamo_de.specs.Answer as answer
 use Rattle.dynamo_de.specs.Answer.{Answer, Gives}
 use Rattle.dynamo_de.specs.Scalars.{read_bool, read_integer, read_char, read_string, read_bytes, read_unit}
 use Rattle.dynamo_shape.specs.Conforms.{conforms}
-use Rattle.dynamo_shape.specs.Laws.{Answers, ReadsByShape, IsToldByValue, ToldAlike}
+use Rattle.dynamo_shape.specs.Laws.{AnswersByShape, ReadsByShape, IsToldByValue, ToldAlike}
 use Rattle.dynamo_shape.specs.Read.{into}
 use Rattle.dynamo_shape.specs.Same.{Same}
 use Rattle.dynamo_shape.specs.Shape as shape
@@ -27,13 +26,11 @@ pub same_fault : {T : Type 0} {f g : Fault} → ◌≡◌ {A = Result T Fault} (
 same_fault {f = f} h = ap (λ r. fault_or r f) h
 
 -- a call that gives what is read gives what is read by shape
-pub given : {A T : Type 0} (C : Datum → Type 0) (seen : T → A) (make : A → Datum) (a : Answer A) (r : Result T Fault) → Gives seen a r → Answers C Same (λ v. make (seen v)) (into make a) r
-given C seen make (answer.value x) (Ok v) h = (make x, refl, λ _. subst (λ y. Same (make x) (make y)) (sym h) (same_refl (make x)))
-given C seen make (answer.value x) (Err f) h = h
-given C seen make (answer.fault f) (Ok v) h = absurd (no_fault h)
-given C seen make (answer.fault f) (Err g) h = same_fault h
-given C seen make answer.refused (Ok v) h = absurd h
-given C seen make answer.refused (Err g) h = h
+pub given : {A T : Type 0} (C : Datum → Type 0) (seen : T → A) (make : A → Datum) (a : Answer A) (r : Result T Fault) → Gives seen a r → AnswersByShape C Same (λ v. make (seen v)) (into make a) r
+given C seen make (Ok x) (Ok v) h = (make x, refl, λ _. subst (λ y. Same (make x) (make y)) (sym h) (same_refl (make x)))
+given C seen make (Ok x) (Err f) h = h
+given C seen make (Err f) (Ok v) h = absurd h
+given C seen make (Err f) (Err g) h = h
 
 -- ---- what a scalar's datum holds
 

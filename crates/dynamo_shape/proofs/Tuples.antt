@@ -4,12 +4,13 @@ use Rattle.dynamo_value.specs.Fault.{Fault}
 use Rattle.dynamo_ser.specs.Datum as datum
 use Rattle.dynamo_ser.specs.Datum.{Datum, Elements, elements_of}
 use Rattle.dynamo_de.specs.Answer as answer
-use Rattle.dynamo_de.specs.Answer.{After, ◌>>=◌}
+use Rattle.dynamo_de.specs.Answer.{After}
+use Rattle.dynamo_value.specs.Steps.{◌>>=◌}
 use Rattle.dynamo_de.specs.Contents.{read_elements}
 use Rattle.dynamo_de.specs.Reads.{ReadsFirst, ReadsTwo, ReadsThree, ReadsFour}
 use Rattle.dynamo_de.specs.Source.{Source}
 use Rattle.dynamo_shape.specs.Conforms.{conforms, conform_each}
-use Rattle.dynamo_shape.specs.Laws.{Answers, ReadsByShape}
+use Rattle.dynamo_shape.specs.Laws.{AnswersByShape, ReadsByShape}
 use Rattle.dynamo_shape.specs.Read.{read, read_each}
 use Rattle.dynamo_shape.specs.Same.{Same, SameElements}
 use Rattle.dynamo_shape.specs.Shape as shape
@@ -40,7 +41,7 @@ reaches reads next P f [] v a = absurd a
 reaches reads next P f (x ∷ xs) v (w, b, c) = f w xs v c
 
 -- nothing more is read
-ends : {V : Type 0} (x : V) (r : Result V Fault) → r ≡ Ok x → Answers {V = V} (conform_each no_shapes) SameElements (λ _. datum.no_elements) (answer.value datum.no_elements) r
+ends : {V : Type 0} (x : V) (r : Result V Fault) → r ≡ Ok x → AnswersByShape {V = V} (conform_each no_shapes) SameElements (λ _. datum.no_elements) (answer.value datum.no_elements) r
 ends x (Ok v) e = (datum.no_elements, refl, λ c. refl)
 ends x (Err f) e = absurd (no_fault (sym e))
 
@@ -48,7 +49,7 @@ value_is : {V : Type 0} {v w : V} → ◌≡◌ {A = Result V Fault} (Ok v) (Ok 
 value_is {v = v} e = ap (λ r. value_or r v) e
 
 -- the first is read, and then the others
-first_answered : {A V : Type 0} (s : Shape) (ss : Shapes) (tells : A → Datum) (reads : Source → Result A Fault → Type 0) (next : A → List Source → Result V Fault → Type 0) (told : V → Elements) (head : V → A) (tail : V → Elements) → ReadsByShape s tells reads → ((v : V) → told v ≡ datum.element (tells (head v)) (tail v)) → ((x : A) (rest : List Source) (r : Result V Fault) → next x rest r → Answers (conform_each ss) SameElements tail (read_each ss rest) r) → ((x : A) (rest : List Source) (v : V) → next x rest (Ok v) → head v ≡ x) → (sources : List Source) (r : Result V Fault) → ReadsFirst reads next sources r → Answers (conform_each (shape.shape s ss)) SameElements told (read_each (shape.shape s ss) sources) r
+first_answered : {A V : Type 0} (s : Shape) (ss : Shapes) (tells : A → Datum) (reads : Source → Result A Fault → Type 0) (next : A → List Source → Result V Fault → Type 0) (told : V → Elements) (head : V → A) (tail : V → Elements) → ReadsByShape s tells reads → ((v : V) → told v ≡ datum.element (tells (head v)) (tail v)) → ((x : A) (rest : List Source) (r : Result V Fault) → next x rest r → AnswersByShape (conform_each ss) SameElements tail (read_each ss rest) r) → ((x : A) (rest : List Source) (v : V) → next x rest (Ok v) → head v ≡ x) → (sources : List Source) (r : Result V Fault) → ReadsFirst reads next sources r → AnswersByShape (conform_each (shape.shape s ss)) SameElements told (read_each (shape.shape s ss) sources) r
 unfolding ReadsFirst
 first_answered s ss tells reads next told head tail h made_of rest first [] (Ok v) a = absurd a
 first_answered s ss tells reads next told head tail h made_of rest first [] (Err f) a = a
@@ -71,7 +72,7 @@ first_answered s ss tells reads next told head tail h made_of rest first (x ∷ 
     rw p.1 (stops SameElements SameElements (read_each ss xs) (λ ds. answer.value (datum.element p.0 ds)) f q)
 
 -- a tuple is what is told of its parts
-tuple_permitted : {V : Type 0} (ss : Shapes) (told : V → Elements) (next : List Source → Result V Fault → Type 0) → ((sources : List Source) (r : Result V Fault) → next sources r → Answers (conform_each ss) SameElements told (read_each ss sources) r) → ReadsByShape (shape.tuple ss) (λ t. datum.tuple (told t)) (λ source. After (read_elements source) next)
+tuple_permitted : {V : Type 0} (ss : Shapes) (told : V → Elements) (next : List Source → Result V Fault → Type 0) → ((sources : List Source) (r : Result V Fault) → next sources r → AnswersByShape (conform_each ss) SameElements told (read_each ss sources) r) → ReadsByShape (shape.tuple ss) (λ t. datum.tuple (told t)) (λ source. After (read_elements source) next)
 tuple_permitted ss told next f source r a =
     made (conform_each ss) SameElements (conforms (shape.tuple ss)) Same told datum.tuple
     (λ ds c. subst (conform_each ss) (sym (ap elements_in c.1)) c.2)
@@ -83,7 +84,7 @@ abbrev one_shape : Shape → Shapes
 one_shape s = shape.shape s no_shapes
 
 module _ {A B : Type 0} (sa sb : Shape) (tells_a : A → Datum) (tells_b : B → Datum) (reads_a : Source → Result A Fault → Type 0) (reads_b : Source → Result B Fault → Type 0) (ha : ReadsByShape sa tells_a reads_a) (hb : ReadsByShape sb tells_b reads_b) where
-  two_answered : (sources : List Source) (r : Result (A × B) Fault) → ReadsTwo reads_a reads_b sources r → Answers (conform_each (shape.shape sa (one_shape sb))) SameElements (λ t. elements_of (tells_a t.0 ∷ tells_b t.1 ∷ [])) (read_each (shape.shape sa (one_shape sb)) sources) r
+  two_answered : (sources : List Source) (r : Result (A × B) Fault) → ReadsTwo reads_a reads_b sources r → AnswersByShape (conform_each (shape.shape sa (one_shape sb))) SameElements (λ t. elements_of (tells_a t.0 ∷ tells_b t.1 ∷ [])) (read_each (shape.shape sa (one_shape sb)) sources) r
   two_answered sources r a =
       first_answered sa (one_shape sb) tells_a reads_a (λ x. ReadsFirst reads_b (λ y _ r. r ≡ Ok (x, y))) (λ t. elements_of (tells_a t.0 ∷ tells_b t.1 ∷ [])) (λ t. t.0) (λ t. elements_of (tells_b t.1 ∷ [])) ha (λ t. refl)
       (λ x. first_answered sb no_shapes tells_b reads_b (λ y _ r. r ≡ Ok (x, y)) (λ t. elements_of (tells_b t.1 ∷ [])) (λ t. t.1) (λ t. datum.no_elements) hb (λ t. refl) (λ y rest. ends (x, y)) (λ y rest v e. ap (λ t. t.1) (value_is e)))
@@ -100,7 +101,7 @@ module _ {A B C : Type 0} (sa sb sc : Shape) (tells_a : A → Datum) (tells_b : 
   abbrev three_shapes : Shapes
   three_shapes = shape.shape sa (shape.shape sb (one_shape sc))
 
-  three_answered : (sources : List Source) (r : Result (A × B × C) Fault) → ReadsThree reads_a reads_b reads_c sources r → Answers (conform_each three_shapes) SameElements three_told (read_each three_shapes sources) r
+  three_answered : (sources : List Source) (r : Result (A × B × C) Fault) → ReadsThree reads_a reads_b reads_c sources r → AnswersByShape (conform_each three_shapes) SameElements three_told (read_each three_shapes sources) r
   three_answered sources r a =
       first_answered sa (shape.shape sb (one_shape sc)) tells_a reads_a (λ x. ReadsFirst reads_b (λ y. ReadsFirst reads_c (λ z _ r. r ≡ Ok (x, y, z)))) three_told (λ t. t.0) (λ t. elements_of (tells_b t.1 ∷ tells_c t.2 ∷ [])) ha (λ t. refl)
       (λ x.
@@ -132,7 +133,7 @@ module _ {A B C D : Type 0} (sa sb sc sd : Shape) (tells_a : A → Datum) (tells
   abbrev FromOne : A → List Source → Result (A × B × C × D) Fault → Type 0
   FromOne x = ReadsFirst reads_b (FromTwo x)
 
-  four_answered : (sources : List Source) (r : Result (A × B × C × D) Fault) → ReadsFour reads_a reads_b reads_c reads_d sources r → Answers (conform_each four_shapes) SameElements four_told (read_each four_shapes sources) r
+  four_answered : (sources : List Source) (r : Result (A × B × C × D) Fault) → ReadsFour reads_a reads_b reads_c reads_d sources r → AnswersByShape (conform_each four_shapes) SameElements four_told (read_each four_shapes sources) r
   four_answered sources r a =
       first_answered sa (shape.shape sb (shape.shape sc (one_shape sd))) tells_a reads_a FromOne four_told (λ t. t.0) (λ t. elements_of (tells_b t.1 ∷ tells_c t.2 ∷ tells_d t.3 ∷ [])) ha (λ t. refl)
       (λ x.

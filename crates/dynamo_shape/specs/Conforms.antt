@@ -21,9 +21,9 @@ abbrev pub HasKey : Datum → Pairs → Type 0
 HasKey k datum.no_pairs = ⊥
 HasKey k (datum.pair l d ps) = (k ≡ l) ⊎ HasKey k ps
 
-abbrev pub KeysDiffer : Pairs → Type 0
-KeysDiffer datum.no_pairs = ⊤
-KeysDiffer (datum.pair k d ps) = ¬ (HasKey k ps) × KeysDiffer ps
+abbrev pub PairsDiffer : Pairs → Type 0
+PairsDiffer datum.no_pairs = ⊤
+PairsDiffer (datum.pair k d ps) = ¬ (HasKey k ps) × PairsDiffer ps
 
 abbrev mutual
   pub conforms : Shape → Datum → Type 0
@@ -40,7 +40,7 @@ abbrev mutual
   conforms (set k s) d = (ds : Elements) × (d ≡ datum.newtype_struct (symbol k) (datum.seq ds)) × AllElements (conforms s) ds
   conforms (tuple ss) d = (ds : Elements) × (d ≡ datum.tuple ds) × conform_each ss ds
   conforms (tuple_struct name ss) d = (ds : Elements) × (d ≡ datum.tuple_struct name ds) × conform_each ss ds
-  conforms (map k s) d = (ps : Pairs) × (d ≡ datum.map ps) × AllPairs (λ l e. conforms k l × conforms s e) ps × KeysDiffer ps
+  conforms (map k s) d = (ps : Pairs) × (d ≡ datum.map ps) × AllPairs (λ l e. conforms k l × conforms s e) ps × PairsDiffer ps
   conforms (struct name fs) d = (gs : Fields) × (d ≡ datum.struct name gs) × conform_fields fs gs
   conforms (enum name vs) d = conforms_variant name 0 vs d
 

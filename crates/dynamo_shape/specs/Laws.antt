@@ -11,13 +11,13 @@ use Rattle.dynamo_shape.specs.Same.{Same}
 use Rattle.dynamo_shape.specs.Shape.{Shape}
 
 -- An answer that reading gives: the value, so far as it tells what conforms; the fault; a message where reading refuses.
-abbrev pub Answers : {D V : Type 0} → (D → Type 0) → (D → D → Type 0) → (V → D) → Answer D → Result V Fault → Type 0
-Answers {D} Conforms Alike tells answer (Ok v) = (d : D) × (answer ≡ value d) × (Conforms (tells v) → Alike d (tells v))
-Answers Conforms Alike tells answer (Err f) = Permits Alike answer (Err f)
+abbrev pub AnswersByShape : {D V : Type 0} → (D → Type 0) → (D → D → Type 0) → (V → D) → Answer D → Result V Fault → Type 0
+AnswersByShape {D} Conforms Alike tells answer (Ok v) = (d : D) × (answer ≡ value d) × (Conforms (tells v) → Alike d (tells v))
+AnswersByShape Conforms Alike tells answer (Err f) = Permits Alike answer (Err f)
 
 -- what is read from a source is what reading at the shape gives
 abbrev pub ReadsByShape : {T : Type 0} → Shape → (T → Datum) → (Source → Result T Fault → Type 0) → Type 0
-ReadsByShape {T} s tells reads = (source : Source) (r : Result T Fault) → reads source r → Answers (conforms s) Same tells (read s source) r
+ReadsByShape {T} s tells reads = (source : Source) (r : Result T Fault) → reads source r → AnswersByShape (conforms s) Same tells (read s source) r
 
 -- two values that tell the same data, which conform to the shape, are the same by value
 abbrev pub IsToldByValue : {T : Type 0} → Shape → (T → Datum) → (T → T → Type 0) → Type 0

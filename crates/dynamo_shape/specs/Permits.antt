@@ -1,17 +1,16 @@
 -- Which answers of a call reading permits.
-use Rattle.std.specs.Prelude.{◌≡◌, ◌⊎◌, ℕ, List, Result, Ok, Err, ⊤}
-use Rattle.dynamo_value.specs.Fault.{Fault, message}
-use Rattle.dynamo_de.specs.Answer as answer
+use Rattle.std.specs.Prelude.{◌≡◌, ◌⊎◌, Result, Ok, Err, ⊤}
+use Rattle.dynamo_value.specs.Fault.{Fault}
+use Rattle.dynamo_value.specs.Refusal.{Says, any_message}
 use Rattle.dynamo_de.specs.Answer.{Answer}
 
 abbrev pub IsMessageFault : Fault → Type 0
-IsMessageFault f = (text : List ℕ) × (f ≡ message text)
+IsMessageFault f = Says any_message f
 
--- the value, as far as `Alike` looks; the fault; a message of whatever text
+-- the value, as far as `Alike` looks, or a fault that keeps the promise
 abbrev pub Permits : {A : Type 0} → (A → A → Type 0) → Answer A → Result A Fault → Type 0
-Permits Alike (answer.value x) (Ok y) = Alike x y
-Permits Alike (answer.fault f) (Err g) = g ≡ f
-Permits Alike answer.refused (Err g) = IsMessageFault g
+Permits Alike (Ok x) (Ok y) = Alike x y
+Permits Alike (Err r) (Err f) = Says r f
 Permits Alike _ _ = ⊥
 
 -- the same answer, the texts of messages aside

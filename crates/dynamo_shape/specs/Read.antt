@@ -6,7 +6,8 @@ use Rattle.dynamo_value.specs.Av.{Av}
 use Rattle.dynamo_ser.specs.Datum as datum
 use Rattle.dynamo_ser.specs.Datum.{Datum, Elements, Pairs, Fields, Variant}
 use Rattle.dynamo_ser.specs.Symbols.{symbol}
-use Rattle.dynamo_de.specs.Answer.{Answer, value, refused, ◌>>=◌, value_or}
+use Rattle.dynamo_de.specs.Answer.{Answer, value, refused, value_or}
+use Rattle.dynamo_value.specs.Steps.{◌>>=◌}
 use Rattle.dynamo_de.specs.Contents.{read_content, read_elements, read_entries, read_newtype, read_parts, read_variant, Parts, by_name, in_order}
 use Rattle.dynamo_de.specs.Ignored.{ignore}
 use Rattle.dynamo_de.specs.Scalars.{read_bool, read_integer, read_char, read_string, read_bytes, read_unit, read_unit_struct}

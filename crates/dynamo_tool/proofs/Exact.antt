@@ -9,8 +9,8 @@ use Rattle.dynamo_tool.specs.Checked.{ChecksJson}
 use Rattle.dynamo_tool.specs.Failed.{Failed, not_json, faulty, read_failed, no_memory}
 use Rattle.dynamo_tool.specs.JsonText.{IsJson, ReadsJson, json_line}
 use Rattle.dynamo_tool.specs.Lines.{error_line, no_memory_line}
-use Rattle.dynamo_tool.specs.Printed.{Shows}
-use Rattle.dynamo_tool.specs.Runs.{Answers}
+use Rattle.dynamo_tool.specs.Printed.{Tells}
+use Rattle.dynamo_tool.specs.Runs.{Ends}
 use Rattle.dynamo_tool.specs.Words.{check}
 
 -- this text with this status, or want of memory
@@ -20,15 +20,15 @@ PrintsOrLacks line code text status = ((text ≡ line) × (status ≡ code)) ⊎
 abbrev IsOrLacks : Result (List ℕ) Failed → Result (List ℕ) Failed → Type 0
 IsOrLacks one answer = (answer ≡ one) ⊎ (answer ≡ Err no_memory)
 
-lacking : (text : List ℕ) (status : ℕ) → Shows (Err no_memory) text status → (text ≡ no_memory_line) × (status ≡ 1)
+lacking : (text : List ℕ) (status : ℕ) → Tells (Err no_memory) text status → (text ≡ no_memory_line) × (status ≡ 1)
 lacking text status (inl line, one) = (line, one)
 lacking text status (inr line, one) = (line, one)
 
-told_or_lacks : (told text : List ℕ) (status : ℕ) → Shows (Err (faulty (message told))) text status → PrintsOrLacks (error_line told) 1 text status
+told_or_lacks : (told text : List ℕ) (status : ℕ) → Tells (Err (faulty (message told))) text status → PrintsOrLacks (error_line told) 1 text status
 told_or_lacks told text status (inl line, one) = inl (line, one)
 told_or_lacks told text status (inr line, one) = inr (line, one)
 
-no_json_or_lacks : (text : List ℕ) (status : ℕ) → Shows (Err not_json) text status → PrintsOrLacks (error_line (codes "input is not JSON")) 1 text status
+no_json_or_lacks : (text : List ℕ) (status : ℕ) → Tells (Err not_json) text status → PrintsOrLacks (error_line (codes "input is not JSON")) 1 text status
 no_json_or_lacks text status (inl line, one) = inl (line, one)
 no_json_or_lacks text status (inr line, one) = inr (line, one)
 
@@ -52,7 +52,7 @@ accepted_answer bytes json known accepted (Err read_failed) answer never is = ab
 
 -- DynamoDB JSON is printed as its compact form
 pub accepted_line : (bytes : List ℕ) (json : Data) → IsJson bytes json → refusal_in (parsed json) ≡ None
-    → (text : List ℕ) (status : ℕ) → Answers (Some check) (Ok bytes) text status → PrintsOrLacks (json_line json) 0 text status
+    → (text : List ℕ) (status : ℕ) → Ends (Some check) (Ok bytes) text status → PrintsOrLacks (json_line json) 0 text status
 accepted_line bytes json known accepted text status (answer, (j, reads, checks), shows) =
     elim (accepted_answer bytes json known accepted j answer reads checks) [
       | inl is ↦ inl (rw is at shows)
@@ -78,7 +78,7 @@ refused_answer bytes json told known refusal (Err read_failed) answer never is =
 
 -- a known fault is told by its line
 pub refused_line : (bytes : List ℕ) (json : Data) (told : List ℕ) → IsJson bytes json → refusal_in (parsed json) ≡ Some (fault (message told))
-    → (text : List ℕ) (status : ℕ) → Answers (Some check) (Ok bytes) text status → PrintsOrLacks (error_line told) 1 text status
+    → (text : List ℕ) (status : ℕ) → Ends (Some check) (Ok bytes) text status → PrintsOrLacks (error_line told) 1 text status
 refused_line bytes json told known refusal text status (answer, (j, reads, checks), shows) =
     elim (refused_answer bytes json told known refusal j answer reads checks) [
       | inl is ↦ told_or_lacks told text status (rw is at shows)
@@ -95,7 +95,7 @@ no_json_answer bytes none (Err (faulty f)) answer lacks is = inr (is ∙ ap (λ 
 no_json_answer bytes none (Err read_failed) answer never is = absurd never
 
 pub no_json_line : (bytes : List ℕ) → ((json : Data) → IsJson bytes json → ⊥)
-    → (text : List ℕ) (status : ℕ) → Answers (Some check) (Ok bytes) text status → PrintsOrLacks (error_line (codes "input is not JSON")) 1 text status
+    → (text : List ℕ) (status : ℕ) → Ends (Some check) (Ok bytes) text status → PrintsOrLacks (error_line (codes "input is not JSON")) 1 text status
 no_json_line bytes none text status (answer, (j, reads, checks), shows) =
     elim (no_json_answer bytes none j answer reads checks) [
       | inl is ↦ no_json_or_lacks text status (rw is at shows)

@@ -1,9 +1,9 @@
 -- A JSON value that is read from an attribute value has no float.
-use Rattle.std.proofs.Common.{◌≡◌, ℕ, ℤ, pos, negsuc, true, false, cond, List, [], ◌∷◌, map, Option, Some, None, Less, Equal, Greater, Ok, refl, sym, ap, subst}
+use Rattle.std.proofs.Common.{◌≡◌, ℕ, ℤ, pos, negsuc, true, false, cond, List, [], ◌∷◌, map, Option, Some, None, Less, Equal, Greater, Ok, refl, sym, ap, subst, Err}
 use Rattle.std.specs.Ordering.{nat_cmp, match_ordering}
 use Rattle.std.specs.Cmp.Lexicographic.{slice_cmp}
-use Rattle.std.specs.Prelude.{Bool, ⊤, ◌||◌, is_ok}
-use Rattle.std.proofs.lemmas.Bool.{or_parts, true≢false}
+use Rattle.std.specs.Prelude.{Bool, ⊤, ◌||◌}
+use Rattle.std.proofs.lemmas.Bool.{or_parts}
 use Rattle.serde_json.specs.Data as json
 use Rattle.serde_json.specs.Data.{Data, put}
 use Rattle.serde_json.specs.View.{items_of, view}
@@ -14,15 +14,15 @@ use Rattle.dynamo_value.specs.Av.{Av}
 use Rattle.dynamo_value.specs.Fault.{Fault, failed_to_parse_float}
 use Rattle.dynamo_value.specs.Integer.{i64, u64}
 use Rattle.dynamo_de.specs.Answer as answer
-use Rattle.dynamo_de.specs.Answer.{Answer, Gives, ◌>>=◌}
+use Rattle.dynamo_de.specs.Answer.{Answer, Gives}
+use Rattle.dynamo_value.specs.Steps.{◌>>=◌}
 use Rattle.dynamo_de.specs.Number.{parse, is_float_text}
 use Rattle.dynamo_de.specs.ReadJson.{number, number_or, read_number, read_numbers, read_blobs, read_value, read_elements, read_members}
 
 -- what is read has it, if anything is
 abbrev Holds : {A : Type 0} → (A → Type 0) → Answer A → Type 0
-Holds P (answer.value x) = P x
-Holds P (answer.fault f) = ⊤
-Holds P answer.refused = ⊤
+Holds P (Ok x) = P x
+Holds P (Err f) = ⊤
 
 abbrev Floatless : Data → Type 0
 Floatless j = has_float j ≡ false
@@ -34,9 +34,8 @@ abbrev FloatlessMembers : json.Members → Type 0
 FloatlessMembers ms = members_have_float ms ≡ false
 
 then : {A B : Type 0} (P : A → Type 0) (Q : B → Type 0) (a : Answer A) (f : A → Answer B) → Holds P a → ((x : A) → P x → Holds Q (f x)) → Holds Q (a >>= f)
-then P Q (answer.value x) f h k = k x h
-then P Q (answer.fault e) f h k = tt
-then P Q answer.refused f h k = tt
+then P Q (Ok x) f h k = k x h
+then P Q (Err e) f h k = tt
 
 integer_is : (z : ℤ) → Floatless (number z)
 integer_is (pos n) = refl
@@ -105,6 +104,5 @@ reads_no_float a j read = subst (Holds Floatless) read (value_is a)
 
 -- what a call gave is what is read
 pub given : (a : Answer Data) (v : Value) → Gives view a (Ok v) → a ≡ answer.value (view v)
-given (answer.value j) v h = ap answer.value (sym h)
-given (answer.fault f) v h = absurd (true≢false (ap is_ok h))
-given answer.refused v h = absurd h
+given (Ok j) v h = ap answer.value (sym h)
+given (Err f) v h = absurd h

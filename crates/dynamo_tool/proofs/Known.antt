@@ -8,7 +8,7 @@ use Rattle.dynamo_tool.specs.Failed.{Failed, no_memory}
 use Rattle.dynamo_tool.specs.JsonText.{OfJson}
 use Rattle.dynamo_tool.specs.Known.{TellsBytes, KeepsBytes, RunsOnKnown}
 use Rattle.dynamo_tool.specs.Reading.{Reads, Follows, before, calls}
-use Rattle.dynamo_tool.specs.Runs.{Answers, ReadsFor, Runs}
+use Rattle.dynamo_tool.specs.Runs.{Ends, ReadsFor, Runs}
 use Rattle.dynamo_tool.specs.Words.{Command, user, check, dynamo, plain}
 
 -- all bytes, or want of memory
@@ -50,7 +50,7 @@ of_all Step bytes input answer (inr lacking) (json, reads, step) =
     (json, rw same refl, step)
 
 answers_all : {R : Type 0} (reads : R → ℕ → Result (List ℕ) Error → R → Type 0) (left : R → List ℕ) → TellsBytes reads left → (command : Option Command) (reader end : R) (input : Result (List ℕ) Failed)
-    → ReadsFor command reads reader input end → length (left reader) < calls → (text : List ℕ) (status : ℕ) → Answers command input text status → Answers command (Ok (left reader)) text status
+    → ReadsFor command reads reader input end → length (left reader) < calls → (text : List ℕ) (status : ℕ) → Ends command input text status → Ends command (Ok (left reader)) text status
 answers_all reads left tells None reader end input stays less text status answers = answers
 answers_all reads left tells (Some (user id name age)) reader end input stays less text status answers = answers
 answers_all reads left tells (Some check) reader end input made less text status (answer, checks, shows) =

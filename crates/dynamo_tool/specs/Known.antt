@@ -2,7 +2,7 @@
 use Rattle.std.specs.Prelude.{◌≡◌, ◌<◌, ℕ, List, [], ◌++◌, length, Option, Result, Ok}
 use Rattle.std.specs.declared.io.Error.{Error}
 use Rattle.dynamo_tool.specs.Reading.{calls}
-use Rattle.dynamo_tool.specs.Runs.{Answers}
+use Rattle.dynamo_tool.specs.Runs.{Ends}
 use Rattle.dynamo_tool.specs.Words.{Command}
 
 -- A call with room gives the bytes that stand next, and none only at the end; `left` are the bytes that a reader has left.
@@ -19,4 +19,4 @@ KeepsBytes {W} gives held = (old : W) (bytes : List ℕ) (answer : Result (Unit 
 -- and the input are written, and the status is theirs.
 abbrev pub RunsOnKnown : {R W : Type 0} → (R → ℕ → Result (List ℕ) Error → R → Type 0) → (W → List ℕ → Result (Unit {0}) Error → W → Type 0) → Option Command → R → W → W → ℕ → Type 0
 RunsOnKnown {R} {W} reads writes command reader old new result = (left : R → List ℕ) (held : W → List ℕ) → TellsBytes reads left → KeepsBytes writes held
-    → length (left reader) < calls → (text : List ℕ) × (held new ≡ held old ++ text) × Answers command (Ok (left reader)) text result
+    → length (left reader) < calls → (text : List ℕ) × (held new ≡ held old ++ text) × Ends command (Ok (left reader)) text result

@@ -10,6 +10,6 @@ Prints {W} {E} gives old new text status result = (answer : Result (Unit {0}) E)
 
 -- The text of a command's answer and its status. A failure has status 1, and its line tells the reason, or that there is no
 -- memory for that line.
-abbrev pub Shows : Result (List ℕ) Failed → List ℕ → ℕ → Type 0
-Shows (Ok answer) text status = (text ≡ answer) × (status ≡ 0)
-Shows (Err failed) text status = (IfSome (reason_text failed) (λ reason. text ≡ error_line reason) ⊎ (text ≡ no_memory_line)) × (status ≡ 1)
+abbrev pub Tells : Result (List ℕ) Failed → List ℕ → ℕ → Type 0
+Tells (Ok answer) text status = (text ≡ answer) × (status ≡ 0)
+Tells (Err failed) text status = (IfSome (reason_text failed) (λ reason. text ≡ error_line reason) ⊎ (text ≡ no_memory_line)) × (status ≡ 1)

@@ -6,7 +6,7 @@ use Rattle.dynamo_tool.specs.Converted.{ToDynamo, ToPlain}
 use Rattle.dynamo_tool.specs.Failed.{Failed, no_memory}
 use Rattle.dynamo_tool.specs.JsonText.{OfJson}
 use Rattle.dynamo_tool.specs.Lines.{usage_line, user_lines}
-use Rattle.dynamo_tool.specs.Printed.{Prints, Shows}
+use Rattle.dynamo_tool.specs.Printed.{Prints, Tells}
 use Rattle.dynamo_tool.specs.Reading.{Reads, calls}
 use Rattle.dynamo_tool.specs.Words.{Command, user, check, dynamo, plain}
 
@@ -16,12 +16,12 @@ AnswersUser id name age answer = MatchResult answer (λ text. text ≡ user_line
 
 -- What is printed, and the status that belongs to it, where reading the input to its end gives `input`. Words that are no
 -- command print the usage.
-abbrev pub Answers : Option Command → Result (List ℕ) Failed → List ℕ → ℕ → Type 0
-Answers None input text status = (text ≡ usage_line) × (status ≡ 2)
-Answers (Some (user id name age)) input text status = (answer : Result (List ℕ) Failed) × AnswersUser id name age answer × Shows answer text status
-Answers (Some check) input text status = (answer : Result (List ℕ) Failed) × OfJson ChecksJson input answer × Shows answer text status
-Answers (Some dynamo) input text status = (answer : Result (List ℕ) Failed) × OfJson ToDynamo input answer × Shows answer text status
-Answers (Some plain) input text status = (answer : Result (List ℕ) Failed) × OfJson ToPlain input answer × Shows answer text status
+abbrev pub Ends : Option Command → Result (List ℕ) Failed → List ℕ → ℕ → Type 0
+Ends None input text status = (text ≡ usage_line) × (status ≡ 2)
+Ends (Some (user id name age)) input text status = (answer : Result (List ℕ) Failed) × AnswersUser id name age answer × Tells answer text status
+Ends (Some check) input text status = (answer : Result (List ℕ) Failed) × OfJson ChecksJson input answer × Tells answer text status
+Ends (Some dynamo) input text status = (answer : Result (List ℕ) Failed) × OfJson ToDynamo input answer × Tells answer text status
+Ends (Some plain) input text status = (answer : Result (List ℕ) Failed) × OfJson ToPlain input answer × Tells answer text status
 
 -- The commands that have an input read it to its end; else the reader is as before.
 abbrev pub ReadsFor : {R : Type 0} → Option Command → (R → ℕ → Result (List ℕ) Error → R → Type 0) → R → Result (List ℕ) Failed → R → Type 0
@@ -34,4 +34,4 @@ ReadsFor (Some plain) gives reader input end = Reads gives calls reader input en
 -- The whole run: what is read, what belongs to it, and one write of exactly that.
 abbrev pub Runs : {R W : Type 0} → (R → ℕ → Result (List ℕ) Error → R → Type 0) → (W → List ℕ → Result (Unit {0}) Error → W → Type 0) → Option Command → R → R → W → W → ℕ → Type 0
 Runs reads writes command reader end old new result = (input : Result (List ℕ) Failed) × ReadsFor command reads reader input end
-    × (text : List ℕ) × (status : ℕ) × Answers command input text status × Prints writes old new text status result
+    × (text : List ℕ) × (status : ℕ) × Ends command input text status × Prints writes old new text status result

@@ -3,7 +3,7 @@ ghost use Rattle.std.specs.Result.{result_map_both};
 ghost use Rattle.dynamo_tool.specs.Failed.{reason, reason_text};
 ghost use Rattle.dynamo_tool.specs.Known.{RunsOnKnown};
 ghost use Rattle.dynamo_tool.specs.Lines as lines;
-ghost use Rattle.dynamo_tool.specs.Printed.{Prints, Shows};
+ghost use Rattle.dynamo_tool.specs.Printed.{Prints, Tells};
 ghost use Rattle.dynamo_tool.specs.Runs.{Runs};
 ghost use Rattle.dynamo_tool.specs.Words.{command_of};
 
@@ -51,7 +51,7 @@ pub fn lack_memory<W: Output>(writer: &mut W) -> u8
 
 // Prints a command's answer, or the line of its failure.
 fn print_answer<W: Output>(alloc: Global, writer: &mut W, answer: Result<String, Failure>) -> u8
-    ensures { (text : List ℕ) × (status : ℕ) × Shows (result_map_both string_bytes reason answer) text status
+    ensures { (text : List ℕ) × (status : ℕ) × Tells (result_map_both string_bytes reason answer) text status
         × Prints W.write_gives writer.old writer.new text status result }
 {
     match answer {

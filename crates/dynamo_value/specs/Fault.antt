@@ -1,5 +1,5 @@
 -- The faults of writing and reading, and their printed texts.
-use Rattle.std.specs.Prelude.{ℕ, List, [], ◌∷◌, ◌++◌, Option, Some, None, Result, Ok, Err, codes}
+use Rattle.std.specs.Prelude.{ℕ, List, [], ◌∷◌, ◌++◌, Option, Some, None, codes}
 
 -- One for each kind of error. The texts are those that the kinds hold; the cause of a failed integer text isn't seen.
 pub data Fault : Type 0 where
@@ -43,9 +43,3 @@ printed number_set_expected_type = Some (codes "Number set element does not seri
 printed binary_set_expected_type = Some (codes "Binary set element does not serialize to binary")
 printed out_of_memory = Some (codes "out of memory")
 printed map_value_before_key = Some (codes "MapAccess::next_value called before MapAccess::next_key")
-
--- One step after another: the first fault is the fault.
-infixl 10 ◌>>=◌
-abbrev pub ◌>>=◌ : {A B : Type 0} → Result A Fault → (A → Result B Fault) → Result B Fault
-(Ok x) >>= f = f x
-(Err e) >>= f = Err e

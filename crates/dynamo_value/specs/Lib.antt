@@ -12,6 +12,7 @@ pub mod Prefix
 pub mod PrefixView
 pub mod Refusal
 pub mod SingleKey
+pub mod Steps
 pub mod Table
 pub mod Text
 pub mod View

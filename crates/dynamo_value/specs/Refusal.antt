@@ -22,12 +22,6 @@ SaysIf (Some r) f = Says r f
 abbrev pub Refused : Option Refusal → Fault → Type 0
 Refused refusal f = (f ≡ out_of_memory) ⊎ SaysIf refusal f
 
--- One step after another: the first refusal is the refusal.
-infixl 10 ◌>>=◌
-abbrev pub ◌>>=◌ : {A B : Type 0} → Result A Refusal → (A → Result B Refusal) → Result B Refusal
-(Ok x) >>= f = f x
-(Err r) >>= f = Err r
-
 abbrev pub or_refuse : {A : Type 0} → Refusal → Option A → Result A Refusal
 or_refuse r (Some x) = Ok x
 or_refuse r None = Err r

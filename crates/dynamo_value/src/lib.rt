@@ -9,6 +9,7 @@ mod error;
 mod item;
 mod prefix;
 pub mod refusal;
+pub mod serde_error;
 mod text;
 
 pub use attribute_value::AttributeValue;

@@ -2,7 +2,8 @@
 use Rattle.std.proofs.Common.{◌≡◌, ℕ, List, [], ◌∷◌, ◌++◌, map, Result, Ok, Err, refl, sym, ◌∙◌, ap, subst, append_assoc, MatchResult, inr}
 use Rattle.dynamo_value.specs.Av as av
 use Rattle.dynamo_value.specs.Av.{Av, elements_of}
-use Rattle.dynamo_value.specs.Fault.{Fault, out_of_memory, ◌>>=◌}
+use Rattle.dynamo_value.specs.Fault.{Fault, out_of_memory}
+use Rattle.dynamo_value.specs.Steps.{◌>>=◌}
 use Rattle.dynamo_value.specs.Kind.{fault_of}
 use Rattle.dynamo_value.specs.Table.{Table}
 use Rattle.dynamo_value.specs.View.{view, members_view}
@@ -12,21 +13,21 @@ use Rattle.dynamo_value.specs.declared.error.Error.{Error}
 use Rattle.dynamo_ser.specs.Datum as datum
 use Rattle.dynamo_ser.specs.Datum.{Datum}
 use Rattle.dynamo_ser.specs.Key.{key_text}
-use Rattle.dynamo_write.specs.Answers.{AnswersWithin, GivesList, GivesMap, GivesStruct, before}
+use Rattle.dynamo_write.specs.Answers.{AnswersWithin, GivesList, GivesMap, GivesStruct, elements_before}
 use Rattle.dynamo_write.specs.Written.{written, written_elements, written_pairs, written_fields, map_of_entries, members_in, item_written}
 
 -- ---- lists
 
-pub before_nothing : (vs : List AttributeValue) → before vs av.no_elements ≡ elements_of (map view vs)
+pub before_nothing : (vs : List AttributeValue) → elements_before vs av.no_elements ≡ elements_of (map view vs)
 before_nothing [] = refl
 before_nothing (v ∷ vs) = ap (av.element (view v)) (before_nothing vs)
 
-before-push : (vs : List AttributeValue) (v : AttributeValue) (rest : av.Elements) → before (vs ++ v ∷ []) rest ≡ before vs (av.element (view v) rest)
+before-push : (vs : List AttributeValue) (v : AttributeValue) (rest : av.Elements) → elements_before (vs ++ v ∷ []) rest ≡ elements_before vs (av.element (view v) rest)
 before-push [] v rest = refl
 before-push (w ∷ vs) v rest = ap (av.element (view w)) (before-push vs v rest)
 
 one_more_value : (vs : List AttributeValue) (v : AttributeValue) (whole : av.Elements → Av) (x : Result av.Elements Fault)
-    → (x >>= λ rest. Ok (whole (before (vs ++ v ∷ []) rest))) ≡ (x >>= λ rest. Ok (av.element (view v) rest)) >>= (λ rest. Ok (whole (before vs rest)))
+    → (x >>= λ rest. Ok (whole (elements_before (vs ++ v ∷ []) rest))) ≡ (x >>= λ rest. Ok (av.element (view v) rest)) >>= (λ rest. Ok (whole (elements_before vs rest)))
 one_more_value vs v whole (Ok rest) = ap (λ es. Ok (whole es)) (before-push vs v rest)
 one_more_value vs v whole (Err e) = refl
 

@@ -2,7 +2,8 @@
 use Rattle.std.proofs.Common.{ℕ, List, ◌++◌, Result, Ok}
 use Rattle.dynamo_value.specs.Av as av
 use Rattle.dynamo_value.specs.Av.{Av}
-use Rattle.dynamo_value.specs.Fault.{Fault, ◌>>=◌}
+use Rattle.dynamo_value.specs.Fault.{Fault}
+use Rattle.dynamo_value.specs.Steps.{◌>>=◌}
 use Rattle.dynamo_ser.specs.Symbols.{SetKind}
 use Rattle.dynamo_write.specs.Set.{set_elements, set_of}
 

@@ -3,7 +3,8 @@ use Rattle.std.specs.Prelude.{◌≡◌, ℕ, List, [], ◌∷◌, ◌++◌, Res
 use Rattle.std.proofs.Common.{inl, sym, ap}
 use Rattle.dynamo_value.specs.Av as av
 use Rattle.dynamo_value.specs.Av.{Av}
-use Rattle.dynamo_value.specs.Fault.{Fault, message, out_of_memory, ◌>>=◌}
+use Rattle.dynamo_value.specs.Fault.{Fault, message, out_of_memory}
+use Rattle.dynamo_value.specs.Steps.{◌>>=◌}
 use Rattle.dynamo_value.specs.Item.{map_of}
 use Rattle.dynamo_value.specs.Kind.{fault_of}
 use Rattle.dynamo_value.specs.View.{view, members_view}
@@ -38,13 +39,13 @@ refused text e is = inl (ap Err (sym is))
 -- ---- builders
 
 -- the values that were written so far, before those that follow
-abbrev pub before : List AttributeValue → av.Elements → av.Elements
-before [] rest = rest
-before (v ∷ vs) rest = av.element (view v) (before vs rest)
+abbrev pub elements_before : List AttributeValue → av.Elements → av.Elements
+elements_before [] rest = rest
+elements_before (v ∷ vs) rest = av.element (view v) (elements_before vs rest)
 
 -- what is answered where these values stand and the elements follow
 abbrev pub GivesList : List AttributeValue → (av.Elements → Av) → datum.Elements → Result AttributeValue Error → Type 0
-GivesList values whole ds r = AnswersWithin (written_elements ds >>= λ rest. Ok (whole (before values rest))) r
+GivesList values whole ds r = AnswersWithin (written_elements ds >>= λ rest. Ok (whole (elements_before values rest))) r
 
 -- what is answered where these entries stand and the pairs follow
 abbrev pub GivesMap : List (List ℕ × Av) → datum.Pairs → Result AttributeValue Error → Type 0

@@ -13,8 +13,8 @@ use Rattle.dynamo_write.specs.declared.serializer_struct.SerializerStruct.{Seria
 use Rattle.dynamo_write.specs.declared.serializer_struct_variant.SerializerStructVariant.{SerializerStructVariant}
 use Rattle.dynamo_write.specs.declared.serializer_tuple_variant.SerializerTupleVariant.{SerializerTupleVariant}
 
-abbrev pub entries_of : List (String Global × AttributeValue) → List (List ℕ × Av)
-entries_of es = map (λ e. (string_bytes e.0, view e.1)) es
+abbrev pub held_entries : List (String Global × AttributeValue) → List (List ℕ × Av)
+held_entries es = map (λ e. (string_bytes e.0, view e.1)) es
 
 abbrev pub fields_of : List (Bor (List ℕ) × AttributeValue) → List (List ℕ × Av)
 fields_of fs = map (λ e. (e.0.now, view e.1)) fs
@@ -29,7 +29,7 @@ seq_values b = b.values.items
 
 -- `SerializerMap`
 abbrev pub map_entries : SerializerMap → List (List ℕ × Av)
-map_entries b = entries_of b.entries.items
+map_entries b = held_entries b.entries.items
 
 abbrev pub pending_key : SerializerMap → Option (List ℕ)
 pending_key b = option_map string_bytes b.next_key

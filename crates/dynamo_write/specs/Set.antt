@@ -4,7 +4,8 @@
 use Rattle.std.specs.Prelude.{ℕ, List, [], ◌∷◌, Result, Ok, Err, Option, Some, None, if◌then◌else◌, bytes_eq}
 use Rattle.dynamo_value.specs.Av as av
 use Rattle.dynamo_value.specs.Av.{Av, Elements}
-use Rattle.dynamo_value.specs.Fault.{Fault, not_setlike, string_set_expected_type, number_set_expected_type, binary_set_expected_type, ◌>>=◌}
+use Rattle.dynamo_value.specs.Fault.{Fault, not_setlike, string_set_expected_type, number_set_expected_type, binary_set_expected_type}
+use Rattle.dynamo_value.specs.Steps.{◌>>=◌}
 use Rattle.dynamo_ser.specs.Symbols.{SetKind, strings, numbers, blobs, symbol}
 
 -- the kind of sets that a name asks for

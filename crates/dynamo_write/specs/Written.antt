@@ -4,7 +4,8 @@ use Rattle.std.specs.Prelude.{ℕ, true, List, [], ◌∷◌, Result, Ok, Err, e
 use Rattle.std.specs.Fmt.{signed_decimal}
 use Rattle.dynamo_value.specs.Av as av
 use Rattle.dynamo_value.specs.Av.{Av, members_of}
-use Rattle.dynamo_value.specs.Fault.{Fault, message, not_maplike, ◌>>=◌}
+use Rattle.dynamo_value.specs.Fault.{Fault, message, not_maplike}
+use Rattle.dynamo_value.specs.Steps.{◌>>=◌}
 use Rattle.dynamo_ser.specs.Datum as datum
 use Rattle.dynamo_ser.specs.Datum.{Datum}
 use Rattle.dynamo_ser.specs.Key.{key_text}
@@ -16,8 +17,8 @@ abbrev pub map_of_entries : List (List ℕ × Av) → Av
 map_of_entries es = av.M (members_of (collect es))
 
 -- the map of one member
-abbrev pub single : List ℕ → Av → Av
-single name a = av.M (av.member name a av.no_members)
+abbrev pub one_member : List ℕ → Av → Av
+one_member name a = av.M (av.member name a av.no_members)
 
 abbrev mutual
   pub written : Datum → Result Av Fault
@@ -32,14 +33,14 @@ abbrev mutual
   written (datum.some content) = written content
   written (datum.unit_variant variant) = Ok (av.S variant.name)
   written (datum.newtype_struct name content) = written content >>= named (set_kind name)
-  written (datum.newtype_variant variant content) = written content >>= λ a. Ok (single variant.name a)
+  written (datum.newtype_variant variant content) = written content >>= λ a. Ok (one_member variant.name a)
   written (datum.seq ds) = written_elements ds >>= λ as'. Ok (av.L as')
   written (datum.tuple ds) = written_elements ds >>= λ as'. Ok (av.L as')
   written (datum.tuple_struct name ds) = written_elements ds >>= λ as'. Ok (av.L as')
-  written (datum.tuple_variant variant ds) = written_elements ds >>= λ as'. Ok (single variant.name (av.L as'))
+  written (datum.tuple_variant variant ds) = written_elements ds >>= λ as'. Ok (one_member variant.name (av.L as'))
   written (datum.map ps) = written_pairs ps >>= λ es. Ok (map_of_entries es)
   written (datum.struct name fs) = written_fields fs >>= λ es. Ok (map_of_entries es)
-  written (datum.struct_variant variant fs) = written_fields fs >>= λ es. Ok (single variant.name (map_of_entries es))
+  written (datum.struct_variant variant fs) = written_fields fs >>= λ es. Ok (one_member variant.name (map_of_entries es))
   written (datum.refuse text) = Err (message text)
 
   pub written_elements : datum.Elements → Result av.Elements Fault

@@ -3,9 +3,9 @@ ghost use Rattle.std.specs.FinMap.Entries.{put};
 ghost use Rattle.dynamo_value.specs.Fault.{out_of_memory};
 ghost use Rattle.dynamo_value.specs.Kind.{fault_of};
 ghost use Rattle.dynamo_value.specs.View.{view, entries_view, text_cmp};
-ghost use Rattle.dynamo_write.specs.Held.{entries_of, fields_of};
+ghost use Rattle.dynamo_write.specs.Held.{held_entries, fields_of};
 ghost use Rattle.dynamo_write.specs.Collect.{collect};
-ghost use Rattle.dynamo_write.specs.Written.{single};
+ghost use Rattle.dynamo_write.specs.Written.{one_member};
 
 use dynamo_value::{AttributeValue, Error, Result};
 use std::alloc::Global;
@@ -31,7 +31,7 @@ pub fn from_entries(
     alloc: Global,
     entries: Vec<(String, AttributeValue)>,
 ) -> Result<HashMap<String, AttributeValue>>
-    ensures { MatchResult result (λ m. entries_view m.entries ≡ collect (entries_of entries.items)) (λ e. fault_of e ≡ out_of_memory) }
+    ensures { MatchResult result (λ m. entries_view m.entries ≡ collect (held_entries entries.items)) (λ e. fault_of e ≡ out_of_memory) }
 {
     let mut map: HashMap<String, AttributeValue> = HashMap::new(alloc);
     for (key, value) in entries {
@@ -57,7 +57,7 @@ pub fn from_fields(
 
 // The map of one member.
 pub fn single(alloc: Global, name: &str, value: AttributeValue) -> Result<AttributeValue>
-    ensures { MatchResult result (λ a. view a ≡ single name.now (view value)) (λ e. fault_of e ≡ out_of_memory) }
+    ensures { MatchResult result (λ a. view a ≡ one_member name.now (view value)) (λ e. fault_of e ≡ out_of_memory) }
 {
     let mut map: HashMap<String, AttributeValue> = HashMap::new(alloc);
     let key = String::from_str(alloc, name)?;

@@ -1,7 +1,7 @@
 ghost use Rattle.std.specs.Prelude.{◌≡◌, []};
 ghost use Rattle.dynamo_write.specs.Answers.{GivesStruct};
 ghost use Rattle.dynamo_write.specs.Held.{struct_variant_fields, struct_variant_name};
-ghost use Rattle.dynamo_write.specs.Written.{single};
+ghost use Rattle.dynamo_write.specs.Written.{one_member};
 
 use crate::{Serializer, hashed};
 use dynamo_ser::{SerializeStructVariant, StructBuilder};
@@ -35,7 +35,7 @@ impl StructBuilder<Serializer> for SerializerStructVariant<'_> {
 
     type Error = Error;
 
-    ghost gives = { λ b fs r. GivesStruct (struct_variant_fields b) (single (struct_variant_name b)) fs r };
+    ghost gives = { λ b fs r. GivesStruct (struct_variant_fields b) (one_member (struct_variant_name b)) fs r };
 
     ghost writer = { λ b. record { alloc = b.alloc } };
 

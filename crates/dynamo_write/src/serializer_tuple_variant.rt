@@ -2,7 +2,7 @@ ghost use Rattle.std.specs.Prelude.{◌≡◌, []};
 ghost use Rattle.dynamo_value.specs.Av as av;
 ghost use Rattle.dynamo_write.specs.Answers.{GivesList};
 ghost use Rattle.dynamo_write.specs.Held.{tuple_variant_name, tuple_variant_values};
-ghost use Rattle.dynamo_write.specs.Written.{single};
+ghost use Rattle.dynamo_write.specs.Written.{one_member};
 
 use crate::{Serializer, hashed};
 use dynamo_ser::{ListBuilder, SerializeTupleVariant};
@@ -36,7 +36,7 @@ impl ListBuilder<Serializer> for SerializerTupleVariant<'_> {
 
     type Error = Error;
 
-    ghost gives = { λ b ds r. GivesList (tuple_variant_values b) (λ as'. single (tuple_variant_name b) (av.L as')) ds r };
+    ghost gives = { λ b ds r. GivesList (tuple_variant_values b) (λ as'. one_member (tuple_variant_name b) (av.L as')) ds r };
 
     ghost writer = { λ b. record { alloc = b.alloc } };
 

@@ -9,6 +9,7 @@ mod accesses;
 mod account;
 mod answer;
 mod builders;
+mod derived;
 mod json;
 mod leaf_readers;
 mod reading;
@@ -20,13 +21,14 @@ mod writing;
 use std::{env, io};
 use stopped::Stopped;
 
-const ROWS: [&str; 32] = [
+const ROWS: [&str; 33] = [
     "write",
     "write_no_key",
     "custom",
     "read",
     "read_too_large",
     "read_too_short",
+    "derived",
     "json",
     "json_refused",
     "seq",
@@ -63,6 +65,7 @@ fn run(rt: &HostRuntime, row: &str) -> Result<(), Stopped> {
         "read" => reading::account(rt),
         "read_too_large" => reading::too_large(rt),
         "read_too_short" => reading::too_short(rt),
+        "derived" => derived::order(rt),
         "json" => json::ten_kinds(rt),
         "json_refused" => json::refused(rt),
         "seq" => builders::seq(rt),

@@ -8,7 +8,7 @@ use Rattle.dynamo_ser.specs.Datum.{Datum}
 use Rattle.dynamo_de.specs.Reads.{ReadsList}
 use Rattle.dynamo_de.specs.Source.{Source, attribute, values_of}
 use Rattle.dynamo_shape.specs.Conforms.{conforms}
-use Rattle.dynamo_shape.specs.Laws.{Answers, ReadsByShape}
+use Rattle.dynamo_shape.specs.Laws.{AnswersByShape, ReadsByShape}
 use Rattle.dynamo_shape.specs.Read.{read}
 use Rattle.dynamo_shape.specs.Same.{Same}
 use Rattle.dynamo_shape.specs.Shape as shape
@@ -23,5 +23,5 @@ abbrev pub whole : List Members → Source
 whole items = attribute (av.L (av.elements_of (map av.M items)))
 
 pub items_answered : {T : Type 0} (s : Shape) (tells : T → Datum) (reads : Source → Result T Fault → Type 0) → ReadsByShape s tells reads → (items : List Members) (r : Result (Vec T Global) Fault) → ReadsList reads (map (λ m. attribute (av.M m)) items) r
-    → Answers (conforms (shape.list s)) Same (λ v. datum.seq (datum.elements_of (map tells v.items))) (read (shape.list s) (whole items)) r
+    → AnswersByShape (conforms (shape.list s)) Same (λ v. datum.seq (datum.elements_of (map tells v.items))) (read (shape.list s) (whole items)) r
 items_answered s tells reads h items r a = list_permitted s tells reads h (whole items) r (subst (λ sources. ReadsList reads sources r) (maps_in items) a)

@@ -5,6 +5,8 @@ pub use Rattle.dynamo_value.specs.HasBytes
 pub use Rattle.dynamo_value.specs.Integer
 pub use Rattle.dynamo_value.specs.Item
 pub use Rattle.dynamo_value.specs.Kind
+pub use Rattle.dynamo_value.specs.Refusal
+pub use Rattle.dynamo_value.specs.Steps
 pub use Rattle.dynamo_value.specs.Text
 pub use Rattle.dynamo_value.specs.View
 pub use Rattle.dynamo_ser.specs.AttributeDatum

@@ -3,7 +3,7 @@
 ghost use Rattle.dynamo_json.specs.AttributeBack.{TellsSome, TellsItsDatum, ViewsInOrder, EachDatumBack};
 ghost use Rattle.dynamo_json.specs.AttributeBack.{ItemTellsSome, TellsItsItem, ItemViewsInOrder, EachItemDatumBack};
 ghost use Rattle.dynamo_json.specs.JsonBack.{IsJson, JsonBack};
-ghost use Rattle.dynamo_json.specs.Laws.{ReadsExactly, StandsForOne, RefusesByMessage, WritesNoFloat, HoldsTexts};
+ghost use Rattle.dynamo_json.specs.Laws.{ReadsItsJson, StandsForOne, RefusesByMessage, WritesNoFloat, HoldsTexts};
 ghost use Rattle.dynamo_json.specs.Laws.{ReadsItemsExactly, StandsForOneItem, RefusesItemsByMessage, WritesItemsWithoutFloat};
 ghost use Rattle.dynamo_json.specs.Plain.{plain};
 ghost use Rattle.dynamo_json.specs.Square.{InSquare, IsSquare, IsWritten};
@@ -17,7 +17,7 @@ pub use dynamo_shape::laws::{determined, key_texts, read_back, walks};
 /// value stands for two, and no other JSON value is read. What is refused is refused by a message.
 pub fn dynamo_json()
     // A JSON value is read as an attribute value exactly where it is the JSON value of it.
-    ensures exact { ReadsExactly }
+    ensures exact { ReadsItsJson }
     ensures one { StandsForOne }
     ensures message { RefusesByMessage }
 

@@ -21,8 +21,8 @@ use Rattle.dynamo_shape.proofs.ByHand.{ReadsTold, scalar_told, option_told}
 use Rattle.dynamo_shape.specs.Read.{read}
 use Rattle.dynamo_shape.specs.Shape as shape
 use Rattle.serde_dynamo_tests.specs.GaugeShape.{reading_shape, told_id, told_reading, gauge_told, gauge_field, gauge_entry, finish_gauge, no_gauge, GaugeFields}
-use Rattle.serde_dynamo_tests.specs.declared.by_hand.Gauge.{Gauge}
-use Rattle.serde_dynamo_tests.specs.declared.by_hand.Field.{Field}
+use Rattle.serde_dynamo_tests.specs.declared.proved.by_hand.Gauge.{Gauge}
+use Rattle.serde_dynamo_tests.specs.declared.proved.by_hand.Field.{Field}
 
 -- what the types of the two fields read
 abbrev pub ReadsId : Source → Result (String Global) Fault → Type 0

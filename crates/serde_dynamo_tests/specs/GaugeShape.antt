@@ -2,7 +2,7 @@
 use Rattle.std.specs.Prelude.{◌≡◌, refl, ℕ, pos, List, [], ◌∷◌, Option, Some, None, Result, bytes_eq, codes, if◌then◌else◌, string_bytes}
 use Rattle.serde_dynamo.specs.About.{About}
 use Rattle.serde_dynamo.specs.Answer as answer
-use Rattle.serde_dynamo.specs.Answer.{Answer, ◌>>=◌, Gives}
+use Rattle.serde_dynamo.specs.Answer.{Answer, Gives}
 use Rattle.serde_dynamo.specs.Av.{Av}
 use Rattle.serde_dynamo.specs.Contents.{Parts, by_name, in_order}
 use Rattle.serde_dynamo.specs.Datum as datum
@@ -13,6 +13,7 @@ use Rattle.serde_dynamo.specs.Ignored.{read_ignored}
 use Rattle.serde_dynamo.specs.Integer.{u8}
 use Rattle.serde_dynamo.specs.Options.{option_tells}
 use Rattle.serde_dynamo.specs.Source.{Entry, attribute}
+use Rattle.serde_dynamo.specs.Steps.{◌>>=◌}
 use Rattle.dynamo_shape.specs.ByValue.{SameOption}
 use Rattle.dynamo_shape.specs.Laws.{IsToldByValue, ToldAlike}
 use Rattle.dynamo_shape.specs.Read.{read, into, read_field, fields_by_name}
@@ -27,8 +28,8 @@ use Rattle.dynamo_shape.proofs.InOrder.{ListsFields, first_field, no_more_fields
 use Rattle.dynamo_shape.proofs.Scalars.{text_told, text_alike, unsigned_told, unsigned_alike}
 use Rattle.std.specs.declared.alloc.Global.{Global}
 use Rattle.std.specs.declared.string.String.{String}
-use Rattle.serde_dynamo_tests.specs.declared.by_hand.Gauge.{Gauge}
-use Rattle.serde_dynamo_tests.specs.declared.by_hand.Field.{Field}
+use Rattle.serde_dynamo_tests.specs.declared.proved.by_hand.Gauge.{Gauge}
+use Rattle.serde_dynamo_tests.specs.declared.proved.by_hand.Field.{Field}
 
 abbrev pub reading_shape : Shape
 reading_shape = shape.option (shape.integer u8)

@@ -1,7 +1,6 @@
 use crate::code::{Code, ListKind};
 use crate::declaration::{Declaration, Parameter, Variant};
 use crate::layout::{fits, joined, quoted, signature, statement};
-use crate::tree::tree;
 use std::alloc::{AllocError, Global};
 use std::fmt::Write;
 
@@ -127,24 +126,6 @@ pub fn names_function(alloc: Global, names: &[String]) -> Result<String, AllocEr
         {texts}
     }}"
     )
-}
-
-/// Prints the type of the list of the fields, by the types of its leaves.
-pub fn print_field_list(
-    alloc: Global,
-    out: &mut String,
-    about: &Heading,
-    leaves: &[String],
-) -> Result<(), AllocError> {
-    let Heading {
-        name,
-        arguments,
-        ..
-    } = about;
-    let before = format!(in alloc; "type {name}Fields{arguments} = ")?;
-    let types = tree(alloc, ListKind::TupleType, leaves)?;
-    let types = types.laid_out(alloc, "", before.as_str(), ";")?;
-    writeln!(out, "{before}{types};\n")
 }
 
 /// Prints the impl of `Serialize`, by its ghost members, of which the second is a line or nothing, and its body.

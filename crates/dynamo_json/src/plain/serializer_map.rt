@@ -1,5 +1,5 @@
 ghost use Rattle.std.specs.Prelude.{◌≡◌, [], None, option_map, string_bytes};
-ghost use Rattle.dynamo_json.specs.Entries.{entries_of};
+ghost use Rattle.dynamo_json.specs.Entries.{held_members};
 ghost use Rattle.dynamo_json.specs.PlainAnswers.{GivesObject};
 
 use super::objects;
@@ -35,7 +35,7 @@ impl SerializeMap<Serializer> for SerializerMap {
 
     type Error = Error;
 
-    ghost gives = { λ b ps r. GivesObject (entries_of b.entries.items) ps r };
+    ghost gives = { λ b ps r. GivesObject (held_members b.entries.items) ps r };
 
     ghost pending = { λ b. option_map string_bytes b.next_key };
 

@@ -1,6 +1,6 @@
 ghost use Rattle.std.specs.Prelude.{◌≡◌, []};
 ghost use Rattle.dynamo_json.specs.Entries.{fields_of};
-ghost use Rattle.dynamo_json.specs.Plain.{single};
+ghost use Rattle.dynamo_json.specs.Plain.{one_member};
 ghost use Rattle.dynamo_json.specs.PlainAnswers.{GivesFields};
 
 use super::objects;
@@ -36,7 +36,7 @@ impl StructBuilder<Serializer> for SerializerStructVariant<'_> {
 
     type Error = Error;
 
-    ghost gives = { λ b fs r. GivesFields (fields_of b.fields.items) (single b.name.now) fs r };
+    ghost gives = { λ b fs r. GivesFields (fields_of b.fields.items) (one_member b.name.now) fs r };
 
     ghost writer = { λ b. record { alloc = b.alloc } };
 

@@ -1,6 +1,6 @@
 ghost use Rattle.std.specs.Prelude.{◌≡◌, []};
 ghost use Rattle.serde_json.specs.Data as json;
-ghost use Rattle.dynamo_json.specs.Plain.{single};
+ghost use Rattle.dynamo_json.specs.Plain.{one_member};
 ghost use Rattle.dynamo_json.specs.PlainAnswers.{GivesArray};
 
 use super::objects;
@@ -36,7 +36,7 @@ impl ListBuilder<Serializer> for SerializerTupleVariant<'_> {
 
     type Error = Error;
 
-    ghost gives = { λ b ds r. GivesArray b.values.items (λ js. single b.name.now (json.array js)) ds r };
+    ghost gives = { λ b ds r. GivesArray b.values.items (λ js. one_member b.name.now (json.array js)) ds r };
 
     ghost writer = { λ b. record { alloc = b.alloc } };
 

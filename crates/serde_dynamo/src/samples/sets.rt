@@ -20,14 +20,14 @@ pub struct Sets {
 }
 
 type SetsFields = (
-    Field<InStringSet<String>>,
-    (Field<InNumberSet<u64>>, Field<InBinarySet<ByteBuf>>),
+    (Field<InStringSet<String>>, Field<InNumberSet<u64>>),
+    Field<InBinarySet<ByteBuf>>,
 );
 
 impl Record for Sets {
     type Fields = SetsFields;
 
-    ghost about = { record_of (codes "Sets") (codes "names" ∷ codes "numbers" ∷ codes "blobs" ∷ []) (λ s. (record { 0 = s.names }, (record { 0 = s.numbers }, record { 0 = s.blobs }))) ⟦<SetsFields as FieldList>⟧.about };
+    ghost about = { record_of (codes "Sets") (codes "names" ∷ codes "numbers" ∷ codes "blobs" ∷ []) (λ s. ((record { 0 = s.names }, record { 0 = s.numbers }), record { 0 = s.blobs })) ⟦<SetsFields as FieldList>⟧.about };
 
     ghost named = { (refl, refl) };
 
@@ -44,7 +44,7 @@ impl Record for Sets {
     }
 
     fn make(fields: SetsFields) -> Sets {
-        let (Field(names), (Field(numbers), Field(blobs))) = fields;
+        let ((Field(names), Field(numbers)), Field(blobs)) = fields;
         Sets {
             names,
             numbers,
@@ -57,8 +57,13 @@ impl Serialize for Sets {
     ghost tells = { record_tells ⟦<Sets as Record>⟧.about };
 
     fn serialize<S: Serializer>(&self, serializer: S) -> Result<S::Ok, S::Error> {
-        let sets = (NumberSet(&self.numbers), BinarySet(&self.blobs));
-        write_record::<Sets, _, S>(serializer, &(StringSet(&self.names), sets))
+        write_record::<Sets, _, S>(
+            serializer,
+            &(
+                (StringSet(&self.names), NumberSet(&self.numbers)),
+                BinarySet(&self.blobs),
+            ),
+        )
     }
 }
 
@@ -82,7 +87,9 @@ impl Shaped for Sets {
     }
 
     fn conforms(&self) {
-        let sets = (NumberSet(&self.numbers), BinarySet(&self.blobs));
-        record_conforms::<Sets, _>(&(StringSet(&self.names), sets))
+        record_conforms::<Sets, _>(&(
+            (StringSet(&self.names), NumberSet(&self.numbers)),
+            BinarySet(&self.blobs),
+        ))
     }
 }

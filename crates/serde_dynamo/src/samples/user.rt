@@ -15,12 +15,12 @@ pub struct User {
     pub age: u8,
 }
 
-type UserFields = (Field<String>, (Field<String>, Field<u8>));
+type UserFields = ((Field<String>, Field<String>), Field<u8>);
 
 impl Record for User {
     type Fields = UserFields;
 
-    ghost about = { record_of (codes "User") (codes "id" ∷ codes "name" ∷ codes "age" ∷ []) (λ u. (record { 0 = u.id }, (record { 0 = u.name }, record { 0 = u.age }))) ⟦<UserFields as FieldList>⟧.about };
+    ghost about = { record_of (codes "User") (codes "id" ∷ codes "name" ∷ codes "age" ∷ []) (λ s. ((record { 0 = s.id }, record { 0 = s.name }), record { 0 = s.age })) ⟦<UserFields as FieldList>⟧.about };
 
     ghost named = { (refl, refl) };
 
@@ -37,7 +37,7 @@ impl Record for User {
     }
 
     fn make(fields: UserFields) -> User {
-        let (Field(id), (Field(name), Field(age))) = fields;
+        let ((Field(id), Field(name)), Field(age)) = fields;
         User { id, name, age }
     }
 }
@@ -46,7 +46,7 @@ impl Serialize for User {
     ghost tells = { record_tells ⟦<User as Record>⟧.about };
 
     fn serialize<S: Serializer>(&self, serializer: S) -> Result<S::Ok, S::Error> {
-        write_record::<User, _, S>(serializer, &(&self.id, (&self.name, &self.age)))
+        write_record::<User, _, S>(serializer, &((&self.id, &self.name), &self.age))
     }
 }
 
@@ -70,6 +70,6 @@ impl Shaped for User {
     }
 
     fn conforms(&self) {
-        record_conforms::<User, _>(&(&self.id, (&self.name, &self.age)))
+        record_conforms::<User, _>(&((&self.id, &self.name), &self.age))
     }
 }

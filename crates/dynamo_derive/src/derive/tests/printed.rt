@@ -18,12 +18,31 @@ fn fields_are_stored_by_their_attributes(rt: HostRuntime) -> Result<(), Fail> {
             "type PageFields<T> = (\n    Field<WithDefault<Option<HashMap<String, (u8, [u8; 4])>>>>,\n    Field<InStringSet<T>>,\n);",
             "impl<T: Shaped> Record for Page<T> {",
             "record_of (codes \"page\") (codes \"firstName\" ∷ codes \"Names\" ∷ [])",
-            "\"struct Page\"",
+            "\"struct page\"",
             "&[\"firstName\", \"Names\"]",
             "let (Field(first_name), Field(names)) = fields;",
             "write_record::<Page<T>, _, S>(serializer, &(&self.first_name, StringSet(&self.names)))",
             "InStringSet, Record, WithDefault, read_record",
             "use serde_dynamo::{Shaped, StringSet};",
+        ],
+    )
+}
+
+#[test]
+fn tuple_structs_have_their_fields_in_order(rt: HostRuntime) -> Result<(), Fail> {
+    prints(
+        &rt,
+        rt.alloc(),
+        "#[serde(rename = \"rgb\")] pub struct Rgb<T>(pub u8, T, pub(crate) Vec<u8>);",
+        &[
+            "type RgbFields<T> = ((Field<u8>, Field<T>), Field<Vec<u8>>);",
+            "impl<T: Shaped> TupleStruct for Rgb<T> {",
+            "tuple_struct_of (codes \"rgb\") (λ s. ((record { 0 = s.0 }, record { 0 = s.1 }), record { 0 = s.2 })) ⟦<RgbFields<T> as FieldList>⟧.about",
+            "        \"tuple struct rgb\"",
+            "    fn count() -> usize {\n        3\n    }",
+            "let ((Field(a), Field(b)), Field(c)) = fields;\n        Rgb(a, b, c)",
+            "write_tuple_struct::<Rgb<T>, _, S>(serializer, &((&self.0, &self.1), &self.2))",
+            "    Field, FieldList, TupleStruct, read_tuple_struct, tuple_struct_conforms, write_tuple_struct,\n};",
         ],
     )
 }

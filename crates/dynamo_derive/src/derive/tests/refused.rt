@@ -43,10 +43,6 @@ fn structs_that_are_not_described(rt: HostRuntime) -> Result<(), Fail> {
     let alloc = rt.alloc();
     for (text, wanted) in [
         (
-            "struct Rgb(u8, u8, u8);",
-            "line 1: a tuple struct of several fields is described by hand",
-        ),
-        (
             "struct A();",
             "line 1: a struct without fields is declared by `struct Name;`",
         ),

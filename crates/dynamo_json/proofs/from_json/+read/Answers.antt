@@ -7,7 +7,8 @@ use Rattle.serde_json.specs.View as sj
 use Rattle.serde_json.proofs.Views.{Entry, view-Array, view-Object}
 use Rattle.dynamo_value.specs.Kind.{fault_of}
 use Rattle.dynamo_value.specs.PrefixView.{prefix_view}
-use Rattle.dynamo_value.specs.Refusal.{Refused, refusal_in, ◌>>=◌}
+use Rattle.dynamo_value.specs.Refusal.{Refused, refusal_in}
+use Rattle.dynamo_value.specs.Steps.{◌>>=◌}
 use Rattle.dynamo_value.specs.View.{view, entries_view}
 use Rattle.dynamo_value.proofs.Members.{inserted}
 use Rattle.dynamo_json.specs.Parsed.{parsed_content, parsed_elements, parsed_members}

@@ -4,6 +4,7 @@ use Rattle.dynamo_de.specs.Answer as answer
 use Rattle.dynamo_de.specs.Contents.{in_order}
 use Rattle.dynamo_record.specs.Fields.{read_fields}
 use Rattle.dynamo_record.specs.Listed.{Makes}
+use Rattle.dynamo_record.specs.Names.{too_few_text}
 use Rattle.dynamo_record.specs.Records.{listed, FromParts, AsLong}
 use Rattle.dynamo_record.proofs.Answering.{meets_on}
 use Rattle.dynamo_record.proofs.Structs.{listed_made, listed_short, listed_fails}
@@ -27,5 +28,5 @@ returns g c = elim c.too_few.ensures [
   | inl told ↦
       let a = listed g.R.Record.about g.R.Fields.FieldList.about in
       let short = subst (λ o. Makes a.list.shapes a.list.told (read_fields (a.list.shapes []) (g.A.SeqAccess.left c.args.seq)) (answer.value []) o) c.in-None.is (c.in_ok-fields.ensures []) in
-      inr (λ as_long. listed_short a g.A.Error.Error.fault (g.A.SeqAccess.left c.args.seq) (g.A.SeqAccess.left c.read_in_order.new.seq) c.too_few.result short told)
+      inr (λ as_long. listed_short a g.A.Error.Error.fault (g.A.SeqAccess.left c.args.seq) (g.A.SeqAccess.left c.read_in_order.new.seq) c.too_few.result short (too_few_text _, told))
 ]

@@ -2,11 +2,11 @@ use Rattle.std.proofs.Common.{◌≡◌, [], ◌∷◌, ◌++◌, ap, ◌∙◌}
 use Rattle.std.proofs.lemmas.List.{map-append}
 use Rattle.serde_json.specs.View.{view}
 use Rattle.dynamo_json.specs.Entries.{fields_of}
-use Rattle.dynamo_json.specs.Plain.{single}
+use Rattle.dynamo_json.specs.Plain.{one_member}
 use Rattle.dynamo_json.proofs.Builders.{field_pushed}
 use Rattle.dynamo_json.proofs.plain.serializer_struct_variant.SerializerStructVariantStructBuilderSerializer.push_field.Goals as goal
 
 pub returns : goal.returns
 returns c = λ d is fs r given.
     let more : fields_of c.push.new.self.items ≡ fields_of c.args.self.now.fields.items ++ (c.args.key.now, view c.args.written) ∷ [] = ap fields_of c.in_ok-push.ensures.items ∙ map-append _ _ _ in
-    field_pushed (fields_of c.args.self.now.fields.items) c.args.key.now (view c.args.written) (single c.args.self.now.name.now) d fs r is (rw more at given)
+    field_pushed (fields_of c.args.self.now.fields.items) c.args.key.now (view c.args.written) (one_member c.args.self.now.name.now) d fs r is (rw more at given)

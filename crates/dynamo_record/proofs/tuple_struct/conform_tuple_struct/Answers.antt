@@ -1,9 +1,0 @@
-use Rattle.std.proofs.Common.{[], refl}
-use Rattle.dynamo_ser.specs.Datum.{elements_of}
-use Rattle.dynamo_record.specs.InOrder.{elements_conform}
-use Rattle.dynamo_record.proofs.tuple_struct.conform_tuple_struct.Goals as goal
-
-pub returns : goal.returns
-returns g c = λ name.
-    let told = g.W.RefList.told c.args.fields.now [] in
-    (elements_of told, refl, elements_conform (g.W.RefList.shapes []) told (c.conform.ensures [] [] tt))

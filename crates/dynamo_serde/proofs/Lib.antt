@@ -1,0 +1,5 @@
+pub mod Machine
+pub mod Names
+pub mod Sends
+mod Steps
+pub mod Told

@@ -1,0 +1,12 @@
+pub mod SetKind
+pub mod Sent
+pub mod Building
+pub mod Called
+pub mod Told
+pub use Rattle.dynamo_ser.specs.Datum
+pub use Rattle.dynamo_value.specs.Av
+pub use Rattle.dynamo_value.specs.View
+pub use Rattle.dynamo_value.specs.Item
+pub use Rattle.dynamo_value.specs.Fault
+pub use Rattle.dynamo_value.specs.Steps
+pub use Rattle.dynamo_write.specs.Written

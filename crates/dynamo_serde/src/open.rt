@@ -1,0 +1,96 @@
+// What is open while an attribute value is being built.
+ghost use Rattle.std.specs.Prelude.{◌≡◌, string_bytes, Some, OnOk};
+ghost use Rattle.std.specs.FinMap.Entries.{put as put_entry};
+ghost use Rattle.dynamo_value.specs.View.{view, entries_view, text_cmp};
+ghost use Rattle.dynamo_serde.specs.Sent.{put_in, key_in, set_in};
+ghost use Rattle.dynamo_serde.specs.SetKind.{kind_of};
+ghost use Rattle.dynamo_serde.specs.Building.{frame};
+
+use crate::fault::fault;
+use crate::set::{SetKind, set_of};
+use dynamo_value::{AttributeValue, Error, ErrorImpl, Result};
+use std::alloc::Global;
+use std::collections::HashMap;
+
+// What is being built: the whole, a list, a map, or a set in the place of a map.
+#[derive(Drop)]
+pub(crate) enum Open {
+    Whole(Option<AttributeValue>),
+    List(Vec<AttributeValue>),
+    Map(OpenMap),
+    Set(SetKind, Option<AttributeValue>),
+}
+
+#[derive(Drop)]
+pub(crate) struct OpenMap {
+    pub(crate) entries: HashMap<String, AttributeValue>,
+    // The key that waits for its value.
+    pub(crate) key: Option<String>,
+    // How many maps are open whose members go into this one.
+    pub(crate) shared: usize,
+}
+
+fn insert(
+    entries: &mut HashMap<String, AttributeValue>,
+    key: String,
+    value: AttributeValue,
+) -> Result<()>
+    ensures { OnOk result (entries_view entries.new.entries ≡ put_entry text_cmp (string_bytes key) (view value) (entries_view entries.old.entries)) }
+{
+    match entries.insert(key, value) {
+        Ok(_) => Ok(()),
+        Err(error) => Err(Error::from(error)),
+    }
+}
+
+impl Open {
+    pub(crate) fn put(&mut self, alloc: Global, value: AttributeValue) -> Result<()>
+        ensures { OnOk result (put_in (frame self.old) (view value) ≡ Some (frame self.new)) }
+    {
+        match self {
+            Open::Whole(whole) => {
+                *whole = Some(value);
+                Ok(())
+            }
+            Open::List(items) => {
+                items.push(value)?;
+                Ok(())
+            }
+            Open::Map(map) => match map.key.take() {
+                Some(key) => insert(&mut map.entries, key, value),
+                None => Err(fault(ErrorImpl::SerializeMapValueBeforeKey)),
+            },
+            Open::Set(kind, slot) => {
+                *slot = Some(set_of(alloc, *kind, value)?);
+                Ok(())
+            }
+        }
+    }
+
+    pub(crate) fn set_key(&mut self, key: String) -> Result<()>
+        ensures { OnOk result (key_in (frame self.old) (string_bytes key) ≡ Some (frame self.new)) }
+    {
+        match self {
+            Open::Map(map) => {
+                map.key = Some(key);
+                Ok(())
+            }
+            _ => Err(fault(ErrorImpl::ExpectedMap)),
+        }
+    }
+
+    // A map without members becomes a set of this kind.
+    pub(crate) fn become_set(&mut self, kind: SetKind) -> Result<()>
+        ensures { OnOk result (set_in (frame self.old) (kind_of kind) ≡ Some (frame self.new)) }
+    {
+        let is_fresh = match self {
+            Open::Map(map) => map.shared == 0 && map.entries.is_empty(),
+            _ => false,
+        };
+        if !is_fresh {
+            return Err(fault(ErrorImpl::NotSetlike));
+        }
+        *self = Open::Set(kind, None);
+        Ok(())
+    }
+}
