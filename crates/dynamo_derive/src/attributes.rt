@@ -6,7 +6,7 @@ use crate::token::{Kind, Token};
 use std::alloc::Global;
 
 /// What the attributes at one place say.
-#[derive(Debug, Drop)]
+#[derive(Drop)]
 pub struct Attributes {
     /// Whether `Ord` and `Hash` are derived.
     pub is_key: bool,

@@ -9,6 +9,18 @@ enum Side {
     Right,
 }
 
+impl Side {
+    // The pattern of this side of a choice.
+    fn pattern(self, alloc: Global, inside: Code) -> Result<Code, AllocError> {
+        let open = match self {
+            Side::Left => "Choice::Left(",
+            Side::Right => "Choice::Right(",
+        };
+        let inside = vec![in alloc; inside]?;
+        Code::list(alloc, ListKind::TuplePattern, open, inside)
+    }
+}
+
 // The sides that lead to the variant at this index, of so many.
 fn sides(alloc: Global, index: usize, count: usize) -> Result<Vec<Side>, AllocError> {
     let mut found = Vec::new(alloc);
@@ -37,16 +49,7 @@ pub fn pattern_branch(
 ) -> Result<Code, AllocError> {
     let mut pattern = listed;
     for side in sides(alloc, index, count)?.iter().rev() {
-        let open = match side {
-            Side::Left => "Choice::Left(",
-            Side::Right => "Choice::Right(",
-        };
-        pattern = Code::list(
-            alloc,
-            ListKind::TuplePattern,
-            open,
-            vec![in alloc; pattern]?,
-        )?;
+        pattern = side.pattern(alloc, pattern)?;
     }
     Ok(pattern)
 }

@@ -25,7 +25,7 @@ pub enum Code {
     },
 }
 
-#[derive(Clone, Copy, Debug, PartialEq, Eq)]
+#[derive(Clone, Copy, PartialEq, Eq)]
 pub enum ListKind {
     /// The parameters of a function.
     Parameters,

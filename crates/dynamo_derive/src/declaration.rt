@@ -1,7 +1,7 @@
 use std::alloc::{AllocError, Global};
 
 /// A struct or an enum, by what its description needs.
-#[derive(Debug, Drop)]
+#[derive(Drop)]
 pub struct Declaration {
     pub name: String,
 
@@ -16,13 +16,13 @@ pub struct Declaration {
 }
 
 /// A type parameter, and the text of its bounds, which is empty where it has none.
-#[derive(Debug, Drop)]
+#[derive(Drop)]
 pub struct Parameter {
     pub name: String,
     pub bounds: String,
 }
 
-#[derive(Debug, Drop)]
+#[derive(Drop)]
 pub enum Body {
     /// A struct of named fields.
     Record(Vec<Field>),
@@ -73,7 +73,7 @@ impl Body {
 }
 
 /// A named field.
-#[derive(Debug, Drop)]
+#[derive(Drop)]
 pub struct Field {
     pub name: String,
 
@@ -86,7 +86,7 @@ pub struct Field {
 }
 
 /// How a field is stored.
-#[derive(Clone, Copy, Debug, PartialEq, Eq)]
+#[derive(Clone, Copy, PartialEq, Eq)]
 pub enum Form {
     Plain,
 
@@ -97,14 +97,14 @@ pub enum Form {
     Set(SetKind),
 }
 
-#[derive(Clone, Copy, Debug, PartialEq, Eq)]
+#[derive(Clone, Copy, PartialEq, Eq)]
 pub enum SetKind {
     Strings,
     Numbers,
     Binaries,
 }
 
-#[derive(Debug, Drop)]
+#[derive(Drop)]
 pub struct Variant {
     pub name: String,
 
@@ -113,7 +113,7 @@ pub struct Variant {
     pub contents: Contents,
 }
 
-#[derive(Debug, Drop)]
+#[derive(Drop)]
 pub enum Contents {
     Nothing,
 

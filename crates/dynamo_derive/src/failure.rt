@@ -2,7 +2,7 @@ use std::alloc::{AllocError, AllocFailed};
 use std::fmt;
 
 /// Why a declaration is not described.
-#[derive(Debug, Drop)]
+#[derive(Drop)]
 pub enum Reason {
     Character(char),
     BlockComment,
@@ -41,7 +41,7 @@ pub enum Reason {
 }
 
 /// Why nothing is printed.
-#[derive(Debug, Drop)]
+#[derive(Drop)]
 pub enum Failure {
     /// What stands on the line is not described.
     Refused(u32, Reason),

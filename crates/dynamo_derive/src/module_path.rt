@@ -1,7 +1,7 @@
 use std::alloc::{AllocError, Global};
 
 /// The crate and the module that the declarations stand in, as antt names them.
-#[derive(Debug, Drop)]
+#[derive(Drop)]
 pub struct ModulePath {
     pub krate: String,
 

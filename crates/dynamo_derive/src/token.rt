@@ -1,5 +1,5 @@
 /// What a token is.
-#[derive(Clone, Copy, Debug, PartialEq, Eq)]
+#[derive(Clone, Copy, PartialEq, Eq)]
 pub enum Kind {
     /// A name, a keyword or a number.
     Word,
@@ -12,7 +12,7 @@ pub enum Kind {
 }
 
 /// A token, the line that it stands on, and how many brackets are open around it. Angle brackets count.
-#[derive(Debug, Drop)]
+#[derive(Drop)]
 pub struct Token {
     pub kind: Kind,
     pub text: String,
