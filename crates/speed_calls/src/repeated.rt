@@ -1,0 +1,85 @@
+//! Calls that are repeated.
+use crate::users::{items, users};
+use serde_dynamo::samples::User;
+use serde_dynamo::{
+    AttributeValue, Item, Items, Result, from_item, from_items, to_attribute_value, to_item,
+    to_json_value,
+};
+use std::alloc::Global;
+use std::collections::HashMap;
+use std::io;
+
+/// Repeats the call of this name, and prints how many users it saw.
+pub fn run(rt: &HostRuntime, word: &str, repeats: &str) -> io::Result<()> {
+    let Ok(repeats) = repeats.parse::<u32>() else {
+        return println!(rt; "no number of repeats: {repeats}");
+    };
+    match repeat(rt.alloc(), word, repeats) {
+        Ok(seen) => println!(rt; "{seen}"),
+        Err(error) => println!(rt; "{error}"),
+    }
+}
+
+// How many users were seen in all.
+fn repeat(alloc: Global, word: &str, repeats: u32) -> Result<usize> {
+    let users = users(alloc)?;
+    let items = items(alloc, users.as_slice())?;
+    let mut seen: usize = 0;
+    for _ in 0..repeats {
+        let count = match word {
+            "to_item" => written(alloc, users.as_slice())?,
+            "to_attribute_value" => listed(alloc, &users)?,
+            "to_json_value" => listed_as_json(alloc, &users)?,
+            "clone" => copied(&items)?,
+            "from_item" => read(alloc, items.clone()?)?,
+            "from_items" => read_all(alloc, items.clone()?)?,
+            _nothing => 0,
+        };
+        seen = seen.wrapping_add(count);
+    }
+    Ok(seen)
+}
+
+#[inline(never)]
+fn written(alloc: Global, users: &[User]) -> Result<usize> {
+    let mut count: usize = 0;
+    for user in users {
+        count = count.wrapping_add(to_item(alloc, user)?.inner().len());
+    }
+    Ok(count)
+}
+
+#[inline(never)]
+fn listed(alloc: Global, users: &Vec<User>) -> Result<usize> {
+    to_attribute_value(alloc, users)?;
+    Ok(users.len())
+}
+
+#[inline(never)]
+fn listed_as_json(alloc: Global, users: &Vec<User>) -> Result<usize> {
+    to_json_value(alloc, users)?;
+    Ok(users.len())
+}
+
+#[inline(never)]
+fn read(alloc: Global, items: Items) -> Result<usize> {
+    let mut count: usize = 0;
+    let maps: Vec<HashMap<String, AttributeValue>> = items.into();
+    for map in maps {
+        let user: User = from_item(alloc, Item::from(map))?;
+        count = count.wrapping_add(user.id.len());
+    }
+    Ok(count)
+}
+
+#[inline(never)]
+fn read_all(alloc: Global, items: Items) -> Result<usize> {
+    let users: Vec<User> = from_items(alloc, items)?;
+    Ok(users.len())
+}
+
+#[inline(never)]
+fn copied(items: &Items) -> Result<usize> {
+    let copy: Vec<HashMap<String, AttributeValue>> = items.clone()?.into();
+    Ok(copy.len())
+}
