@@ -104,6 +104,7 @@ impl Reader for Deserializer {
     }
 
     /// What the source shows at a request. The elements of a list are counted, those of a set are not.
+    #[inline(always)]
     fn show(self, request: Request) -> Result<Shown>
         ensures shown { IsShown (shown request (source_of self)) result }
         ensures counted { asks_elements request ≡ true → IfElements (Counted (source_of self)) result }
@@ -118,6 +119,7 @@ impl Reader for Deserializer {
         }
     }
 
+    #[inline(always)]
     fn next_element(rest: &mut Elements) -> Option<Deserializer> {
         let alloc = rest.alloc;
         let source = match &mut rest.rest {
@@ -129,6 +131,7 @@ impl Reader for Deserializer {
         Some(Deserializer { alloc, source })
     }
 
+    #[inline(always)]
     fn next_entry(rest: &mut Entries) -> Option<(Deserializer, Deserializer)> {
         let alloc = rest.alloc;
         let (key, value) = rest.rest.next()?;
