@@ -1,6 +1,7 @@
 ghost use Rattle.std.specs.Prelude.{◌≡◌, IfOk};
 ghost use Rattle.std.specs.Bool.{Decides};
 ghost use Rattle.std.specs.Cmp.{partial_equiv_from_equiv, on_equiv};
+ghost use Rattle.dynamo_value.specs.Av as av;
 ghost use Rattle.dynamo_value.specs.Equal.{av_eq, av_eq_equiv};
 ghost use Rattle.dynamo_value.specs.View.{view, elements_view, members_view};
 
@@ -132,9 +133,23 @@ pub(crate) fn same_maps(
     true
 }
 
-// A value that is equal.
+// A value that is equal. The frame of this function stands once a level, so what is copied of each kind has functions of its own
+// that aren't inlined.
 #[cycle(copy)]
 fn copy(value: &AttributeValue) -> Result<AttributeValue, AllocError>
+    ensures { IfOk result (λ v. view v ≡ view value.now) }
+{
+    match value {
+        AttributeValue::M(map) => copy_members(map),
+        AttributeValue::L(list) => copy_elements(list),
+        other => copy_other(other),
+    }
+}
+
+// The same, of a value that nests no others; of one that does it is no other.
+#[cycle(copy)]
+#[inline(never)]
+fn copy_other(value: &AttributeValue) -> Result<AttributeValue, AllocError>
     ensures { IfOk result (λ v. view v ≡ view value.now) }
 {
     match value {
@@ -146,15 +161,33 @@ fn copy(value: &AttributeValue) -> Result<AttributeValue, AllocError>
             bytes.as_slice(),
         )?)),
         AttributeValue::Null(b) => Ok(AttributeValue::Null(*b)),
-        AttributeValue::M(map) => Ok(AttributeValue::M(copy_map(map)?)),
-        AttributeValue::L(list) => Ok(AttributeValue::L(copy_list(list)?)),
+        AttributeValue::M(map) => copy_members(map),
+        AttributeValue::L(list) => copy_elements(list),
         AttributeValue::Ss(set) => Ok(AttributeValue::Ss(set.clone()?)),
         AttributeValue::Ns(set) => Ok(AttributeValue::Ns(set.clone()?)),
         AttributeValue::Bs(set) => Ok(AttributeValue::Bs(set.clone()?)),
     }
 }
 
-// A list of equal values, in order.
+// A map of equal values.
+#[cycle(copy)]
+#[inline(never)]
+fn copy_members(map: &HashMap<String, AttributeValue>) -> Result<AttributeValue, AllocError>
+    ensures { IfOk result (λ v. view v ≡ av.M (members_view map.now.entries)) }
+{
+    Ok(AttributeValue::M(copy_map(map)?))
+}
+
+// The list of equal values.
+#[cycle(copy)]
+#[inline(never)]
+fn copy_elements(list: &Vec<AttributeValue>) -> Result<AttributeValue, AllocError>
+    ensures { IfOk result (λ v. view v ≡ av.L (elements_view list.now.items)) }
+{
+    Ok(AttributeValue::L(copy_list(list)?))
+}
+
+// Equal values, in order.
 #[cycle(copy)]
 fn copy_list(list: &Vec<AttributeValue>) -> Result<Vec<AttributeValue>, AllocError>
     ensures { IfOk result (λ v. elements_view v.items ≡ elements_view list.now.items) }
