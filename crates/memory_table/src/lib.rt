@@ -1,6 +1,14 @@
 //! A DynamoDB table in memory, for the tests of a service.
 #![tactic(auto)]
 
+mod error;
+mod key;
 mod number;
+mod schema;
+mod table;
 
+pub use error::TableError;
+pub use key::{Key, KeyKind, KeyValue};
 pub use number::Number;
+pub use schema::{KeyAttribute, KeySchema};
+pub use table::{Condition, Table};
