@@ -6,3 +6,4 @@ pub mod KeyOf
 pub mod KeyOrder
 pub mod Normal
 pub mod Number
+pub mod Query

@@ -4,11 +4,13 @@
 mod error;
 mod key;
 mod number;
+mod query;
 mod schema;
 mod table;
 
 pub use error::TableError;
 pub use key::{Key, KeyKind, KeyValue};
 pub use number::Number;
+pub use query::{Query, SortCondition};
 pub use schema::{KeyAttribute, KeySchema};
 pub use table::{Condition, Table};

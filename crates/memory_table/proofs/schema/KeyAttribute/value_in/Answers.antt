@@ -4,7 +4,7 @@ use Rattle.dynamo_value.specs.Av as av
 use Rattle.dynamo_value.specs.Av.{Av}
 use Rattle.dynamo_value.specs.Item.{map_of}
 use Rattle.dynamo_value.specs.View.{view}
-use Rattle.dynamo_value.specs.declared.attribute_value.AttributeValue.{AttributeValue, N, the_lemmas}
+use Rattle.dynamo_value.specs.declared.attribute_value.AttributeValue.{N, the_lemmas}
 use Rattle.memory_table.specs.KeyOf.{Answers}
 use Rattle.memory_table.specs.Number.{IsNumber}
 use Rattle.memory_table.specs.declared.error.TableError.{TableError}
