@@ -4,4 +4,5 @@ pub mod Marks
 pub mod Normals
 pub mod Pages
 pub mod Scaled
+pub mod Scans
 pub mod Sizes

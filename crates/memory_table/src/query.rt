@@ -192,4 +192,21 @@ impl Table {
         }
         Ok(page)
     }
+
+    /// All items with their keys, in the order of the keys, read page by page, each page of at most `limit` items, and at
+    /// least one: each item once.
+    pub fn scan_all(&self, alloc: Global, limit: usize) -> Result<Vec<(&Key, &Item)>, AllocError>
+        ensures { IfOk result (λ all. seen all.items ≡ entries_of self.now) }
+    {
+        let mut all = Vec::with_capacity(alloc, self.len())?;
+        let mut start: Option<&Key> = None;
+        loop {
+            let mut page = self.scan(alloc, limit.max(1), start)?;
+            let Some(((key, _), _)) = page.as_slice().split_last() else {
+                return Ok(all);
+            };
+            start = Some(*key);
+            all.append(&mut page)?;
+        }
+    }
 }
