@@ -56,7 +56,7 @@ module _ (text : List ℕ) (negative : Bool) (before behind : List ℕ) (exponen
   to_text : (z : ℤ) → IsDecimal negative before behind exponent z → IsNumber text z
   to_text z h = record { exponent = exponent; is_exponent = e; is_decimal = along _ _ _ _ _ _ _ _ z p q r refl h }
 
-  from_text : (z : ℤ) → IsNumber text z → IsDecimal negative before behind exponent z
+  pub from_text : (z : ℤ) → IsNumber text z → IsDecimal negative before behind exponent z
   from_text z n = along _ _ _ _ _ _ _ _ z (sym p) (sym q) (sym r) (same_exponent text n.exponent exponent n.is_exponent e) n.is_decimal
 
   pub number_is : (r : Option ℤ) → MatchOption r ((z : ℤ) → IsDecimal negative before behind exponent z → ⊥) (IsDecimal negative before behind exponent)

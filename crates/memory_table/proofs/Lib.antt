@@ -2,6 +2,7 @@ pub mod Decimals
 pub mod Longs
 pub mod Marks
 pub mod Normals
+pub mod OneKey
 pub mod Pages
 pub mod Scaled
 pub mod Scans

@@ -1,5 +1,5 @@
 -- The key of an item, and why an item has none.
-use Rattle.std.specs.Prelude.{◌≡◌, ℕ, ℤ, List, [], ◌∷◌, Option, Some, None, Result, Ok, Err, MatchResult, option_map, string_bytes}
+use Rattle.std.specs.Prelude.{◌≡◌, ℕ, ℤ, List, [], ◌∷◌, Option, Some, None, Result, Ok, Err, MatchOption, MatchResult, option_map, string_bytes}
 use Rattle.std.specs.HashMap.{get_by_text}
 use Rattle.dynamo_value.specs.Av as av
 use Rattle.dynamo_value.specs.Av.{Av}
@@ -36,13 +36,22 @@ abbrev pub NotEmpty : (List ℕ → KeyValue → Type 0) → List ℕ → Result
 NotEmpty Is [] r = r ≡ Err TableError.Empty
 NotEmpty Is (b ∷ bs) r = MatchResult r (Is (b ∷ bs)) (λ e. e ≡ TableError.OutOfMemory)
 
+-- the bytes of a value that is of the kind
+abbrev pub content : KeyKind → Av → Option (List ℕ)
+content KeyKind.S (av.S text) = Some text
+content KeyKind.N (av.N text) = Some text
+content KeyKind.B (av.B bytes) = Some bytes
+content kind value = None
+
+abbrev pub ReadsAs : KeyKind → List ℕ → Result KeyValue TableError → Type 0
+ReadsAs KeyKind.S text r = NotEmpty IsText text r
+ReadsAs KeyKind.N text r = MatchResult r (HasNumber text) (λ e. (e ≡ TableError.NotANumber) × ((z : ℤ) → ¬ (IsNumber text z)))
+ReadsAs KeyKind.B bytes r = NotEmpty IsBytes bytes r
+
 -- what the attribute of a key answers, by its kind and its value in the item
 abbrev pub Answers : KeyKind → Option Av → Result KeyValue TableError → Type 0
-Answers KeyKind.S (Some (av.S text)) r = NotEmpty IsText text r
-Answers KeyKind.B (Some (av.B bytes)) r = NotEmpty IsBytes bytes r
-Answers KeyKind.N (Some (av.N text)) r = MatchResult r (HasNumber text) (λ e. (e ≡ TableError.NotANumber) × ((z : ℤ) → ¬ (IsNumber text z)))
-Answers _ (Some value) r = r ≡ Err TableError.WrongKind
-Answers _ None r = r ≡ Err TableError.Missing
+Answers kind None r = r ≡ Err TableError.Missing
+Answers kind (Some value) r = MatchOption (content kind value) (r ≡ Err TableError.WrongKind) (λ bytes. ReadsAs kind bytes r)
 
 abbrev pub Reads : KeyAttribute → Item → Result KeyValue TableError → Type 0
 Reads key item r = Answers key.kind (attribute item (string_bytes key.name)) r

@@ -3,6 +3,7 @@
 
 mod error;
 mod key;
+pub mod laws;
 mod number;
 mod query;
 mod schema;
