@@ -1,4 +1,4 @@
-ghost use Rattle.std.specs.Prelude.{◌≡◌, IfOk, option_map, take};
+ghost use Rattle.std.specs.Prelude.{◌≡◌, false, IfOk, take};
 ghost use Rattle.memory_table.specs.Content.{entries_of};
 ghost use Rattle.memory_table.specs.Query.{answer, begins_with, compared, finds, is_behind, meets, meets_sort, rest, seen};
 
@@ -56,7 +56,13 @@ pub struct Query<'a> {
 
 impl<'a> Query<'a> {
     /// The query of all items under a partition key, the least sort key first.
-    pub fn of(partition: &'a KeyValue) -> Self {
+    pub fn of(partition: &'a KeyValue) -> Self
+        ensures partition { result.partition.now ≡ partition.now }
+        ensures all { result.sort ≡ SortCondition.Any }
+        ensures forward { result.backward ≡ false }
+        ensures limit { result.limit ≡ usize.MAX }
+        ensures start { result.start_after ≡ None }
+    {
         Query {
             partition,
             sort: SortCondition::Any,
