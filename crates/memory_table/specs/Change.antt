@@ -1,0 +1,61 @@
+-- What a change of a table answers, and what it leaves.
+use Rattle.std.specs.Prelude.{◌≡◌, Bool, true, not, Option, Some, None, Result, Ok, Err, MatchResult, MatchOption, is_some}
+use Rattle.std.specs.BTreeMap.{get, Updates}
+use Rattle.std.specs.Bool.{MatchBool}
+use Rattle.std.specs.Ordering.{is_ne}
+use Rattle.dynamo_value.specs.declared.item.Item.{Item}
+use Rattle.memory_table.specs.Content.{items_of, entries_of, schema_of}
+use Rattle.memory_table.specs.KeyOf.{ReadsKey}
+use Rattle.memory_table.specs.KeyOrder.{key_cmp}
+use Rattle.memory_table.specs.declared.error.TableError.{TableError}
+use Rattle.memory_table.specs.declared.key.Key.{Key}
+use Rattle.memory_table.specs.declared.table.Condition.{Condition}
+use Rattle.memory_table.specs.declared.table.Table.{Table}
+
+abbrev pub holds : Condition → Bool → Bool
+holds Condition.Always exists = true
+holds Condition.Exists exists = exists
+holds Condition.NotExists exists = not exists
+
+-- the call is refused by this error, and the table has the items that it had
+abbrev pub Refuses : {A : Type 0} → TableError → Table → Table → Result A TableError → Type 0
+Refuses error old new r = (r ≡ Err error) × (entries_of new ≡ entries_of old)
+
+-- The item is put under the key, and other keys keep what they have: the answer is what was there. Or memory is wanting.
+abbrev pub Puts : Key → Item → Table → Table → Result (Option Item) TableError → Type 0
+Puts key item old new r =
+    MatchResult r (λ before. (before ≡ get key_cmp (items_of old) key) × Updates key_cmp (items_of old) (items_of new) key (Some item))
+    (λ error. Refuses error old new r × (error ≡ TableError.OutOfMemory))
+
+-- the same under the item's own key, where the condition holds of the item there
+abbrev pub PutsIf : Condition → Item → Table → Table → Result (Option Item) TableError → Type 0
+PutsIf condition item old new r =
+    (key : Result Key TableError) × ReadsKey (schema_of old) item key
+    × MatchResult key
+    (λ k. MatchBool (holds condition (is_some (get key_cmp (items_of old) k))) (Puts k item old new r) (Refuses TableError.ConditionFailed old new r))
+    (λ error. Refuses error old new r)
+
+-- nothing is under the key from now on, where the condition holds of what was there, which is the answer
+abbrev pub DeletesIf : Condition → Key → Table → Table → Result (Option Item) TableError → Type 0
+DeletesIf condition key old new r =
+    MatchBool (holds condition (is_some (get key_cmp (items_of old) key)))
+    ((r ≡ Ok (get key_cmp (items_of old) key)) × Updates key_cmp (items_of old) (items_of new) key None)
+    (Refuses TableError.ConditionFailed old new r)
+
+-- an item is put under a key that has one
+abbrev pub PutsThere : Key → Item → Table → Table → Result (Unit {0}) TableError → Type 0
+PutsThere key item old new r =
+    MatchResult r (λ done. Updates key_cmp (items_of old) (items_of new) key (Some item)) (λ error. Refuses error old new r × (error ≡ TableError.OutOfMemory))
+
+-- the item that a change made takes the place of the one under the key, where it has the same key
+abbrev pub Replaces : Key → Table → Table → Result (Unit {0}) TableError → Item → Type 0
+Replaces key old new r item =
+    (own : Result Key TableError) × ReadsKey (schema_of old) item own
+    × MatchResult own (λ k. MatchBool (is_ne (key_cmp k key)) (Refuses TableError.KeyChanged old new r) (PutsThere k item old new r)) (λ error. Refuses error old new r)
+
+-- The item under the key is replaced by what the change makes of it, which has the same key. Or there is no item, the change
+-- fails, what it makes has no key or another, or memory is wanting.
+abbrev pub UpdatesItem : (Item → Result Item TableError → Type 0) → Key → Table → Table → Result (Unit {0}) TableError → Type 0
+UpdatesItem Makes key old new r =
+    MatchOption (get key_cmp (items_of old) key) (Refuses TableError.NoItem old new r)
+    (λ item. (made : Result Item TableError) × Makes item made × MatchResult made (Replaces key old new r) (λ error. Refuses error old new r))

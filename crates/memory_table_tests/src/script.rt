@@ -1,0 +1,149 @@
+//! A table that is told what to do line by line. The words of a line stand between spaces.
+use crate::values::{key_value, note, reading, schema};
+use dynamo_value::Item;
+use memory_table::{Condition, Key, KeyValue, Query, SortCondition, Table, TableError};
+use std::alloc::{AllocError, Global};
+
+/// The word of a line at a place, empty where the line has fewer.
+fn word(line: &str, place: usize) -> &str {
+    line.split(' ').nth(place).unwrap_or("")
+}
+
+/// The table without items whose times are of the kind of a word's value.
+pub fn table(alloc: Global, kind: &str) -> Result<Table, AllocError> {
+    Ok(Table::new(alloc, schema(alloc, kind)?))
+}
+
+/// What a line's call answers: the note of an item, the notes of several, or a count.
+pub fn answer(alloc: Global, table: &mut Table, line: &str) -> Result<String, TableError> {
+    match word(line, 0) {
+        "put" => put(alloc, table, Condition::Always, line),
+        "put-new" => put(alloc, table, Condition::NotExists, line),
+        "put-there" => put(alloc, table, Condition::Exists, line),
+        "delete" => delete(alloc, table, line),
+        "delete-new" => delete_if(alloc, table, Condition::NotExists, line),
+        "delete-there" => delete_if(alloc, table, Condition::Exists, line),
+        "update" => update(alloc, table, line),
+        "get" => get(alloc, table, line),
+        "query" => query(alloc, table, line),
+        "scan" => scan(alloc, table, line),
+        "pages" => pages(alloc, table, line),
+        _ => Ok(format!(in alloc; "{} items", table.len())?),
+    }
+}
+
+fn told(alloc: Global, item: Option<&Item>) -> Result<String, TableError> {
+    match item {
+        Some(item) => Ok(String::from_str(alloc, note(item))?),
+        None => Ok(String::from_str(alloc, "none")?),
+    }
+}
+
+fn notes(alloc: Global, found: &[(&Key, &Item)]) -> Result<String, TableError> {
+    let mut all = String::from_str(alloc, "found")?;
+    for (_, item) in found {
+        all.push(' ')?;
+        all.push_str(note(*item))?;
+    }
+    Ok(all)
+}
+
+// The item of the station and the time in a line, with the note at a place.
+fn item(alloc: Global, line: &str, place: usize) -> Result<Item, AllocError> {
+    reading(alloc, word(line, 1), word(line, 2), word(line, place))
+}
+
+// The key of the station and the time in a line.
+fn key(alloc: Global, table: &Table, line: &str) -> Result<Key, TableError> {
+    let item = item(alloc, line, usize::MAX)?;
+    table.key_of(&item)
+}
+
+fn put(
+    alloc: Global,
+    table: &mut Table,
+    condition: Condition,
+    line: &str,
+) -> Result<String, TableError> {
+    let item = item(alloc, line, 3)?;
+    let before = table.put_if(condition, item)?;
+    told(alloc, before.as_ref())
+}
+
+fn get(alloc: Global, table: &Table, line: &str) -> Result<String, TableError> {
+    let key = key(alloc, table, line)?;
+    told(alloc, table.get(&key))
+}
+
+fn delete(alloc: Global, table: &mut Table, line: &str) -> Result<String, TableError> {
+    let key = key(alloc, table, line)?;
+    let before = table.delete(&key);
+    told(alloc, before.as_ref())
+}
+
+fn delete_if(
+    alloc: Global,
+    table: &mut Table,
+    condition: Condition,
+    line: &str,
+) -> Result<String, TableError> {
+    let key = key(alloc, table, line)?;
+    let before = table.delete_if(condition, &key)?;
+    told(alloc, before.as_ref())
+}
+
+// The item under the key is to be the one of the time and the note that follow the key.
+fn update(alloc: Global, table: &mut Table, line: &str) -> Result<String, TableError> {
+    let key = key(alloc, table, line)?;
+    table.update(
+        &key,
+        |_| Ok(reading(alloc, word(line, 1), word(line, 3), word(line, 4))?),
+    )?;
+    told(alloc, table.get(&key))
+}
+
+// A page of at most as many items as the line says, behind the key in it, if there is one.
+fn scan(alloc: Global, table: &Table, line: &str) -> Result<String, TableError> {
+    let limit = word(line, 3).parse::<usize>().unwrap_or(0);
+    match key(alloc, table, line) {
+        Ok(start) => notes(alloc, table.scan(alloc, limit, Some(&start))?.as_slice()),
+        Err(_) => notes(alloc, table.scan(alloc, limit, None)?.as_slice()),
+    }
+}
+
+fn pages(alloc: Global, table: &Table, line: &str) -> Result<String, TableError> {
+    let limit = word(line, 1).parse::<usize>().unwrap_or(0);
+    notes(alloc, table.scan_all(alloc, limit)?.as_slice())
+}
+
+// What a line asks of the sort key.
+fn asked<'a>(sign: &str, low: &'a KeyValue, high: &'a KeyValue) -> SortCondition<'a> {
+    match sign {
+        "=" => SortCondition::Equal(low),
+        "<" => SortCondition::Less(low),
+        "<=" => SortCondition::LessOrEqual(low),
+        ">" => SortCondition::Greater(low),
+        ">=" => SortCondition::GreaterOrEqual(low),
+        "between" => SortCondition::Between(low, high),
+        "begins" => SortCondition::BeginsWith(low),
+        _ => SortCondition::Any,
+    }
+}
+
+// The query of a line: the station, the key after which to start, what is asked with its two values, the direction, the limit.
+fn query(alloc: Global, table: &Table, line: &str) -> Result<String, TableError> {
+    let partition = key_value(alloc, word(line, 1))?;
+    let low = key_value(alloc, word(line, 4))?;
+    let high = key_value(alloc, word(line, 5))?;
+    let mut query = Query::of(&partition);
+    query.sort = asked(word(line, 3), &low, &high);
+    query.backward = word(line, 6) == "backward";
+    query.limit = word(line, 7).parse::<usize>().unwrap_or(usize::MAX);
+    match key(alloc, table, line) {
+        Ok(start) => {
+            query.start_after = Some(&start);
+            notes(alloc, table.query(alloc, &query)?.as_slice())
+        }
+        Err(_) => notes(alloc, table.query(alloc, &query)?.as_slice()),
+    }
+}
