@@ -1,4 +1,5 @@
 pub mod Agree
+mod Appended
 pub mod AttributeBack
 mod AttributeRows
 pub mod Builders
@@ -7,6 +8,7 @@ pub mod Differ
 pub mod Each
 pub mod EveryValue
 pub mod Floats
+mod InTurn
 pub mod JsonBack
 pub mod Messages
 pub mod Objects
@@ -14,6 +16,7 @@ mod PlainRows
 pub mod PlainWritten
 pub mod ReadBack
 pub mod Reading
+mod Rest
 pub mod Results
 mod Rows
 pub mod TellsPlain
@@ -21,5 +24,6 @@ pub mod TellsSome
 pub mod Texts
 pub mod Told
 pub mod ViewOrder
+mod Weight
 pub mod WithoutFloats
 pub mod Written

@@ -12,4 +12,5 @@ pub mod PlainAnswers
 pub mod PlainMemory
 pub mod Square
 pub mod Texts
+pub mod Tokens
 pub mod ViaJson

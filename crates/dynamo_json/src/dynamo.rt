@@ -1,6 +1,7 @@
-ghost use Rattle.std.specs.Prelude.{◌≡◌, Option, Ok, IfOk, IfErr, OnOk, MatchResult};
+ghost use Rattle.std.specs.Prelude.{◌≡◌, ◌++◌, Option, Ok, IfOk, IfErr, OnOk, MatchResult, string_bytes};
 ghost use Rattle.serde_json.specs.Data.{Data};
 ghost use Rattle.serde_json.specs.View as sj;
+ghost use Rattle.serde_json.specs.Written.{compact_text};
 ghost use Rattle.dynamo_value.specs.Fault.{out_of_memory};
 ghost use Rattle.dynamo_value.specs.HasBytes.{HasBytes, MembersHaveBytes};
 ghost use Rattle.dynamo_value.specs.Item.{item_view};
@@ -11,7 +12,7 @@ ghost use Rattle.dynamo_json.specs.Json.{json_of, item_json};
 ghost use Rattle.dynamo_json.specs.KeysDiffer.{KeysDiffer, ItemKeysDiffer};
 ghost use Rattle.dynamo_json.specs.Parsed.{parsed, parsed_item};
 
-use crate::{from_json, to_json};
+use crate::{from_json, json_text, to_json};
 use dynamo_value::{AttributeValue, Item, Result, refusal};
 use serde_json::Value;
 use std::alloc::Global;
@@ -38,6 +39,29 @@ pub trait DynamoJson: Sized + Drop {
     /// `OutOfMemory` alone, where the memory for it is refused.
     fn to_json(&self, alloc: Global) -> Result<Value>
         ensures { MatchResult result (λ json. sj.view json ≡ json_value self.now) (λ e. fault_of e ≡ out_of_memory) };
+
+    /// The text of the JSON value that stands for this value, which is not made for it: the compact text, the one that
+    /// `to_json` and then `to_string` give.
+    ///
+    /// # Errors
+    ///
+    /// `OutOfMemory` alone, where the memory for it is refused.
+    fn to_json_text(&self, alloc: Global) -> Result<String>
+        ensures { MatchResult result (λ text. string_bytes text ≡ compact_text (json_value self.now)) (λ e. fault_of e ≡ out_of_memory) }
+    {
+        let mut text = String::new(alloc);
+        self.push_json_text(&mut text)?;
+        Ok(text)
+    }
+
+    /// Appends the text that `to_json_text` gives, so that lines can be made in one text. Besides the growth of the text it takes
+    /// memory for the order of the members of a map and for the base64 text of a byte string.
+    ///
+    /// # Errors
+    ///
+    /// `OutOfMemory` alone, where the memory for it is refused. The text is then as it was.
+    fn push_json_text(&self, text: &mut String) -> Result<()>
+        ensures { MatchResult result (λ _. string_bytes text.new ≡ string_bytes text.old ++ compact_text (json_value self.now)) (λ e. (fault_of e ≡ out_of_memory) × (string_bytes text.new ≡ string_bytes text.old)) };
 
     /// The value that a JSON value stands for.
     ///
@@ -74,6 +98,10 @@ impl DynamoJson for AttributeValue {
         Ok(to_json::value(alloc, self)?)
     }
 
+    fn push_json_text(&self, text: &mut String) -> Result<()> {
+        Ok(json_text::push_value(text, self)?)
+    }
+
     /// The attribute value of a JSON value: what the definition of reading gives.
     fn from_json(alloc: Global, json: &Value) -> Result<Self>
         ensures ok { IfOk result (λ value. sj.view json.now ≡ json_of (av.view value)) }
@@ -98,6 +126,10 @@ impl DynamoJson for Item {
         ensures keys { OnOk result (ItemKeysDiffer self.now) }
     {
         Ok(Value::Object(to_json::object(alloc, self.inner())?))
+    }
+
+    fn push_json_text(&self, text: &mut String) -> Result<()> {
+        Ok(json_text::push_members(text, self.inner())?)
     }
 
     /// The item of a JSON value: what the definition of reading gives.

@@ -3,6 +3,7 @@
 
 mod dynamo;
 mod from_json;
+mod json_text;
 mod plain;
 mod to_json;
 mod via_json;

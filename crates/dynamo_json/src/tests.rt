@@ -5,6 +5,7 @@ ghost use Rattle.dynamo_value.specs.View.{view};
 
 mod base64_texts;
 mod items;
+mod json_text;
 mod kinds;
 mod refusals;
 mod vectors;
@@ -16,9 +17,16 @@ use std::alloc::Global;
 use std::process::Abort;
 use std::test::Fail;
 
-// The compact text of the DynamoDB JSON of a value or an item.
-fn text_of<T: DynamoJson>(alloc: Global, value: &T) -> Result<String, Fail> {
-    Ok(value.to_json(alloc)?.to_string(alloc)?)
+// This is the text of the DynamoDB JSON of a value or an item: of its JSON value, and straight from it.
+fn has_text<T: DynamoJson>(
+    rt: &impl Abort,
+    alloc: Global,
+    value: &T,
+    text: &str,
+) -> Result<(), Fail> {
+    assert_eq!(rt; value.to_json(alloc)?.to_string(alloc)?.as_str(), text);
+    assert_eq!(rt; value.to_json_text(alloc)?.as_str(), text);
+    Ok(())
 }
 
 // The value or item that a text of DynamoDB JSON stands for.
@@ -41,7 +49,7 @@ fn both_ways(
     value: AttributeValue,
     text: &str,
 ) -> Result<(), Fail> {
-    assert_eq!(rt; text_of(alloc, &value)?.as_str(), text);
+    has_text(rt, alloc, &value, text)?;
     assert!(rt;
         read::<AttributeValue>(alloc, text)? == value,
         "{text} reads as another value"

@@ -8,10 +8,11 @@ ghost use Rattle.dynamo_tool.specs.Reading.{Reads, calls};
 
 use crate::failure::Failure;
 use crate::input::Input;
-use crate::json::{json_line, read_json};
+use crate::json::{dynamo_line, read_json};
 use serde_dynamo::{AttributeValue, DynamoJson};
 use serde_json::Value;
 use std::alloc::Global;
+use std::mem;
 
 /// Reads DynamoDB JSON of one attribute value to the end of the input, and answers the line of its compact form.
 ///
@@ -30,7 +31,8 @@ fn check_json(alloc: Global, json: Value) -> Result<String, Failure>
     ensures { ChecksJson (Ok (view json)) (result_map_both string_bytes reason result) }
 {
     let value = AttributeValue::from_json(alloc, &json)?;
-    drop(json);
-    let json = value.to_json(alloc)?;
-    Ok(json_line(alloc, &json)?)
+    let line = dynamo_line(alloc, &value)?;
+    // The program ends with this line.
+    mem::forget((json, value));
+    Ok(line)
 }

@@ -8,10 +8,11 @@ ghost use Rattle.dynamo_tool.specs.Reading.{Reads, calls};
 
 use crate::failure::Failure;
 use crate::input::Input;
-use crate::json::{json_line, read_json};
+use crate::json::{dynamo_line, json_line, read_json};
 use serde_dynamo::{AttributeValue, DynamoJson, from_attribute_value, to_attribute_value};
 use serde_json::Value;
 use std::alloc::Global;
+use std::mem;
 
 /// Reads plain JSON to the end of the input, and answers the line of the DynamoDB JSON of the attribute value that it is written
 /// as.
@@ -27,8 +28,10 @@ fn dynamo_of(alloc: Global, json: Value) -> Result<String, Failure>
     ensures { ToDynamo (Ok (view json)) (result_map_both string_bytes reason result) }
 {
     let value = to_attribute_value(alloc, json)?;
-    let json = value.to_json(alloc)?;
-    Ok(json_line(alloc, &json)?)
+    let line = dynamo_line(alloc, &value)?;
+    // The program ends with this line.
+    mem::forget(value);
+    Ok(line)
 }
 
 /// Reads DynamoDB JSON of one attribute value to the end of the input, and answers the line of the plain JSON that the attribute
@@ -47,5 +50,8 @@ fn plain_of(alloc: Global, json: Value) -> Result<String, Failure>
     let value = AttributeValue::from_json(alloc, &json)?;
     drop(json);
     let plain: Value = from_attribute_value(alloc, value)?;
-    Ok(json_line(alloc, &plain)?)
+    let line = json_line(alloc, &plain)?;
+    // The program ends with this line.
+    mem::forget(plain);
+    Ok(line)
 }

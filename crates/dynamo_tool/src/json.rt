@@ -1,7 +1,11 @@
-ghost use Rattle.std.specs.Prelude.{◌≡◌, ℕ, List, Result, IfOk, false, string_bytes};
+ghost use Rattle.std.specs.Prelude.{◌≡◌, ℕ, List, Result, IfOk, MatchResult, false, string_bytes};
 ghost use Rattle.std.specs.Result.{result_map_both};
 ghost use Rattle.serde_json.specs.View.{view};
 ghost use Rattle.serde_json.specs.Written.{has_float};
+ghost use Rattle.dynamo_value.specs.Fault.{out_of_memory};
+ghost use Rattle.dynamo_value.specs.Kind.{fault_of};
+ghost use Rattle.dynamo_value.specs.View as av;
+ghost use Rattle.dynamo_json.specs.Json.{json_of};
 ghost use Rattle.dynamo_tool.specs.Failed.{Failed, reason};
 ghost use Rattle.dynamo_tool.specs.JsonText as text;
 ghost use Rattle.dynamo_tool.specs.JsonText.{ReadsJson};
@@ -10,6 +14,7 @@ ghost use Rattle.dynamo_tool.specs.Reading.{Reads, calls};
 use crate::failure::Failure;
 use crate::input::Input;
 use crate::read_to_end::read_to_end;
+use serde_dynamo::{AttributeValue, DynamoJson};
 use serde_json::Value;
 use std::alloc::{AllocError, Global};
 
@@ -42,6 +47,15 @@ pub fn json_line(alloc: Global, json: &Value) -> Result<String, AllocError>
         → string_bytes line ≡ text.json_line (view json.now)) }
 {
     let mut line = json.to_string(alloc)?;
+    line.push('\n')?;
+    Ok(line)
+}
+
+/// The line that an attribute value is printed as: the text of its DynamoDB JSON. It fails for want of memory alone.
+pub fn dynamo_line(alloc: Global, value: &AttributeValue) -> serde_dynamo::Result<String>
+    ensures { MatchResult result (λ line. string_bytes line ≡ text.json_line (json_of (av.view value.now))) (λ e. fault_of e ≡ out_of_memory) }
+{
+    let mut line = value.to_json_text(alloc)?;
     line.push('\n')?;
     Ok(line)
 }

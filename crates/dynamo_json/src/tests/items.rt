@@ -1,4 +1,4 @@
-use super::{Wanted, read, refused, text_of};
+use super::{Wanted, has_text, read, refused};
 use dynamo_value::{AttributeValue, Item};
 use std::test::Fail;
 
@@ -13,11 +13,9 @@ fn an_item_reads_by_its_names(rt: HostRuntime) -> Result<(), Fail> {
     assert!(rt; matches!(item.get("Id"), Some(AttributeValue::N(text)) if text.as_str() == "103"));
     assert!(rt; matches!(item.get("InPublication"), Some(AttributeValue::Bool(false))));
     assert!(rt; matches!(item.get("Authors"), Some(AttributeValue::Ss(set)) if set.len() == 2));
-    assert_eq!(rt;
-        text_of(alloc, &item)?.as_str(),
-        r#"{"Authors":{"SS":["Author1","Author2"]},"Id":{"N":"103"},"InPublication":{"BOOL":false}}"#
-    );
-    Ok(())
+    let sorted =
+        r#"{"Authors":{"SS":["Author1","Author2"]},"Id":{"N":"103"},"InPublication":{"BOOL":false}}"#;
+    has_text(&rt, alloc, &item, sorted)
 }
 
 #[test]
@@ -30,7 +28,7 @@ fn items_are_given_back(rt: HostRuntime) -> Result<(), Fail> {
     ];
     for text in texts {
         let item: Item = read(alloc, text)?;
-        assert_eq!(rt; text_of(alloc, &item)?.as_str(), text);
+        has_text(&rt, alloc, &item, text)?;
         assert!(rt; read::<Item>(alloc, text)? == item);
     }
     Ok(())

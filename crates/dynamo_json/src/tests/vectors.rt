@@ -1,4 +1,4 @@
-use super::{read, text_of};
+use super::{has_text, read};
 use dynamo_value::AttributeValue;
 use std::alloc::Global;
 use std::process::Abort;
@@ -114,7 +114,7 @@ const EXPORT: [(&str, &str); 9] = [
 fn given_back(rt: &impl Abort, alloc: Global, rows: &[(&str, &str)]) -> Result<(), Fail> {
     for (text, wanted) in rows {
         let value: AttributeValue = read(alloc, text)?;
-        assert_eq!(rt; text_of(alloc, &value)?.as_str(), *wanted);
+        has_text(rt, alloc, &value, wanted)?;
     }
     Ok(())
 }

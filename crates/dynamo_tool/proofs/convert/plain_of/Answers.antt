@@ -12,5 +12,5 @@ returns c =
     let a = av.view c.in_ok-value.value in
     let plain = view c.in_ok-plain.plain in
     let read : read_value a ≡ value plain = given (read_value a) c.in_ok-plain.plain c.in_ok-plain.ensures in
-    let printed : string_bytes c.in_ok-json_line.field-0 ≡ json_line plain = c.in_ok-json_line.ensures (reads_no_float a plain read) in
+    let printed : string_bytes c.in_ok-line.line ≡ json_line plain = c.in_ok-line.ensures (reads_no_float a plain read) in
     (a, plain, c.in_ok-value.ensures.read, read, printed)

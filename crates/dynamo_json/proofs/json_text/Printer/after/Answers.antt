@@ -1,0 +1,5 @@
+use Rattle.std.proofs.lemmas.Str.{IsUtf8-string_bytes}
+use Rattle.dynamo_json.proofs.json_text.Printer.after.Goals as goal
+
+pub returns-clause-utf8 : goal.returns-clause-utf8
+returns-clause-utf8 c = IsUtf8-string_bytes c.args.text.now
