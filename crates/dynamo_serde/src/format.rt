@@ -1,5 +1,6 @@
 // The steps of serde's readers, on a tape.
 use crate::fault::{about, fault, message, no_memory};
+use crate::kinds;
 use crate::tape::{Doubt, Mark, Tape, Token};
 use dynamo_value::{Error, ErrorImpl, Result};
 use serde::{Format, Kind, Name};
@@ -89,6 +90,7 @@ impl<'v> Format for Tape<'v> {
     fn bool(&mut self, _input: &[u8]) -> Result<bool> {
         let b = match self.look() {
             Some(Token::Bool(b)) => b,
+            Some(Token::Null(b)) if self.is_told() => b,
             Some(Token::Key("true")) => true,
             Some(Token::Key("false")) => false,
             Some(Token::Key(_)) => return Err(fault(ErrorImpl::ExpectedString)),
@@ -139,7 +141,14 @@ impl<'v> Format for Tape<'v> {
     }
 
     fn string(&mut self, alloc: Global, _input: &[u8]) -> Result<String> {
-        Ok(String::from_str(alloc, self.text(ErrorImpl::ExpectedString)?)?)
+        let text = match self.look() {
+            Some(Token::Number(text)) if self.is_told() => {
+                self.pass();
+                text
+            }
+            _ => self.text(ErrorImpl::ExpectedString)?,
+        };
+        Ok(String::from_str(alloc, text)?)
     }
 
     fn byte_buf(&mut self, alloc: Global, _input: &[u8]) -> Result<Vec<u8>> {
@@ -159,7 +168,7 @@ impl<'v> Format for Tape<'v> {
             Some(Token::Number(text)) => kind_of(text),
             Some(Token::Text(_) | Token::Key(_)) => Kind::Str,
             Some(Token::Bytes(_)) => Kind::Bytes,
-            Some(Token::BeginList(_) | Token::BeginSet(_)) => Kind::Seq,
+            Some(Token::BeginList(_) | Token::BeginSet(_, _)) => Kind::Seq,
             Some(Token::BeginMap(_, _)) => Kind::Map,
             _ => return Err(self.wrong_len()),
         };
@@ -194,7 +203,7 @@ impl<'v> Format for Tape<'v> {
 
     fn begin_seq(&mut self, _input: &[u8]) -> Result<()> {
         match self.look() {
-            Some(Token::BeginList(_) | Token::BeginSet(_)) => {
+            Some(Token::BeginList(_) | Token::BeginSet(_, _)) => {
                 self.pass();
                 Ok(())
             }
@@ -282,7 +291,16 @@ impl<'v> Format for Tape<'v> {
     }
 
     fn variant(&mut self, _input: &[u8], names: &[Name<'_>]) -> Result<usize> {
-        Ok(serde::find(names, self.text(ErrorImpl::ExpectedEnum)?))
+        if !kinds::are_asked(names) {
+            return Ok(serde::find(names, self.text(ErrorImpl::ExpectedEnum)?));
+        }
+        match self.look() {
+            Some(token) => {
+                self.doubt = Doubt::Told;
+                Ok(serde::find(names, kinds::of_token(&token)))
+            }
+            None => Err(self.wrong_len()),
+        }
     }
 
     fn skip(&mut self, _input: &[u8]) -> Result<()> {

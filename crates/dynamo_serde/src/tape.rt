@@ -1,5 +1,6 @@
 // An attribute value laid out as a row of tokens, which serde's steps walk along.
 use crate::fault::{LEVELS, fault, too_deep};
+use crate::set::SetKind;
 use dynamo_value::{AttributeValue, ErrorImpl, Result};
 use std::alloc::Global;
 use std::collections::HashMap;
@@ -13,8 +14,8 @@ pub(crate) enum Token<'v> {
     Bytes(&'v [u8]),
     // A list, with the place after its end.
     BeginList(usize),
-    // A set, with the place after its end.
-    BeginSet(usize),
+    // A set of this kind, with the place after its end.
+    BeginSet(SetKind, usize),
     EndSeq,
     // A map, with the place after its end and whether it has just one key.
     BeginMap(usize, bool),
@@ -33,6 +34,8 @@ pub(crate) enum Doubt {
     Unit,
     // A value was looked at, without being read.
     Looked,
+    // Its kind was told, so that a number may be read as its text, and NULL as a boolean.
+    Told,
     // It is the map of an enum, with no variant in it or with more than one.
     Variant,
 }
@@ -58,7 +61,7 @@ fn after(tokens: &Vec<Token<'_>>, inside: usize) -> usize {
 }
 
 fn lay_texts<'v>(texts: &'v Vec<String>, tokens: &mut Vec<Token<'v>>) -> Result<()> {
-    tokens.push(Token::BeginSet(after(tokens, texts.len())))?;
+    tokens.push(Token::BeginSet(SetKind::Strings, after(tokens, texts.len())))?;
     for text in texts {
         tokens.push(Token::Text(text.as_str()))?;
     }
@@ -67,7 +70,7 @@ fn lay_texts<'v>(texts: &'v Vec<String>, tokens: &mut Vec<Token<'v>>) -> Result<
 }
 
 fn lay_numbers<'v>(texts: &'v Vec<String>, tokens: &mut Vec<Token<'v>>) -> Result<()> {
-    tokens.push(Token::BeginSet(after(tokens, texts.len())))?;
+    tokens.push(Token::BeginSet(SetKind::Numbers, after(tokens, texts.len())))?;
     for text in texts {
         tokens.push(Token::Number(text.as_str()))?;
     }
@@ -76,7 +79,7 @@ fn lay_numbers<'v>(texts: &'v Vec<String>, tokens: &mut Vec<Token<'v>>) -> Resul
 }
 
 fn lay_blobs<'v>(blobs: &'v Vec<Vec<u8>>, tokens: &mut Vec<Token<'v>>) -> Result<()> {
-    tokens.push(Token::BeginSet(after(tokens, blobs.len())))?;
+    tokens.push(Token::BeginSet(SetKind::Blobs, after(tokens, blobs.len())))?;
     for blob in blobs {
         tokens.push(Token::Bytes(blob.as_slice()))?;
     }
@@ -197,6 +200,11 @@ impl<'v> Tape<'v> {
         }
     }
 
+    // Whether the kind of what comes was told just before.
+    pub(crate) fn is_told(&self) -> bool {
+        matches!(self.doubt, Doubt::Told)
+    }
+
     // The token before.
     pub(crate) fn look_back(&self) -> Option<Token<'v>> {
         match self.tokens.get(self.at.checked_sub(1)?) {
@@ -226,7 +234,7 @@ impl<'v> Tape<'v> {
     #[inline(always)]
     pub(crate) fn pass_whole(&mut self) {
         match self.look() {
-            Some(Token::BeginList(end) | Token::BeginSet(end) | Token::BeginMap(end, _)) => {
+            Some(Token::BeginList(end) | Token::BeginSet(_, end) | Token::BeginMap(end, _)) => {
                 self.at = end;
                 self.doubt = Doubt::None;
             }
