@@ -1,6 +1,8 @@
+mod Laying
 pub mod Logged
 pub mod Machine
 pub mod Names
+pub mod Read
 mod Sending
 pub mod Sends
 mod Steps

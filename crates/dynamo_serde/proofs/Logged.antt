@@ -1,7 +1,6 @@
 -- Events that come one after another.
 use Rattle.std.proofs.Common.{◌≡◌, ℕ, ◌+◌, ◌<◌, ◌≤◌, List, [], ◌∷◌, ◌++◌, map, length, take, get_or, Some, None, refl, sym, ap, ◌∙◌, subst, append_assoc, append-nil, arith}
 use Rattle.std.proofs.lemmas.List.{take_more, take_all}
-use Rattle.serde.specs.Event as event
 use Rattle.serde.specs.Event.{Event, Log, Logs, seq_begins, seq_ends, map_begins, map_ends, variant_key}
 use Rattle.serde.specs.declared.name.Case.TheVariants.{AsIs}
 use Rattle.dynamo_ser.specs.Symbols.{SetKind}

@@ -5,7 +5,7 @@ use Rattle.std.specs.FinMap.Entries.{put}
 use Rattle.std.specs.List.{IsDistinct}
 use Rattle.std.specs.Map.{keys_of}
 use Rattle.std.specs.String.{string_eq}
-use Rattle.serde.specs.Event.{Event, Log, Logs, field_key, seq_begins, seq_ends, map_begins, map_ends}
+use Rattle.serde.specs.Event.{Log, Logs, field_key, seq_begins, seq_ends, map_begins, map_ends}
 use Rattle.serde.specs.declared.name.Case.TheVariants.{AsIs}
 use Rattle.dynamo_value.specs.Av as av
 use Rattle.dynamo_value.specs.Av.{Av, Elements, elements_of, members_of}
@@ -13,7 +13,6 @@ use Rattle.dynamo_value.specs.View.{view, text_cmp, elements_view, entries_view,
 use Rattle.dynamo_value.specs.declared.attribute_value.AttributeValue.{AttributeValue}
 use Rattle.dynamo_value.proofs.Members.{Entry, apart, entries-push}
 use Rattle.dynamo_write.specs.Collect.{collect, collect_onto}
-use Rattle.dynamo_serde.specs.Told.{in_seq, in_map}
 use Rattle.dynamo_serde.specs.Value.{Logged, SendsValue, elements_count, members_count, value_events, elements_events, members_events, in_order, elements_in_order, members_in_order}
 use Rattle.dynamo_serde.proofs.Logged.{both, then, map_push, length-map, in_seq_logged, in_map_logged}
 

@@ -1,5 +1,5 @@
 -- The machine, fed with the events of an attribute value, puts in this attribute value.
-use Rattle.std.proofs.Common.{◌≡◌, ℕ, ◌+◌, ◌∙◌, List, [], ◌∷◌, ◌++◌, map, length, Option, Some, None, Ok, refl, sym, ap, subst, append_assoc, append-nil}
+use Rattle.std.proofs.Common.{◌≡◌, ℕ, ◌∙◌, List, [], ◌∷◌, ◌++◌, map, length, Some, None, Ok, refl, sym, ap, subst, append_assoc, append-nil}
 use Rattle.std.specs.FinMap.Entries.{put}
 use Rattle.serde.specs.Event as event
 use Rattle.serde.specs.Event.{Event, Log, field_key}
@@ -11,15 +11,14 @@ use Rattle.dynamo_value.specs.Av.{Av, Members, Elements, elements_of, members_of
 use Rattle.dynamo_value.specs.Steps.{◌>>=◌}
 use Rattle.dynamo_value.specs.View.{text_cmp}
 use Rattle.dynamo_ser.specs.Symbols.{SetKind, strings, numbers, blobs}
-use Rattle.dynamo_write.specs.Collect.{collect, collect_onto}
 use Rattle.dynamo_write.specs.Set.{as_set, set_kind, set_element, set_elements, set_of}
-use Rattle.dynamo_serde.specs.Symbol.{Symbol, word, a_set, a_number, a_null, named, converted}
-use Rattle.dynamo_serde.specs.Sent.{Frame, State, table, list, put_in, TakesAll, IsValueOf}
+use Rattle.dynamo_serde.specs.Symbol.{Symbol, word, a_set, a_number, a_null, converted}
+use Rattle.dynamo_serde.specs.Sent.{Frame, State, table, list, TakesAll, IsValueOf}
 use Rattle.dynamo_serde.specs.Told.{in_seq, under}
 use Rattle.dynamo_serde.specs.Value.{text_events, blob_events, number_events, each, set_events, elements_count, members_count, value_events, members_events, elements_events, in_order, members_in_order, elements_in_order, SendsValue}
 use Rattle.dynamo_serde.proofs.Machine.{parted}
 use Rattle.dynamo_serde.proofs.Names.{as_is}
-use Rattle.dynamo_serde.proofs.Told.{at, Lands, PutsIn, ElementsIn, EntriesIn, Becomes, added, nothing_told, symbol_told, set_told, seq_told, table_told, entry_landed, stands_for, key_waits, ok_same}
+use Rattle.dynamo_serde.proofs.Told.{at, Lands, PutsIn, ElementsIn, EntriesIn, Becomes, added, symbol_told, set_told, seq_told, table_told, entry_landed, stands_for, key_waits, ok_same}
 
 -- ---- what stands under a symbol
 

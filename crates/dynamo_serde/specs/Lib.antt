@@ -3,6 +3,8 @@ pub mod SetKind
 pub mod Sent
 pub mod Building
 pub mod Called
+pub mod Laid
+pub mod Tape
 pub mod Told
 pub mod Value
 pub use Rattle.dynamo_ser.specs.Datum

@@ -1,4 +1,7 @@
 // The steps of serde's readers, on a tape.
+ghost use Rattle.dynamo_serde.specs.Laid.{Reads, Picks, Stays};
+ghost use Rattle.dynamo_serde.specs.Tape.{place};
+
 use crate::fault::{about, fault, message, no_memory};
 use crate::kinds;
 use crate::tape::{Doubt, Mark, Tape, Token};
@@ -87,6 +90,12 @@ impl<'v> Format for Tape<'v> {
 
     type Mark = Mark;
 
+    ghost gives = { λ old _ e new. Reads (place old) e (place new) };
+
+    ghost picks = { λ old _ is_key names at new. Picks (place old) is_key names at (place new) };
+
+    ghost stays = { λ old new. Stays (place old) (place new) };
+
     fn bool(&mut self, _input: &[u8]) -> Result<bool> {
         let b = match self.look() {
             Some(Token::Bool(b)) => b,
@@ -168,8 +177,8 @@ impl<'v> Format for Tape<'v> {
             Some(Token::Number(text)) => kind_of(text),
             Some(Token::Text(_) | Token::Key(_)) => Kind::Str,
             Some(Token::Bytes(_)) => Kind::Bytes,
-            Some(Token::BeginList(_) | Token::BeginSet(_, _)) => Kind::Seq,
-            Some(Token::BeginMap(_, _)) => Kind::Map,
+            Some(Token::BeginList | Token::BeginSet(_)) => Kind::Seq,
+            Some(Token::BeginMap(_)) => Kind::Map,
             _ => return Err(self.wrong_len()),
         };
         self.doubt = Doubt::Looked;
@@ -203,7 +212,7 @@ impl<'v> Format for Tape<'v> {
 
     fn begin_seq(&mut self, _input: &[u8]) -> Result<()> {
         match self.look() {
-            Some(Token::BeginList(_) | Token::BeginSet(_, _)) => {
+            Some(Token::BeginList | Token::BeginSet(_)) => {
                 self.pass();
                 Ok(())
             }
@@ -239,7 +248,7 @@ impl<'v> Format for Tape<'v> {
 
     fn begin_map(&mut self, _input: &[u8]) -> Result<()> {
         match self.look() {
-            Some(Token::BeginMap(_, _)) => {
+            Some(Token::BeginMap(_)) => {
                 self.pass();
                 Ok(())
             }
@@ -254,8 +263,8 @@ impl<'v> Format for Tape<'v> {
     // A struct is read from a list too, and not from a set.
     fn begin_struct(&mut self, _input: &[u8]) -> Result<bool> {
         let is_list = match self.look() {
-            Some(Token::BeginMap(_, _)) => false,
-            Some(Token::BeginList(_)) => true,
+            Some(Token::BeginMap(_)) => false,
+            Some(Token::BeginList) => true,
             _ => return Err(fault(ErrorImpl::ExpectedMap)),
         };
         self.pass();

@@ -1,5 +1,9 @@
 // The kinds of attribute values. serde's `Kind` has fewer, so whoever reads any attribute value asks which of these names the
 // value has that comes, as if it were a variant's.
+ghost use Rattle.std.specs.Prelude.{◌≡◌};
+ghost use Rattle.dynamo_serde.specs.Laid.{kind_name};
+ghost use Rattle.dynamo_serde.specs.Tape.{token_of};
+
 use crate::set::SetKind;
 use crate::tape::Token;
 use serde::{Case, Name, NameKind};
@@ -60,18 +64,20 @@ pub(crate) fn are_asked(names: &[Name<'_>]) -> bool {
 }
 
 // The name of the kind of what begins with this token; an end and a key have none.
-pub(crate) fn of_token(token: &Token<'_>) -> &'static str {
+pub(crate) fn of_token(token: &Token<'_>) -> &'static str
+    ensures { result.now ≡ kind_name (token_of token.now) }
+{
     match token {
         Token::Number(_) => "\u{37e}N\u{37e}",
         Token::Text(_) => "\u{37e}S\u{37e}",
         Token::Bool(_) => "\u{37e}BOOL\u{37e}",
         Token::Bytes(_) => "\u{37e}B\u{37e}",
         Token::Null(_) => "\u{37e}NULL\u{37e}",
-        Token::BeginMap(_, _) => "\u{37e}M\u{37e}",
-        Token::BeginList(_) => "\u{37e}L\u{37e}",
-        Token::BeginSet(SetKind::Strings, _) => "\u{37e}SS\u{37e}",
-        Token::BeginSet(SetKind::Numbers, _) => "\u{37e}NS\u{37e}",
-        Token::BeginSet(SetKind::Blobs, _) => "\u{37e}BS\u{37e}",
+        Token::BeginMap(_) => "\u{37e}M\u{37e}",
+        Token::BeginList => "\u{37e}L\u{37e}",
+        Token::BeginSet(SetKind::Strings) => "\u{37e}SS\u{37e}",
+        Token::BeginSet(SetKind::Numbers) => "\u{37e}NS\u{37e}",
+        Token::BeginSet(SetKind::Blobs) => "\u{37e}BS\u{37e}",
         Token::EndSeq | Token::EndMap | Token::Key(_) => "",
     }
 }

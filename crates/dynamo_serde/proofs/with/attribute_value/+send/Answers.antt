@@ -1,4 +1,4 @@
-use Rattle.std.proofs.Common.{◌≡◌, [], map, string_bytes, rules, refl, subst}
+use Rattle.std.proofs.Common.{[], map, string_bytes, rules, refl, subst}
 use Rattle.std.proofs.lemmas.Result.{on_ok_weaker}
 use Rattle.serde.specs.Event.{Logs, text, boolean, octets, field_key}
 use Rattle.serde.specs.declared.name.Case.TheVariants.{AsIs}

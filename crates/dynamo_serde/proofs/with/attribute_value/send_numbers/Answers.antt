@@ -1,10 +1,8 @@
-use Rattle.std.proofs.Common.{◌≡◌, length, subst, map, string_bytes, rules}
+use Rattle.std.proofs.Common.{subst, string_bytes, rules}
 use Rattle.std.proofs.lemmas.Result.{on_ok_weaker}
-use Rattle.serde.specs.Event.{Logs, seq_begins, text, octets}
 use Rattle.dynamo_ser.specs.Symbols.{numbers}
-use Rattle.dynamo_serde.specs.Symbol.{word, a_set}
 use Rattle.dynamo_serde.specs.Value.{Logged, number_events}
-use Rattle.dynamo_serde.proofs.Logged.{none, one, more, set_logged}
+use Rattle.dynamo_serde.proofs.Logged.{none, more, set_logged}
 use Rattle.dynamo_serde.proofs.with.attribute_value.send_numbers.Goals as goal
 
 pub loop-text-init : goal.loop-text-init

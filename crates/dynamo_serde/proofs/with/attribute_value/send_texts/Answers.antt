@@ -1,8 +1,7 @@
-use Rattle.std.proofs.Common.{◌≡◌, length, subst, map, string_bytes, rules}
+use Rattle.std.proofs.Common.{subst, string_bytes, rules}
 use Rattle.std.proofs.lemmas.Result.{on_ok_weaker}
-use Rattle.serde.specs.Event.{Logs, seq_begins, text, octets}
+use Rattle.serde.specs.Event.{text}
 use Rattle.dynamo_ser.specs.Symbols.{strings}
-use Rattle.dynamo_serde.specs.Symbol.{word, a_set}
 use Rattle.dynamo_serde.specs.Value.{Logged, text_events}
 use Rattle.dynamo_serde.proofs.Logged.{none, one, more, set_logged}
 use Rattle.dynamo_serde.proofs.with.attribute_value.send_texts.Goals as goal
