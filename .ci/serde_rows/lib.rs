@@ -21,4 +21,6 @@ mod scalars;
 #[cfg(test)]
 mod twins;
 #[cfg(test)]
+mod values;
+#[cfg(test)]
 mod wide;

@@ -1,8 +1,10 @@
 // Numbers, texts, byte strings, sets, options and lists.
-use crate::rows::{reads, text, writes};
+use crate::rows::{reads, text, value, writes};
+use dynamo_serde::from_attribute_value;
 use dynamo_value::ByteBuf;
-use serde::{Deserialize, Serialize};
+use serde::{Deserialize, DeserializeOwned, Deserializer, Format, Serialize};
 use serde_json::Value;
+use std::alloc::Global;
 use std::collections::{BTreeSet, VecDeque};
 use std::test::Fail;
 
@@ -102,4 +104,27 @@ fn texts_and_lists(rt: HostRuntime) -> Result<(), Fail> {
     reads::<[u8; 2]>(&rt, alloc, &[(r#"{"L":[{"N":"1"},{"N":"2"}]}"#, "")])?;
     reads::<VecDeque<Box<u8>>>(&rt, alloc, &[(r#"{"L":[{"N":"1"},{"N":"2"}]}"#, ""), (r#"{"N":"7"}"#, "Expected seq")])?;
     reads::<Value>(&rt, alloc, &[(r#"{"L":[{"NULL":true},{"S":"a"},{"M":{"k":{"N":"-2"},"l":{"N":"2"}}},{"BOOL":false}]}"#, "")])
+}
+
+// What asks for a borrowed text, as no type that derives `Deserialize` and is read here can.
+#[derive(Drop)]
+struct Lent;
+
+impl DeserializeOwned for Lent {
+    fn deserialize_owned<F: Format>(
+        _alloc: Global,
+        from: &mut Deserializer<'_, '_, F>,
+    ) -> Result<Lent, F::Error> {
+        from.borrowed_str()?;
+        Ok(Lent)
+    }
+}
+
+#[test]
+fn no_text_is_lent(rt: HostRuntime) -> Result<(), Fail> {
+    let alloc = rt.alloc();
+    let read: dynamo_value::Result<Lent> = from_attribute_value(alloc, value(alloc, r#"{"S":"a"}"#)?);
+    let error = read.err().ok_or("no error")?;
+    assert_eq!(rt; error.to_string(alloc)?.as_str(), "a text is not lent: read a String");
+    Ok(())
 }

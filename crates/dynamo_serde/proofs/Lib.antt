@@ -1,5 +1,10 @@
+mod Laying
+pub mod Logged
 pub mod Machine
 pub mod Names
+pub mod Read
+mod Sending
 pub mod Sends
 mod Steps
 pub mod Told
+pub mod Value

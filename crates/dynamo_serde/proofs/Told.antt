@@ -20,7 +20,8 @@ use Rattle.dynamo_ser.specs.Symbols.{SetKind}
 use Rattle.dynamo_write.specs.Collect.{collect_onto}
 use Rattle.dynamo_write.specs.Set.{set_kind, as_set, named}
 use Rattle.dynamo_write.specs.Written.{written, written_elements, written_pairs, written_fields}
-use Rattle.dynamo_serde.specs.Sent.{Frame, State, whole, list, table, set, start, filled, put_in, set_in, variant_in, share_in, made, Turns, Keys, Adds, Closes, TakesAll, IsValueOf}
+use Rattle.dynamo_serde.specs.Symbol.{Symbol, a_set, set_or, other_named, named as symbol_named, taken, converted}
+use Rattle.dynamo_serde.specs.Sent.{Frame, State, whole, list, table, marked, start, filled, put_in, symbol_in, variant_in, share_in, made, Turns, Keys, Adds, Closes, TakesAll, IsValueOf}
 use Rattle.dynamo_serde.specs.Told.{events, elements_events, pairs_events, fields_events, natural, integer_event, newtype, under, in_seq, in_map, elements_count, pairs_count, fields_count, IsKeyTold, IsTold, AreTold, PairsTold, FieldsTold}
 use Rattle.std.proofs.Props.{props}
 use mathlib.Core.Logic.{∥∥₁_elim}
@@ -58,12 +59,27 @@ last_same (w ∷ xs) x (z ∷ ys) y e =
     let both = last_same xs x ys y rest in let first : w ≡ z = cc in
     ((λ i. first i ∷ both.0 i), both.1)
 
+-- the key is one that waits
+pub key_waits : (bs : List Frame) (es : List (List ℕ × Av)) (spelling key : List ℕ) (new : State) → spelling ≡ key → Keys (at bs (table es None 0)) spelling new → new ≡ at bs (table es (Some key) 0)
+key_waits bs es spelling key new same turn =
+    let top : table es (Some spelling) 0 ≡ turn.0 = cc (turn.1) in
+    turn.2 ∙ sym (ap (at bs) top) ∙ ap (λ text. at bs (table es (Some text) 0)) same
+
+abbrev Same : Result Av Fault → Result Av Fault → Type 0
+Same x y = x ≡ y
+
+pub ok_same : (a b : Av) → Same (Ok a) (Ok b) → a ≡ b
+ok_same a b e = cc (e)
+
+then_ok : (r : Result Av Fault) (a b : Av) (make : Av → Av) → r ≡ Ok a → Same (Ok (make a)) (Ok b) → (r >>= λ x. Ok (make x)) ≡ Ok b
+then_ok r a b make is same = ap (λ x. x >>= λ y. Ok (make y)) is ∙ same
+
 -- ---- scalars
 
 untrue : {P : Type 0} → false ≡ true → P
 untrue e = let no : ⊥ = cc in absurd no
 
-added : (bs : List Frame) (t : Frame) (key : List ℕ) (a : Av) (mid new : State) → Adds (at bs t) key a mid → new ≡ mid → Lands bs t (Ok a) new
+pub added : (bs : List Frame) (t : Frame) (key : List ℕ) (a : Av) (mid new : State) → Adds (at bs t) key a mid → new ≡ mid → Lands bs t (Ok a) new
 added bs t key a mid new adds is = ⊎_elim (λ k. untrue k.0) (λ p. (a, p.1.0, refl, p.1.1, is ∙ p.1.2)) adds.1
 
 key_added : (bs : List Frame) (es : List (List ℕ × Av)) (key : List ℕ) (a : Av) (mid new : State) (k : Datum) → key_text k ≡ Ok key
@@ -104,7 +120,7 @@ key_integer u32 z bs es new run = key_counted u32 z bs es new run
 key_integer u64 z bs es new run = key_counted u64 z bs es new run
 key_integer u128 z bs es new run = key_counted u128 z bs es new run
 
-nothing_told : (bs : List Frame) (t : Frame) (new : State) → TakesAll (at bs t) (event.nothing ∷ []) new → Lands bs t (Ok (av.Null true)) new
+pub nothing_told : (bs : List Frame) (t : Frame) (new : State) → TakesAll (at bs t) (event.nothing ∷ []) new → Lands bs t (Ok (av.Null true)) new
 nothing_told bs t new run = ⊎_elim (λ k. untrue k.0) (λ p. (av.Null true, p.1.0, refl, p.1.1, run.2 ∙ p.1.2)) run.1.1
 
 -- ---- what ends
@@ -125,13 +141,13 @@ not_shared : (f : Frame) (es : List (List ℕ × Av)) (key : Option (List ℕ)) 
 not_shared (whole a) es key e = cc
 not_shared (list as') es key e = cc
 not_shared (table ms k n) es key e = let up : n + 1 ≡ 0 = cc in omega arith
-not_shared (set kind a) es key e = cc
+not_shared (marked symbol a) es key e = cc
 
-no_set_shared : (f : Frame) (kind : SetKind) (a : Option Av) → share_in f ≡ Some (set kind a) → ⊥
-no_set_shared (whole b) kind a e = cc
-no_set_shared (list as') kind a e = cc
-no_set_shared (table ms k n) kind a e = cc
-no_set_shared (set j b) kind a e = cc
+not_marked_shared : (f : Frame) (symbol : Symbol) (a : Option Av) → share_in f ≡ Some (marked symbol a) → ⊥
+not_marked_shared (whole b) symbol a e = cc
+not_marked_shared (list as') symbol a e = cc
+not_marked_shared (table ms k n) symbol a e = cc
+not_marked_shared (marked other b) symbol a e = cc
 
 map_ends_so : (bs : List Frame) (t top : Frame) (a : Av) (new : State) → ((f : Frame) → share_in f ≡ Some top → ⊥) → made top ≡ Some a
     → TakesAll (at (bs ++ t ∷ []) top) (map_ends ∷ []) new → Lands bs t (Ok a) new
@@ -176,49 +192,63 @@ abbrev pub PutsIn : List Event → Result Av Fault → Type 0
 PutsIn es r = (bs : List Frame) (t : Frame) (new : State) → TakesAll (at bs t) es new → Lands bs t r new
 
 -- the key of a map that waits takes what lands
-abbrev Entry : List Frame → List (List ℕ × Av) → List ℕ → Result Av Fault → State → Type 0
+abbrev pub Entry : List Frame → List (List ℕ × Av) → List ℕ → Result Av Fault → State → Type 0
 Entry bs es key r new = (a : Av) × (r ≡ Ok a) × (new ≡ at bs (table (put text_cmp key a es) None 0))
 
-entry_landed : (bs : List Frame) (es : List (List ℕ × Av)) (key : List ℕ) (r : Result Av Fault) (new : State) → Lands bs (table es (Some key) 0) r new → Entry bs es key r new
+pub entry_landed : (bs : List Frame) (es : List (List ℕ × Av)) (key : List ℕ) (r : Result Av Fault) (new : State) → Lands bs (table es (Some key) 0) r new → Entry bs es key r new
 entry_landed bs es key r new l =
     let same : table (put text_cmp key l.0 es) None 0 ≡ l.1 = cc (l.3) in
     (l.0, l.2, l.4 ∙ ap (at bs) (sym same))
 
 -- a map of one member, whose key is no symbol
-under_told : (name : List ℕ) → set_kind name ≡ None → (es : List Event) (r : Result Av Fault) → PutsIn es r → PutsIn (under name es) (r >>= λ a. Ok (av.M (members_of ((name, a) ∷ []))))
+under_told : (name : List ℕ) → symbol_named name ≡ None → (es : List Event) (r : Result Av Fault) → PutsIn es r → PutsIn (under name es) (r >>= λ a. Ok (av.M (members_of ((name, a) ∷ []))))
 under_told name plain es r inside bs t new run =
     let open_at = at (bs ++ t ∷ []) (table [] None 0) in
     let begun : run.0 ≡ open_at = ⊎_elim (λ k. untrue k.0) (λ o. o.1) run.1.1 in
     let run1 : TakesAll open_at (variant_key name AsIs ∷ (es ++ map_ends ∷ [])) new = subst (λ s. TakesAll s (variant_key name AsIs ∷ (es ++ map_ends ∷ [])) new) begun run.2 in
     let turn : Keys open_at (spelled AsIs Variant name) run1.0 = subst (λ kind. Turns (λ f. variant_in f kind (spelled AsIs Variant name)) open_at run1.0) plain run1.1 in
     let waiting = at (bs ++ t ∷ []) (table [] (Some name) 0) in
-    let top : table [] (Some (spelled AsIs Variant name)) 0 ≡ turn.0 = cc (turn.1) in
-    let waits : run1.0 ≡ waiting = turn.2 ∙ ap (at (bs ++ t ∷ [])) (sym top) ∙ ap (λ text. at (bs ++ t ∷ []) (table [] (Some text) 0)) (as_is Variant name) in
+    let waits : run1.0 ≡ waiting = key_waits (bs ++ t ∷ []) [] (spelled AsIs Variant name) name run1.0 (as_is Variant name) turn in
     let parts = parted es (map_ends ∷ []) waiting new (subst (λ s. TakesAll s (es ++ map_ends ∷ []) new) waits run1.2) in
     let entry = entry_landed (bs ++ t ∷ []) [] name r parts.0 (inside (bs ++ t ∷ []) (table [] (Some name) 0) parts.0 parts.1) in
     let whole_map : Av = av.M (members_of ((name, entry.0) ∷ [])) in
     let ends = map_ends_so bs t (table ((name, entry.0) ∷ []) None 0) whole_map new (λ f. not_shared f _ _) refl (subst (λ s. TakesAll s (map_ends ∷ []) new) entry.2 parts.2) in
-    (ends.0, ends.1, ap (λ x. x >>= λ a. Ok (av.M (members_of ((name, a) ∷ [])))) entry.1 ∙ ends.2, ends.3, ends.4)
+    (ends.0, ends.1, then_ok r entry.0 ends.0 (λ a. av.M (members_of ((name, a) ∷ []))) entry.1 ends.2, ends.3, ends.4)
 
-filled_so : (kind : SetKind) (x : Result Av Fault) (f : Frame) → filled kind x ≡ Some f → (b : Av) × (x ≡ Ok b) × (f ≡ set kind (Some b))
-filled_so kind (Ok b) f e = let same : set kind (Some b) ≡ f = cc (e) in (b, refl, sym same)
-filled_so kind (Err g) f e = let no : ⊥ = cc (e) in absurd no
+filled_so : (symbol : Symbol) (x : Option Av) (f : Frame) → filled symbol x ≡ Some f → (b : Av) × (x ≡ Some b) × (f ≡ marked symbol (Some b))
+filled_so symbol (Some b) f e = let same : marked symbol (Some b) ≡ f = cc (e) in (b, refl, sym same)
+filled_so symbol None f e = let no : ⊥ = cc (e) in absurd no
 
--- a map whose key is the symbol of a kind of sets
-set_told : (name : List ℕ) (kind : SetKind) → set_kind name ≡ Some kind → (es : List Event) (r : Result Av Fault) → PutsIn es r → PutsIn (under name es) (r >>= as_set kind)
-set_told name kind symbol es r inside bs t new run =
+-- what lands under a symbol, and what it becomes
+abbrev pub Becomes : Symbol → Result Av Fault → List Frame → Frame → State → Type 0
+Becomes symbol r bs t new = (a b : Av) × (r ≡ Ok a) × (converted symbol a ≡ Some b) × (inner : Frame) × (put_in t b ≡ Some inner) × (new ≡ at bs inner)
+
+-- a map whose key is a symbol
+pub symbol_told : (name : List ℕ) (symbol : Symbol) → symbol_named name ≡ Some symbol → (es : List Event) (r : Result Av Fault) → PutsIn es r
+    → (bs : List Frame) (t : Frame) (new : State) → TakesAll (at bs t) (under name es) new → Becomes symbol r bs t new
+symbol_told name symbol is es r inside bs t new run =
     let open_at = at (bs ++ t ∷ []) (table [] None 0) in
     let begun : run.0 ≡ open_at = ⊎_elim (λ k. untrue k.0) (λ o. o.1) run.1.1 in
     let run1 : TakesAll open_at (variant_key name AsIs ∷ (es ++ map_ends ∷ [])) new = subst (λ s. TakesAll s (variant_key name AsIs ∷ (es ++ map_ends ∷ [])) new) begun run.2 in
-    let turn : Turns (λ f. set_in f kind) open_at run1.0 = subst (λ k. Turns (λ f. variant_in f k (spelled AsIs Variant name)) open_at run1.0) symbol run1.1 in
-    let waiting = at (bs ++ t ∷ []) (set kind None) in
-    let top : set kind None ≡ turn.0 = cc (turn.1) in
+    let turn : Turns (λ f. symbol_in f symbol) open_at run1.0 = subst (λ k. Turns (λ f. variant_in f k (spelled AsIs Variant name)) open_at run1.0) is run1.1 in
+    let waiting = at (bs ++ t ∷ []) (marked symbol None) in
+    let top : marked symbol None ≡ turn.0 = cc (turn.1) in
     let waits : run1.0 ≡ waiting = turn.2 ∙ ap (at (bs ++ t ∷ [])) (sym top) in
     let parts = parted es (map_ends ∷ []) waiting new (subst (λ s. TakesAll s (es ++ map_ends ∷ []) new) waits run1.2) in
-    let l = inside (bs ++ t ∷ []) (set kind None) parts.0 parts.1 in
-    let f = filled_so kind (as_set kind l.0) l.1 l.3 in
-    let ends = map_ends_so bs t (set kind (Some f.0)) f.0 new (λ g. no_set_shared g _ _) refl (subst (λ s. TakesAll s (map_ends ∷ []) new) (l.4 ∙ ap (at (bs ++ t ∷ [])) f.2) parts.2) in
-    (ends.0, ends.1, ap (λ x. x >>= as_set kind) l.2 ∙ f.1 ∙ ends.2, ends.3, ends.4)
+    let l = inside (bs ++ t ∷ []) (marked symbol None) parts.0 parts.1 in
+    let f = filled_so symbol (converted symbol l.0) l.1 l.3 in
+    let ends = map_ends_so bs t (marked symbol (Some f.0)) f.0 new (λ g. not_marked_shared g _ _) refl (subst (λ s. TakesAll s (map_ends ∷ []) new) (l.4 ∙ ap (at (bs ++ t ∷ [])) f.2) parts.2) in
+    (l.0, ends.0, l.2, f.1 ∙ ap Some (ok_same f.0 ends.0 ends.2), ends.1, ends.3, ends.4)
+
+taken_so : (x : Result Av Fault) (b : Av) → taken x ≡ Some b → x ≡ Ok b
+taken_so (Ok a) b e = let same : a ≡ b = cc (e) in ap Ok same
+taken_so (Err f) b e = let no : ⊥ = cc (e) in absurd no
+
+-- a map whose key is the symbol of a kind of sets
+pub set_told : (name : List ℕ) (kind : SetKind) → set_kind name ≡ Some kind → (es : List Event) (r : Result Av Fault) → PutsIn es r → PutsIn (under name es) (r >>= as_set kind)
+set_told name kind is es r inside bs t new run =
+    let h = symbol_told name (a_set kind) (ap (λ k. set_or k (other_named name)) is) es r inside bs t new run in
+    (h.1, h.4, ap (λ x. x >>= as_set kind) h.2 ∙ taken_so (as_set kind h.0) h.1 h.3, h.5, h.6)
 
 same_bind : (r : Result Av Fault) → r ≡ r >>= named None
 same_bind (Ok a) = refl
@@ -229,13 +259,13 @@ newtype_told None name is es r inside bs t new run = subst (λ x. Lands bs t x n
 newtype_told (Some kind) name is es r inside bs t new run = set_told name kind is es r inside bs t new run
 
 -- elements, entries and fields, after those that were put in
-abbrev ElementsIn : List Event → Result av.Elements Fault → Type 0
+abbrev pub ElementsIn : List Event → Result av.Elements Fault → Type 0
 ElementsIn es r = (bs : List Frame) (before : List Av) (new : State) → TakesAll (at bs (list before)) es new → (as' : List Av) × (r ≡ Ok (elements_of as')) × (new ≡ at bs (list (before ++ as')))
 
-abbrev EntriesIn : List Event → Result (List (List ℕ × Av)) Fault → Type 0
+abbrev pub EntriesIn : List Event → Result (List (List ℕ × Av)) Fault → Type 0
 EntriesIn es r = (bs : List Frame) (before : List (List ℕ × Av)) (new : State) → TakesAll (at bs (table before None 0)) es new → (more : List (List ℕ × Av)) × (r ≡ Ok more) × (new ≡ at bs (table (collect_onto before more) None 0))
 
-seq_told : (n : ℕ) (es : List Event) (r : Result av.Elements Fault) → ElementsIn es r → PutsIn (event.seq_begins (Some n) ∷ (es ++ seq_ends ∷ [])) (r >>= λ as'. Ok (av.L as'))
+pub seq_told : (n : ℕ) (es : List Event) (r : Result av.Elements Fault) → ElementsIn es r → PutsIn (event.seq_begins (Some n) ∷ (es ++ seq_ends ∷ [])) (r >>= λ as'. Ok (av.L as'))
 seq_told n es r inside bs t new run =
     let open_at = at (bs ++ t ∷ []) (list []) in
     let parts = parted es (seq_ends ∷ []) open_at new (subst (λ s. TakesAll s (es ++ seq_ends ∷ []) new) run.1.1 run.2) in
@@ -243,7 +273,7 @@ seq_told n es r inside bs t new run =
     let ends = list_ends bs t h.0 new (subst (λ s. TakesAll s (seq_ends ∷ []) new) h.2 parts.2) in
     (ends.0, ends.1, ap (λ x. x >>= λ as'. Ok (av.L as')) h.1 ∙ ends.2, ends.3, ends.4)
 
-table_told : (n : ℕ) (es : List Event) (r : Result (List (List ℕ × Av)) Fault) → EntriesIn es r → PutsIn (event.map_begins (Some n) ∷ (es ++ map_ends ∷ [])) (r >>= λ more. Ok (av.M (members_of (collect_onto [] more))))
+pub table_told : (n : ℕ) (es : List Event) (r : Result (List (List ℕ × Av)) Fault) → EntriesIn es r → PutsIn (event.map_begins (Some n) ∷ (es ++ map_ends ∷ [])) (r >>= λ more. Ok (av.M (members_of (collect_onto [] more))))
 table_told n es r inside bs t new run =
     let open_at = at (bs ++ t ∷ []) (table [] None 0) in
     let begun : run.0 ≡ open_at = ⊎_elim (λ k. untrue k.0) (λ o. o.1) run.1.1 in
@@ -318,9 +348,7 @@ mutual
   fields_told datum.no_fields is bs before new run = ([], refl, run)
   fields_told (datum.field name d fs) is bs before new run =
       let parts = parted (event.field_key name AsIs ∷ events d) (fields_events fs) (at bs (table before None 0)) new run in
-      let turn = parts.1.1 in
-      let top : table before (Some (spelled AsIs Field name)) 0 ≡ turn.0 = cc (turn.1) in
-      let waits : parts.1.0 ≡ at bs (table before (Some name) 0) = turn.2 ∙ ap (at bs) (sym top) ∙ ap (λ text. at bs (table before (Some text) 0)) (as_is Field name) in
+      let waits : parts.1.0 ≡ at bs (table before (Some name) 0) = key_waits bs before (spelled AsIs Field name) name parts.1.0 (as_is Field name) parts.1.1 in
       let l = told d is.0 bs (table before (Some name) 0) parts.0 (subst (λ s. TakesAll s (events d) parts.0) waits parts.1.2) in
       let entry = entry_landed bs before name (written d) parts.0 l in
       let rest = fields_told fs is.1 bs (put text_cmp name entry.0 before) new (subst (λ s. TakesAll s (fields_events fs) new) entry.2 parts.2) in
@@ -341,14 +369,18 @@ unfolding is_this
 known (Ok b) a e = ap Ok ((av_eq_decides b a).0 e)
 known (Err f) a e = untrue e
 
-ends_with : (d : Datum) (a : Av) (last : State) → IsTold d → last.top ≡ whole (Some a) → TakesAll start (events d) last → written d ≡ Ok a
-ends_with d a last is top run =
-    let l = told d is [] (whole None) last run in
+ends_with : (es : List Event) (r : Result Av Fault) (a : Av) (last : State) → PutsIn es r → last.top ≡ whole (Some a) → TakesAll start es last → r ≡ Ok a
+ends_with es r a last puts top run =
+    let l = puts [] (whole None) last run in
     let put_top : whole (Some l.0) ≡ l.1 = cc (l.3) in
     let same_top : whole (Some l.0) ≡ whole (Some a) = put_top ∙ sym (ap (λ s. s.top) l.4) ∙ top in
     let same : l.0 ≡ a = cc (same_top) in
     l.2 ∙ ap Ok same
 
+-- what these events stand for is what they put in
+pub stands_for : (es : List Event) (r : Result Av Fault) (a : Av) → PutsIn es r → IsValueOf (Some es) a → r ≡ Ok a
+stands_for es r a puts h = known r a (∥∥₁_elim h.1 (hlevel props) (λ run. tested r a (ends_with es r a h.0 puts h.3 run)))
+
 -- what stands for a datum's events is what the library writes for it
 pub is_written : (d : Datum) (a : Av) → IsTold d → IsValueOf (Some (events d)) a → written d ≡ Ok a
-is_written d a is h = known (written d) a (∥∥₁_elim h.1 (hlevel props) (λ run. tested (written d) a (ends_with d a h.0 is h.3 run)))
+is_written d a is h = stands_for (events d) (written d) a (told d is) h

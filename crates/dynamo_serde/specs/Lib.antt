@@ -1,8 +1,12 @@
+pub mod Symbol
 pub mod SetKind
 pub mod Sent
 pub mod Building
 pub mod Called
+pub mod Laid
+pub mod Tape
 pub mod Told
+pub mod Value
 pub use Rattle.dynamo_ser.specs.Datum
 pub use Rattle.dynamo_value.specs.Av
 pub use Rattle.dynamo_value.specs.View

@@ -3,8 +3,8 @@
 -- A value that is sent is put into what is open: it is the whole, the next element of a list, or a map's value at the key
 -- that waits. A list or a map that ends is put into what is open round it. Between `key_begins` and `key_ends` a scalar is
 -- no value but a key, by its text. After `flattens` a map's members go into the map that is open. A map whose first key is
--- the symbol of a kind of sets is no map: the list under it becomes a set.
-use Rattle.std.specs.Prelude.{◌≡◌, ◌⊎◌, ℕ, zero, ◌+◌, List, [], ◌∷◌, ◌++◌, Bool, true, false, Option, Some, None, IfSome, Result, Ok, Err, decimal, encode_utf8}
+-- a symbol is no map: what stands under it becomes a set, a number or a NULL.
+use Rattle.std.specs.Prelude.{◌≡◌, ◌⊎◌, ℕ, zero, ◌+◌, List, [], ◌∷◌, ◌++◌, Bool, true, false, Option, Some, None, IfSome, decimal, encode_utf8}
 use Rattle.std.specs.Float.{Float, Format, binary32, binary64}
 use Rattle.std.specs.Fmt.{signed_decimal}
 use Rattle.std.specs.FinMap.Entries.{put}
@@ -15,19 +15,17 @@ use Rattle.serde.specs.Spelling.{spelled}
 use Rattle.serde.specs.declared.name.NameKind.TheVariants.{Field, Variant}
 use Rattle.dynamo_value.specs.Av as av
 use Rattle.dynamo_value.specs.Av.{Av, elements_of, members_of}
-use Rattle.dynamo_value.specs.Fault.{Fault}
 use Rattle.dynamo_value.specs.View.{text_cmp}
 use Rattle.dynamo_ser.specs.Key.{bool_text}
-use Rattle.dynamo_ser.specs.Symbols.{SetKind}
-use Rattle.dynamo_write.specs.Set.{set_kind, as_set}
+use Rattle.dynamo_serde.specs.Symbol.{Symbol, named, converted}
 
 -- What is open: the whole; a list with its elements; a map with its members in the order of their keys, the key that waits,
--- and how many more maps are open whose members go into it; a set of this kind.
+-- and how many more maps are open whose members go into it; what stands under a symbol.
 pub data Frame : Type 0 where
   whole : Option Av → Frame
   list : List Av → Frame
   table : List (List ℕ × Av) → Option (List ℕ) → ℕ → Frame
-  set : SetKind → Option Av → Frame
+  marked : Symbol → Option Av → Frame
 
 pub record State : Type 0 where
   pub below : List Frame
@@ -38,9 +36,9 @@ pub record State : Type 0 where
 abbrev pub start : State
 start = record { below = []; top = whole None; at_key = false; flattens = false }
 
-abbrev pub filled : SetKind → Result Av Fault → Option Frame
-filled kind (Ok a) = Some (set kind (Some a))
-filled kind (Err f) = None
+abbrev pub filled : Symbol → Option Av → Option Frame
+filled symbol (Some a) = Some (marked symbol (Some a))
+filled symbol None = None
 
 -- a value is put in; of equal keys the last value stays
 abbrev pub put_in : Frame → Av → Option Frame
@@ -48,29 +46,29 @@ put_in (whole a) b = Some (whole (Some b))
 put_in (list as') b = Some (list (as' ++ b ∷ []))
 put_in (table es (Some key) shared) b = Some (table (put text_cmp key b es) None shared)
 put_in (table es None shared) b = None
-put_in (set kind a) b = filled kind (as_set kind b)
+put_in (marked symbol a) b = filled symbol (converted symbol b)
 
 abbrev pub key_in : Frame → List ℕ → Option Frame
 key_in (table es key shared) new_key = Some (table es (Some new_key) shared)
 key_in _ new_key = None
 
--- a map that has no member yet becomes a set
-abbrev pub set_in : Frame → SetKind → Option Frame
-set_in (table [] key zero) kind = Some (set kind None)
-set_in _ kind = None
+-- a map that has no member yet becomes what its symbol says
+abbrev pub symbol_in : Frame → Symbol → Option Frame
+symbol_in (table [] key zero) symbol = Some (marked symbol None)
+symbol_in _ symbol = None
 
-abbrev pub variant_in : Frame → Option SetKind → List ℕ → Option Frame
+abbrev pub variant_in : Frame → Option Symbol → List ℕ → Option Frame
 variant_in f None new_key = key_in f new_key
-variant_in f (Some kind) new_key = set_in f kind
+variant_in f (Some symbol) new_key = symbol_in f symbol
 
 abbrev pub share_in : Frame → Option Frame
 share_in (table es key shared) = Some (table es key (shared + 1))
 share_in _ = None
 
--- what a map or a set makes when it ends
+-- what a map makes when it ends, or what stands under a symbol
 abbrev pub made : Frame → Option Av
 made (table es key zero) = Some (av.M (members_of es))
-made (set kind a) = a
+made (marked symbol a) = a
 made _ = None
 
 -- only the innermost changes
@@ -102,7 +100,7 @@ Opens old inner new = new ≡ record old { below = old.below ++ old.top ∷ []; 
 abbrev pub Closes : State → Av → State → Type 0
 Closes old a new = (rest : List Frame) × (outer inner : Frame) × (old.below ≡ rest ++ outer ∷ []) × (put_in outer a ≡ Some inner) × (new ≡ record old { below = rest; top = inner })
 
--- a map of its own or a set ends
+-- a map of its own ends, or what stands under a symbol
 abbrev pub Ends : State → State → Type 0
 Ends old new = (a : Av) × (made old.top ≡ Some a) × Closes old a new
 
@@ -123,7 +121,7 @@ Takes old seq_ends new = (as' : List Av) × (old.top ≡ list as') × Closes old
 Takes old (map_begins n) new = (old.at_key ≡ false) × (((old.flattens ≡ true) × (f : Frame) × (share_in old.top ≡ Some f) × (new ≡ record old { top = f; flattens = false })) ⊎ ((old.flattens ≡ false) × Opens old (table [] None 0) new))
 Takes old map_ends new = ((f : Frame) × (share_in f ≡ Some old.top) × (new ≡ record old { top = f })) ⊎ Ends old new
 Takes old (field_key name case) new = Keys old (spelled case Field name) new
-Takes old (variant_key name case) new = Turns (λ f. variant_in f (set_kind name) (spelled case Variant name)) old new
+Takes old (variant_key name case) new = Turns (λ f. variant_in f (named name) (spelled case Variant name)) old new
 Takes old key_begins new = new ≡ record old { at_key = true }
 Takes old key_ends new = new ≡ record old { at_key = false }
 Takes old flattens new = new ≡ record old { flattens = true }

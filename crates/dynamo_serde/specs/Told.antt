@@ -8,6 +8,7 @@ use Rattle.dynamo_ser.specs.Symbols.{SetKind}
 use Rattle.dynamo_ser.specs.Datum as datum
 use Rattle.dynamo_ser.specs.Datum.{Datum, Elements, Pairs, Fields, IntegerKind, i8, i16, i32, i64, i128, u8, u16, u32, u64, u128}
 use Rattle.dynamo_write.specs.Set.{set_kind}
+use Rattle.dynamo_serde.specs.Symbol.{named}
 
 abbrev pub natural : ℤ → Event
 natural (pos n) = event.unsigned n
@@ -88,7 +89,7 @@ abbrev mutual
   fields_events datum.no_fields = []
   fields_events (datum.field name d fs) = (field_key name AsIs ∷ events d) ++ fields_events fs
 
--- What the events tell whole: no refusal stands inside, no variant is named as the symbol of a kind of sets, and each key is
+-- What the events tell whole: no refusal stands inside, no variant is named as a symbol, and each key is
 -- a scalar, or a newtype over one.
 abbrev pub IsKeyTold : Datum → Type 0
 IsKeyTold (datum.boolean b) = Unit {0}
@@ -103,14 +104,14 @@ abbrev mutual
   pub IsTold : Datum → Type 0
   IsTold (datum.some content) = IsTold content
   IsTold (datum.newtype_struct name content) = IsTold content
-  IsTold (datum.newtype_variant variant content) = (set_kind variant.name ≡ None) × IsTold content
+  IsTold (datum.newtype_variant variant content) = (named variant.name ≡ None) × IsTold content
   IsTold (datum.seq ds) = AreTold ds
   IsTold (datum.tuple ds) = AreTold ds
   IsTold (datum.tuple_struct name ds) = AreTold ds
-  IsTold (datum.tuple_variant variant ds) = (set_kind variant.name ≡ None) × AreTold ds
+  IsTold (datum.tuple_variant variant ds) = (named variant.name ≡ None) × AreTold ds
   IsTold (datum.map ps) = PairsTold ps
   IsTold (datum.struct name fs) = FieldsTold fs
-  IsTold (datum.struct_variant variant fs) = (set_kind variant.name ≡ None) × FieldsTold fs
+  IsTold (datum.struct_variant variant fs) = (named variant.name ≡ None) × FieldsTold fs
   IsTold (datum.refuse text) = ⊥
   IsTold _ = Unit {0}
 

@@ -9,7 +9,7 @@ ghost use Rattle.dynamo_serde.specs.Building.{state, frame};
 
 use crate::fault::{LEVELS, fault, message, no_memory, too_deep};
 use crate::open::{Open, OpenMap};
-use crate::set::set_kind;
+use crate::symbol::symbol_named;
 use dynamo_value::{AttributeValue, Error, ErrorImpl, Result};
 use serde::{Case, NameKind};
 use std::alloc::Global;
@@ -97,10 +97,26 @@ impl Builder {
         self.top.put(self.alloc, value)
     }
 
+    // The map may be one too deep, since a symbol could have come for its key.
     fn set_key(&mut self, key: String) -> Result<()>
         ensures { OnOk result (Keys (state self.old) (string_bytes key) (state self.new)) }
     {
+        if self.reaches(LEVELS + 1) {
+            return Err(too_deep(self.alloc));
+        }
         self.top.set_key(key)
+    }
+
+    // Whether so many lists and maps are open, those left out that a symbol stands for.
+    fn reaches(&self, levels: usize) -> bool {
+        if self.below.len() < levels {
+            return false;
+        }
+        let mut open = 0;
+        for outer in &self.below {
+            open = outer.levels_after(open);
+        }
+        self.top.levels_after(open) >= levels
     }
 
     fn put_text(&mut self, text: String) -> Result<()>
@@ -141,9 +157,6 @@ impl Builder {
     fn open(&mut self, inner: Open) -> Result<()>
         ensures { OnOk result (Opens (state self.old) (frame inner) (state self.new)) }
     {
-        if self.below.len() >= LEVELS {
-            return Err(too_deep(self.alloc));
-        }
         let outer = std::mem::replace(&mut self.top, inner);
         self.below.push(outer)?;
         Ok(())
@@ -270,6 +283,9 @@ impl Builder {
         ensures { OnOk result (Takes (state self.old) (seq_begins _len) (state self.new)) }
     {
         self.is_value()?;
+        if self.reaches(LEVELS) {
+            return Err(too_deep(self.alloc));
+        }
         self.open(Open::List(Vec::new(self.alloc)))
     }
 
@@ -297,6 +313,9 @@ impl Builder {
             map.shared = shared;
             return Ok(());
         }
+        if self.reaches(LEVELS + 1) {
+            return Err(too_deep(self.alloc));
+        }
         let entries = HashMap::with_capacity(self.alloc, room(len))?;
         self.open(Open::Map(OpenMap {
             entries,
@@ -315,12 +334,15 @@ impl Builder {
                 Ok(())
             }
             Open::Map(map) => {
+                if self.reaches(LEVELS) {
+                    return Err(too_deep(self.alloc));
+                }
                 let OpenMap { entries, .. } = map;
                 self.close(AttributeValue::M(entries))?;
                 Ok(())
             }
-            Open::Set(_, Some(value)) => self.close(value),
-            Open::Set(_, None) => Err(fault(ErrorImpl::NotSetlike)),
+            Open::Marked(_, Some(value)) => self.close(value),
+            Open::Marked(_, None) => Err(fault(ErrorImpl::NotSetlike)),
             _ => Err(fault(ErrorImpl::ExpectedMap)),
         }
     }
@@ -335,8 +357,8 @@ impl Builder {
     pub(crate) fn variant_key(&mut self, name: &str, case: Case) -> Result<()>
         ensures { OnOk result (Takes (state self.old) (variant_event name.now case) (state self.new)) }
     {
-        match set_kind(name) {
-            Some(kind) => self.top.become_set(kind),
+        match symbol_named(name) {
+            Some(symbol) => self.top.set_symbol(symbol),
             None => {
                 let key = self.spelled(name, case, NameKind::Variant)?;
                 self.set_key(key)

@@ -1,5 +1,9 @@
 // The steps of serde's readers, on a tape.
+ghost use Rattle.dynamo_serde.specs.Laid.{Reads, Picks, Stays};
+ghost use Rattle.dynamo_serde.specs.Tape.{place};
+
 use crate::fault::{about, fault, message, no_memory};
+use crate::kinds;
 use crate::tape::{Doubt, Mark, Tape, Token};
 use dynamo_value::{Error, ErrorImpl, Result};
 use serde::{Format, Kind, Name};
@@ -86,9 +90,16 @@ impl<'v> Format for Tape<'v> {
 
     type Mark = Mark;
 
+    ghost gives = { λ old _ e new. Reads (place old) e (place new) };
+
+    ghost picks = { λ old _ is_key names at new. Picks (place old) is_key names at (place new) };
+
+    ghost stays = { λ old new. Stays (place old) (place new) };
+
     fn bool(&mut self, _input: &[u8]) -> Result<bool> {
         let b = match self.look() {
             Some(Token::Bool(b)) => b,
+            Some(Token::Null(b)) if self.is_told() => b,
             Some(Token::Key("true")) => true,
             Some(Token::Key("false")) => false,
             Some(Token::Key(_)) => return Err(fault(ErrorImpl::ExpectedString)),
@@ -139,7 +150,14 @@ impl<'v> Format for Tape<'v> {
     }
 
     fn string(&mut self, alloc: Global, _input: &[u8]) -> Result<String> {
-        Ok(String::from_str(alloc, self.text(ErrorImpl::ExpectedString)?)?)
+        let text = match self.look() {
+            Some(Token::Number(text)) if self.is_told() => {
+                self.pass();
+                text
+            }
+            _ => self.text(ErrorImpl::ExpectedString)?,
+        };
+        Ok(String::from_str(alloc, text)?)
     }
 
     fn byte_buf(&mut self, alloc: Global, _input: &[u8]) -> Result<Vec<u8>> {
@@ -159,8 +177,8 @@ impl<'v> Format for Tape<'v> {
             Some(Token::Number(text)) => kind_of(text),
             Some(Token::Text(_) | Token::Key(_)) => Kind::Str,
             Some(Token::Bytes(_)) => Kind::Bytes,
-            Some(Token::BeginList(_) | Token::BeginSet(_)) => Kind::Seq,
-            Some(Token::BeginMap(_, _)) => Kind::Map,
+            Some(Token::BeginList | Token::BeginSet(_)) => Kind::Seq,
+            Some(Token::BeginMap(_)) => Kind::Map,
             _ => return Err(self.wrong_len()),
         };
         self.doubt = Doubt::Looked;
@@ -194,7 +212,7 @@ impl<'v> Format for Tape<'v> {
 
     fn begin_seq(&mut self, _input: &[u8]) -> Result<()> {
         match self.look() {
-            Some(Token::BeginList(_) | Token::BeginSet(_)) => {
+            Some(Token::BeginList | Token::BeginSet(_)) => {
                 self.pass();
                 Ok(())
             }
@@ -230,7 +248,7 @@ impl<'v> Format for Tape<'v> {
 
     fn begin_map(&mut self, _input: &[u8]) -> Result<()> {
         match self.look() {
-            Some(Token::BeginMap(_, _)) => {
+            Some(Token::BeginMap(_)) => {
                 self.pass();
                 Ok(())
             }
@@ -245,8 +263,8 @@ impl<'v> Format for Tape<'v> {
     // A struct is read from a list too, and not from a set.
     fn begin_struct(&mut self, _input: &[u8]) -> Result<bool> {
         let is_list = match self.look() {
-            Some(Token::BeginMap(_, _)) => false,
-            Some(Token::BeginList(_)) => true,
+            Some(Token::BeginMap(_)) => false,
+            Some(Token::BeginList) => true,
             _ => return Err(fault(ErrorImpl::ExpectedMap)),
         };
         self.pass();
@@ -282,7 +300,16 @@ impl<'v> Format for Tape<'v> {
     }
 
     fn variant(&mut self, _input: &[u8], names: &[Name<'_>]) -> Result<usize> {
-        Ok(serde::find(names, self.text(ErrorImpl::ExpectedEnum)?))
+        if !kinds::are_asked(names) {
+            return Ok(serde::find(names, self.text(ErrorImpl::ExpectedEnum)?));
+        }
+        match self.look() {
+            Some(token) => {
+                self.doubt = Doubt::Told;
+                Ok(serde::find(names, kinds::of_token(&token)))
+            }
+            None => Err(self.wrong_len()),
+        }
     }
 
     fn skip(&mut self, _input: &[u8]) -> Result<()> {

@@ -11,8 +11,10 @@ mod builder;
 mod events;
 mod fault;
 mod format;
+mod kinds;
 mod open;
 mod set;
+mod symbol;
 mod tape;
 mod typed;
 mod with;
@@ -22,4 +24,4 @@ pub use tape::{Mark, Tape};
 pub use typed::{
     from_attribute_value, from_item, from_items, read_attribute_value, to_attribute_value, to_item,
 };
-pub use with::{binary_set, byte_buf, bytes, number_set, string_set};
+pub use with::{attribute_value, binary_set, byte_buf, bytes, item, number_set, string_set};

@@ -2,23 +2,23 @@
 ghost use Rattle.std.specs.Prelude.{◌≡◌, string_bytes, Some, OnOk};
 ghost use Rattle.std.specs.FinMap.Entries.{put as put_entry};
 ghost use Rattle.dynamo_value.specs.View.{view, entries_view, text_cmp};
-ghost use Rattle.dynamo_serde.specs.Sent.{put_in, key_in, set_in};
-ghost use Rattle.dynamo_serde.specs.SetKind.{kind_of};
+ghost use Rattle.dynamo_serde.specs.Sent.{put_in, key_in, symbol_in};
+ghost use Rattle.dynamo_serde.specs.SetKind.{symbol_of};
 ghost use Rattle.dynamo_serde.specs.Building.{frame};
 
 use crate::fault::fault;
-use crate::set::{SetKind, set_of};
+use crate::symbol::{Symbol, converted};
 use dynamo_value::{AttributeValue, Error, ErrorImpl, Result};
 use std::alloc::Global;
 use std::collections::HashMap;
 
-// What is being built: the whole, a list, a map, or a set in the place of a map.
+// What is being built: the whole, a list, a map, or what stands under a symbol in the place of a map.
 #[derive(Drop)]
 pub(crate) enum Open {
     Whole(Option<AttributeValue>),
     List(Vec<AttributeValue>),
     Map(OpenMap),
-    Set(SetKind, Option<AttributeValue>),
+    Marked(Symbol, Option<AttributeValue>),
 }
 
 #[derive(Drop)]
@@ -60,10 +60,19 @@ impl Open {
                 Some(key) => insert(&mut map.entries, key, value),
                 None => Err(fault(ErrorImpl::SerializeMapValueBeforeKey)),
             },
-            Open::Set(kind, slot) => {
-                *slot = Some(set_of(alloc, *kind, value)?);
+            Open::Marked(symbol, slot) => {
+                *slot = Some(converted(alloc, *symbol, value)?);
                 Ok(())
             }
+        }
+    }
+
+    // How many lists and maps are open with this one, of which a symbol stands for one map and what is in it.
+    pub(crate) fn levels_after(&self, levels: usize) -> usize {
+        match self {
+            Open::Whole(_) => levels,
+            Open::List(_) | Open::Map(_) => levels.saturating_add(1),
+            Open::Marked(_, _) => levels.saturating_sub(1),
         }
     }
 
@@ -79,9 +88,9 @@ impl Open {
         }
     }
 
-    // A map without members becomes a set of this kind.
-    pub(crate) fn become_set(&mut self, kind: SetKind) -> Result<()>
-        ensures { OnOk result (set_in (frame self.old) (kind_of kind) ≡ Some (frame self.new)) }
+    // A map without members becomes what this symbol says.
+    pub(crate) fn set_symbol(&mut self, symbol: Symbol) -> Result<()>
+        ensures { OnOk result (symbol_in (frame self.old) (symbol_of symbol) ≡ Some (frame self.new)) }
     {
         let is_fresh = match self {
             Open::Map(map) => map.shared == 0 && map.entries.is_empty(),
@@ -90,7 +99,7 @@ impl Open {
         if !is_fresh {
             return Err(fault(ErrorImpl::NotSetlike));
         }
-        *self = Open::Set(kind, None);
+        *self = Open::Marked(symbol, None);
         Ok(())
     }
 }

@@ -1,5 +1,12 @@
 // An attribute value laid out as a row of tokens, which serde's steps walk along.
+ghost use Rattle.std.specs.Prelude.{◌≡◌, [], ◌∷◌, ◌++◌, List, map, string_bytes, false, IfOk, OnOk, MatchOption};
+ghost use Rattle.dynamo_value.specs.Av as av;
+ghost use Rattle.dynamo_value.specs.View.{view, elements_view, members_view};
+ghost use Rattle.dynamo_serde.specs.Laid.{Token as Laid, Takes, TakesText, IsLaid};
+ghost use Rattle.dynamo_serde.specs.Tape.{token_of, row, ahead, place, Lays};
+
 use crate::fault::{LEVELS, fault, too_deep};
+use crate::set::SetKind;
 use dynamo_value::{AttributeValue, ErrorImpl, Result};
 use std::alloc::Global;
 use std::collections::HashMap;
@@ -11,13 +18,11 @@ pub(crate) enum Token<'v> {
     Number(&'v str),
     Text(&'v str),
     Bytes(&'v [u8]),
-    // A list, with the place after its end.
-    BeginList(usize),
-    // A set, with the place after its end.
-    BeginSet(usize),
+    BeginList,
+    BeginSet(SetKind),
     EndSeq,
-    // A map, with the place after its end and whether it has just one key.
-    BeginMap(usize, bool),
+    // A map, and whether it has just one key.
+    BeginMap(bool),
     EndMap,
     Key(&'v str),
 }
@@ -33,11 +38,13 @@ pub(crate) enum Doubt {
     Unit,
     // A value was looked at, without being read.
     Looked,
+    // Its kind was told, so that a number may be read as its text, and NULL as a boolean.
+    Told,
     // It is the map of an enum, with no variant in it or with more than one.
     Variant,
 }
 
-/// What is left to read of an attribute value.
+/// What is left to read of an attribute value: a `Format` of serde's, whose steps say what they read (`specs/Laid.antt`).
 #[derive(Drop)]
 pub struct Tape<'v> {
     pub(crate) alloc: Global,
@@ -52,36 +59,42 @@ pub struct Mark {
     at: usize,
 }
 
-// A row of texts or byte strings, with room for two ends.
-fn after(tokens: &Vec<Token<'_>>, inside: usize) -> usize {
-    tokens.len().saturating_add(inside).saturating_add(2)
-}
-
-fn lay_texts<'v>(texts: &'v Vec<String>, tokens: &mut Vec<Token<'v>>) -> Result<()> {
-    tokens.push(Token::BeginSet(after(tokens, texts.len())))?;
-    for text in texts {
-        tokens.push(Token::Text(text.as_str()))?;
-    }
-    tokens.push(Token::EndSeq)?;
+// Lays one token more.
+fn lay_one<'v>(token: Token<'v>, tokens: &mut Vec<Token<'v>>) -> Result<()>
+    ensures { OnOk result (row tokens.new.items ≡ row tokens.old.items ++ token_of token.entry ∷ []) }
+{
+    tokens.push(token)?;
     Ok(())
 }
 
-fn lay_numbers<'v>(texts: &'v Vec<String>, tokens: &mut Vec<Token<'v>>) -> Result<()> {
-    tokens.push(Token::BeginSet(after(tokens, texts.len())))?;
+fn lay_texts<'v>(texts: &'v Vec<String>, tokens: &mut Vec<Token<'v>>) -> Result<()>
+    ensures { OnOk result (Lays tokens.old.items (IsLaid (av.Ss (map string_bytes texts.now.items))) tokens.new.items) }
+{
+    lay_one(Token::BeginSet(SetKind::Strings), tokens)?;
     for text in texts {
-        tokens.push(Token::Number(text.as_str()))?;
+        lay_one(Token::Text(text.as_str()), tokens)?;
     }
-    tokens.push(Token::EndSeq)?;
-    Ok(())
+    lay_one(Token::EndSeq, tokens)
 }
 
-fn lay_blobs<'v>(blobs: &'v Vec<Vec<u8>>, tokens: &mut Vec<Token<'v>>) -> Result<()> {
-    tokens.push(Token::BeginSet(after(tokens, blobs.len())))?;
+fn lay_numbers<'v>(texts: &'v Vec<String>, tokens: &mut Vec<Token<'v>>) -> Result<()>
+    ensures { OnOk result (Lays tokens.old.items (IsLaid (av.Ns (map string_bytes texts.now.items))) tokens.new.items) }
+{
+    lay_one(Token::BeginSet(SetKind::Numbers), tokens)?;
+    for text in texts {
+        lay_one(Token::Number(text.as_str()), tokens)?;
+    }
+    lay_one(Token::EndSeq, tokens)
+}
+
+fn lay_blobs<'v>(blobs: &'v Vec<Vec<u8>>, tokens: &mut Vec<Token<'v>>) -> Result<()>
+    ensures { OnOk result (Lays tokens.old.items (IsLaid (av.Bs (map (λ b. b.items) blobs.now.items))) tokens.new.items) }
+{
+    lay_one(Token::BeginSet(SetKind::Blobs), tokens)?;
     for blob in blobs {
-        tokens.push(Token::Bytes(blob.as_slice()))?;
+        lay_one(Token::Bytes(blob.as_slice()), tokens)?;
     }
-    tokens.push(Token::EndSeq)?;
-    Ok(())
+    lay_one(Token::EndSeq, tokens)
 }
 
 // Lists and maps may still nest `levels` deep.
@@ -91,20 +104,21 @@ fn lay<'v>(
     value: &'v AttributeValue,
     levels: usize,
     tokens: &mut Vec<Token<'v>>,
-) -> Result<()> {
+) -> Result<()>
+    ensures { OnOk result (Lays tokens.old.items (IsLaid (view value.now)) tokens.new.items) }
+{
     match value {
-        AttributeValue::N(text) => tokens.push(Token::Number(text.as_str()))?,
-        AttributeValue::S(text) => tokens.push(Token::Text(text.as_str()))?,
-        AttributeValue::Bool(b) => tokens.push(Token::Bool(*b))?,
-        AttributeValue::B(bytes) => tokens.push(Token::Bytes(bytes.as_slice()))?,
-        AttributeValue::Null(b) => tokens.push(Token::Null(*b))?,
-        AttributeValue::M(map) => lay_map(alloc, map, levels, tokens)?,
-        AttributeValue::L(items) => lay_list(alloc, items, levels, tokens)?,
-        AttributeValue::Ss(texts) => lay_texts(texts, tokens)?,
-        AttributeValue::Ns(texts) => lay_numbers(texts, tokens)?,
-        AttributeValue::Bs(blobs) => lay_blobs(blobs, tokens)?,
+        AttributeValue::N(text) => lay_one(Token::Number(text.as_str()), tokens),
+        AttributeValue::S(text) => lay_one(Token::Text(text.as_str()), tokens),
+        AttributeValue::Bool(b) => lay_one(Token::Bool(*b), tokens),
+        AttributeValue::B(bytes) => lay_one(Token::Bytes(bytes.as_slice()), tokens),
+        AttributeValue::Null(b) => lay_one(Token::Null(*b), tokens),
+        AttributeValue::M(map) => lay_map(alloc, map, levels, tokens),
+        AttributeValue::L(items) => lay_list(alloc, items, levels, tokens),
+        AttributeValue::Ss(texts) => lay_texts(texts, tokens),
+        AttributeValue::Ns(texts) => lay_numbers(texts, tokens),
+        AttributeValue::Bs(blobs) => lay_blobs(blobs, tokens),
     }
-    Ok(())
 }
 
 #[cycle(lay)]
@@ -113,21 +127,17 @@ fn lay_list<'v>(
     items: &'v Vec<AttributeValue>,
     levels: usize,
     tokens: &mut Vec<Token<'v>>,
-) -> Result<()> {
+) -> Result<()>
+    ensures { OnOk result (Lays tokens.old.items (IsLaid (av.L (elements_view items.now.items))) tokens.new.items) }
+{
     let Some(levels) = levels.checked_sub(1) else {
         return Err(too_deep(alloc));
     };
-    let start = tokens.len();
-    tokens.push(Token::BeginList(0))?;
+    lay_one(Token::BeginList, tokens)?;
     for item in items {
         lay(alloc, item, levels, tokens)?;
     }
-    tokens.push(Token::EndSeq)?;
-    let end = tokens.len();
-    if let Some(token) = tokens.get_mut(start) {
-        *token = Token::BeginList(end);
-    }
-    Ok(())
+    lay_one(Token::EndSeq, tokens)
 }
 
 // The entries come in ascending order of the bytes of their keys.
@@ -137,32 +147,31 @@ fn lay_map<'v>(
     map: &'v HashMap<String, AttributeValue>,
     levels: usize,
     tokens: &mut Vec<Token<'v>>,
-) -> Result<()> {
+) -> Result<()>
+    ensures { OnOk result (Lays tokens.old.items (IsLaid (av.M (members_view map.now.entries))) tokens.new.items) }
+{
     let Some(levels) = levels.checked_sub(1) else {
         return Err(too_deep(alloc));
     };
-    let start = tokens.len();
-    tokens.push(Token::BeginMap(0, false))?;
+    lay_one(Token::BeginMap(map.len() == 1), tokens)?;
     let mut entries = Vec::with_capacity(alloc, map.len())?;
     for entry in map.iter() {
         entries.push(entry)?;
     }
     entries.sort_unstable_by(|a, b| a.0.cmp(b.0));
     for (key, value) in entries {
-        tokens.push(Token::Key(key.as_str()))?;
+        lay_one(Token::Key(key.as_str()), tokens)?;
         lay(alloc, value, levels, tokens)?;
     }
-    tokens.push(Token::EndMap)?;
-    let end = tokens.len();
-    if let Some(token) = tokens.get_mut(start) {
-        *token = Token::BeginMap(end, map.len() == 1);
-    }
-    Ok(())
+    lay_one(Token::EndMap, tokens)
 }
 
 impl<'v> Tape<'v> {
-    // The tape of an attribute value. What nests more than 127 levels deep is refused by a message.
-    pub(crate) fn new(alloc: Global, value: &'v AttributeValue) -> Result<Tape<'v>> {
+    /// The tape of an attribute value, at its start. What nests more than 127 levels deep is refused by a message, and
+    /// `OutOfMemory` comes where no memory is found.
+    pub fn new(alloc: Global, value: &'v AttributeValue) -> Result<Tape<'v>>
+        ensures { IfOk result (λ t. IsLaid (view value.now) (ahead t) × ((place t).told ≡ false)) }
+    {
         let mut tokens = Vec::new(alloc);
         lay(alloc, value, LEVELS, &mut tokens)?;
         Ok(Tape {
@@ -173,11 +182,10 @@ impl<'v> Tape<'v> {
         })
     }
 
-    // The tape of a map.
-    pub(crate) fn of_map(
-        alloc: Global,
-        map: &'v HashMap<String, AttributeValue>,
-    ) -> Result<Tape<'v>> {
+    /// The tape of a map, as [`Tape::new`].
+    pub fn of_map(alloc: Global, map: &'v HashMap<String, AttributeValue>) -> Result<Tape<'v>>
+        ensures { IfOk result (λ t. IsLaid (av.M (members_view map.now.entries)) (ahead t) × ((place t).told ≡ false)) }
+    {
         let mut tokens = Vec::new(alloc);
         lay_map(alloc, map, LEVELS, &mut tokens)?;
         Ok(Tape {
@@ -190,11 +198,20 @@ impl<'v> Tape<'v> {
 
     // The token that comes.
     #[inline(always)]
-    pub(crate) fn look(&self) -> Option<Token<'v>> {
+    pub(crate) fn look(&self) -> Option<Token<'v>>
+        ensures { MatchOption result (ahead self.now ≡ []) (λ t. (rest : List Laid) × (ahead self.now ≡ token_of t ∷ rest)) }
+    {
         match self.tokens.get(self.at) {
             Some(token) => Some(*token),
             None => None,
         }
+    }
+
+    // Whether the kind of what comes was told just before.
+    pub(crate) fn is_told(&self) -> bool
+        ensures { result ≡ (place self.now).told }
+    {
+        matches!(self.doubt, Doubt::Told)
     }
 
     // The token before.
@@ -211,32 +228,51 @@ impl<'v> Tape<'v> {
             return false;
         };
         match self.tokens.get(before) {
-            Some(Token::BeginMap(_, is_single)) => !*is_single,
+            Some(Token::BeginMap(is_single)) => !*is_single,
             _ => false,
         }
     }
 
+    // Passes over the token that comes.
     #[inline(always)]
-    pub(crate) fn pass(&mut self) {
-        self.at = self.at.saturating_add(1);
+    pub(crate) fn pass(&mut self)
+        ensures takes { (t : Laid) (rest : List Laid) → ahead self.old ≡ t ∷ rest → Takes (place self.old) t (place self.new) }
+        ensures tokens { self.new.tokens ≡ self.old.tokens }
+    {
+        if self.at < self.tokens.len() {
+            self.at += 1;
+        }
         self.doubt = Doubt::None;
     }
 
     // Passes over the token that comes, and what it begins.
-    #[inline(always)]
-    pub(crate) fn pass_whole(&mut self) {
-        match self.look() {
-            Some(Token::BeginList(end) | Token::BeginSet(end) | Token::BeginMap(end, _)) => {
-                self.at = end;
-                self.doubt = Doubt::None;
+    pub(crate) fn pass_whole(&mut self)
+        ensures { (passed : List Laid) × (ahead self.old ≡ passed ++ ahead self.new) }
+    {
+        let mut open: usize = 0;
+        for _ in 0..u64::MAX {
+            let Some(token) = self.look() else {
+                break;
+            };
+            self.pass();
+            open = match token {
+                Token::BeginList | Token::BeginSet(_) | Token::BeginMap(_) => open.saturating_add(
+                    1,
+                ),
+                Token::EndSeq | Token::EndMap => open.saturating_sub(1),
+                _ => open,
+            };
+            if open == 0 {
+                break;
             }
-            _ => self.pass(),
         }
     }
 
     // A text, of a value or of a key.
     #[inline(always)]
-    pub(crate) fn text(&mut self, otherwise: ErrorImpl) -> Result<&'v str> {
+    pub(crate) fn text(&mut self, otherwise: ErrorImpl) -> Result<&'v str>
+        ensures { IfOk result (λ s. TakesText (place self.old) s.now (place self.new)) }
+    {
         match self.look() {
             Some(Token::Text(text) | Token::Key(text)) => {
                 self.pass();

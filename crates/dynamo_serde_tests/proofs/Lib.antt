@@ -1,1 +1,2 @@
+mod AtTape
 mod Stated

@@ -1,5 +1,6 @@
 // An order is written and read.
-use crate::{Order, known};
+use crate::known::Any;
+use crate::{Order, known, known_read};
 use dynamo_serde::{from_attribute_value, from_items, to_attribute_value, to_item};
 use dynamo_value::{AttributeValue, Items};
 use serde_dynamo::DynamoJson;
@@ -101,5 +102,34 @@ fn known_values(rt: HostRuntime) -> Result<(), Fail> {
         all.as_str(),
         r#"{"BOOL":true}{"N":"-9223372036854775808"}{"S":"a"}{"NULL":true}{"L":[{"N":"1"},{"N":"18446744073709551615"}]}"#
     );
+    Ok(())
+}
+
+#[test]
+fn known_reads(rt: HostRuntime) -> Result<(), Fail> {
+    let alloc = rt.alloc();
+    let yes = known_read::boolean(alloc, &value(alloc, r#"{"BOOL":true}"#)?)?;
+    assert!(rt; yes);
+    let least = known_read::integer(alloc, &value(alloc, r#"{"N":"-9223372036854775808"}"#)?)?;
+    assert_eq!(rt; least, i64::MIN);
+    let most = known_read::small(alloc, &value(alloc, r#"{"N":"255"}"#)?)?;
+    assert_eq!(rt; most, 255);
+    assert!(rt; known_read::small(alloc, &value(alloc, r#"{"N":"256"}"#)?).is_err());
+    let text = known_read::text(alloc, &value(alloc, r#"{"S":"é"}"#)?)?;
+    assert_eq!(rt; text.as_str(), "é");
+    assert!(rt; known_read::text(alloc, &value(alloc, r#"{"N":"1"}"#)?).is_err());
+    let none = known_read::optional(alloc, &value(alloc, r#"{"NULL":true}"#)?)?;
+    assert!(rt; none.is_none());
+    let some = known_read::optional(alloc, &value(alloc, r#"{"BOOL":false}"#)?)?;
+    assert_eq!(rt; some, Some(false));
+    for json in [
+        r#"{"N":"1.50"}"#,
+        r#"{"NULL":false}"#,
+        r#"{"M":{"a":{"NS":["2.0","1"]},"b":{"L":[]}}}"#,
+    ] {
+        let any = Any(value(alloc, json)?);
+        let written = shown(alloc, known::attribute_value(alloc, &any))?;
+        assert_eq!(rt; written.as_str(), json);
+    }
     Ok(())
 }

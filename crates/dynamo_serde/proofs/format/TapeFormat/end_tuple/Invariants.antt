@@ -1,0 +1,7 @@
+use Rattle.std.proofs.Common.{◌≡◌, List, ◌++◌}
+use Rattle.dynamo_serde.specs.Laid.{Token}
+use Rattle.dynamo_serde.specs.Tape.{ahead}
+use Rattle.dynamo_serde.proofs.format.TapeFormat.end_tuple.Given as goal
+
+abbrev pub invariant-loop : goal.invariant-loop
+invariant-loop l = (passed : List Token) × (ahead l.initial.self ≡ passed ++ ahead l.self)
