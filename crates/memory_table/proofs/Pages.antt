@@ -4,9 +4,9 @@ use Rattle.std.proofs.lemmas.List.{take-map, append-nil}
 use Rattle.std.specs.List.{filter}
 use mathlib.Core.List.{reverse_aux}
 use Rattle.dynamo_value.specs.declared.item.Item.{Item}
-use Rattle.memory_table.specs.Query.{answer, finds, in_direction, seen}
-use Rattle.memory_table.specs.declared.key.Key.{Key}
-use Rattle.memory_table.specs.declared.query.Query.{Query}
+use Rattle.table_query.specs.Queries.{answer, finds, in_direction, seen}
+use Rattle.table_key.specs.declared.key.Key.{Key}
+use Rattle.table_query.specs.declared.query.Query.{Query}
 
 abbrev pub Lent : Type 0
 Lent = List (Bor Key × Bor Item)

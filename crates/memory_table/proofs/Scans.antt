@@ -9,10 +9,10 @@ use Rattle.std.specs.List.Sorted.{IsStrictlySortedBy}
 use Rattle.std.specs.Map.{keys_of}
 use Rattle.std.specs.Ordering.{is_lt, ordering_reverse}
 use Rattle.dynamo_value.specs.declared.item.Item.{Item}
-use Rattle.memory_table.specs.KeyLaws.{key_total}
-use Rattle.memory_table.specs.KeyOrder.{key_cmp}
-use Rattle.memory_table.specs.Query.{is_behind, rest}
-use Rattle.memory_table.specs.declared.key.Key.{Key}
+use Rattle.table_key.specs.KeyLaws.{key_total}
+use Rattle.table_key.specs.KeyOrder.{key_cmp}
+use Rattle.table_query.specs.Queries.{is_behind, rest}
+use Rattle.table_key.specs.declared.key.Key.{Key}
 use Rattle.memory_table.proofs.Pages.{Entries}
 
 abbrev above : Key → Key × Item → Bool

@@ -1,21 +1,17 @@
 -- What a change of a table answers, and what it leaves.
-use Rattle.std.specs.Prelude.{◌≡◌, Bool, true, not, Option, Some, None, Result, Ok, Err, MatchResult, MatchOption, is_some}
+use Rattle.std.specs.Prelude.{◌≡◌, Option, Some, None, Result, Ok, Err, MatchResult, MatchOption, is_some}
 use Rattle.std.specs.BTreeMap.{get, Updates}
 use Rattle.std.specs.Bool.{MatchBool}
 use Rattle.std.specs.Ordering.{is_ne}
 use Rattle.dynamo_value.specs.declared.item.Item.{Item}
 use Rattle.memory_table.specs.Content.{items_of, entries_of, schema_of}
-use Rattle.memory_table.specs.KeyOf.{ReadsKey}
-use Rattle.memory_table.specs.KeyOrder.{key_cmp}
-use Rattle.memory_table.specs.declared.error.TableError.{TableError}
-use Rattle.memory_table.specs.declared.key.Key.{Key}
-use Rattle.memory_table.specs.declared.table.Condition.{Condition}
+use Rattle.table_key.specs.KeyOf.{ReadsKey}
+use Rattle.table_key.specs.KeyOrder.{key_cmp}
+use Rattle.table_key.specs.declared.error.TableError.{TableError}
+use Rattle.table_key.specs.declared.key.Key.{Key}
+use Rattle.table_query.specs.Conditions.{holds}
+use Rattle.table_query.specs.declared.condition.Condition.{Condition}
 use Rattle.memory_table.specs.declared.table.Table.{Table}
-
-abbrev pub holds : Condition → Bool → Bool
-holds Condition.Always exists = true
-holds Condition.Exists exists = exists
-holds Condition.NotExists exists = not exists
 
 -- the call is refused by this error, and the table has the items that it had
 abbrev pub Refuses : {A : Type 0} → TableError → Table → Table → Result A TableError → Type 0

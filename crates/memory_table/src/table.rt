@@ -1,48 +1,23 @@
 ghost use Rattle.std.specs.Prelude.{◌≡◌, None, [], IsTrue, ◌↔◌, length, option_map, OnOk};
 ghost use Rattle.std.specs.BTreeMap.{get, IsOrdered, Updates};
 ghost use Rattle.std.specs.Fn.{FnOnceReturnsAt};
-ghost use Rattle.memory_table.specs.Change.{DeletesIf, PutsIf, Replaces, UpdatesItem, holds};
+ghost use Rattle.memory_table.specs.Change.{DeletesIf, PutsIf, Replaces, UpdatesItem};
 ghost use Rattle.memory_table.specs.Content.{items_of, entries_of, schema_of};
-ghost use Rattle.memory_table.specs.KeyOf.{ReadsKey};
-ghost use Rattle.memory_table.specs.KeyOrder.{key_cmp};
-ghost use Rattle.memory_table.specs.declared.table.Condition.TheVariants.{Always};
+ghost use Rattle.table_key.specs.KeyOf.{ReadsKey};
+ghost use Rattle.table_key.specs.KeyOrder.{key_cmp};
+ghost use Rattle.table_query.specs.declared.condition.Condition.TheVariants.{Always};
 
-use crate::{Key, KeySchema, TableError};
 use dynamo_value::Item;
 use std::alloc::Global;
 use std::collections::BTreeMap;
+use table_key::{Key, KeySchema, TableError};
+use table_query::Condition;
 
 /// A DynamoDB table in memory: items by their keys, in the keys' order.
 #[derive(Debug, Drop)]
 pub struct Table {
     schema: KeySchema,
     items: BTreeMap<Key, Item>,
-}
-
-/// On what a change depends.
-#[derive(Clone, Copy, Debug, PartialEq, Eq)]
-pub enum Condition {
-    /// On nothing.
-    Always,
-
-    /// The key has an item: `attribute_exists` of the partition key.
-    Exists,
-
-    /// The key has no item: `attribute_not_exists` of the partition key.
-    NotExists,
-}
-
-impl Condition {
-    // Whether the condition holds at a key that has an item, or has none.
-    fn holds(self, exists: bool) -> bool
-        ensures { result ≡ holds self exists }
-    {
-        match self {
-            Condition::Always => true,
-            Condition::Exists => exists,
-            Condition::NotExists => !exists,
-        }
-    }
 }
 
 impl Table {

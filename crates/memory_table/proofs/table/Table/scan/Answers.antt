@@ -2,8 +2,8 @@ use Rattle.std.proofs.Common.{◌≡◌, ◌-◌, [], ◌∷◌, ◌++◌, take,
 use Rattle.std.proofs.lemmas.List.{map-append}
 use Rattle.std.proofs.lemmas.Slice.{pushed}
 use Rattle.dynamo_value.specs.declared.item.Item.{Item}
-use Rattle.memory_table.specs.Query.{rest, seen}
-use Rattle.memory_table.specs.declared.key.Key.{Key}
+use Rattle.table_query.specs.Queries.{rest, seen}
+use Rattle.table_key.specs.declared.key.Key.{Key}
 use Rattle.memory_table.proofs.Pages.{one_more, Entries}
 use Rattle.memory_table.proofs.table.Table.scan.Goals as goal
 

@@ -1,6 +1,6 @@
 use Rattle.std.proofs.Common.{◌≡◌, ◌++◌, ◌-◌, ◌≤◌, take, vec_len}
 use Rattle.memory_table.specs.Content.{entries_of}
-use Rattle.memory_table.specs.Query.{rest, seen}
+use Rattle.table_query.specs.Queries.{rest, seen}
 use Rattle.memory_table.proofs.table.Table.scan.Given as goal
 
 -- what is on the page, and what comes behind it up to the limit, are all

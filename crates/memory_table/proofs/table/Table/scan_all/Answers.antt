@@ -3,8 +3,8 @@ use Rattle.std.proofs.lemmas.List.{map-append, append-nil, length-map}
 use Rattle.std.proofs.lemmas.Slice.{pushed}
 use Rattle.dynamo_value.specs.declared.item.Item.{Item}
 use Rattle.memory_table.specs.Content.{entries_of}
-use Rattle.memory_table.specs.Query.{rest, seen}
-use Rattle.memory_table.specs.declared.key.Key.{Key}
+use Rattle.table_query.specs.Queries.{rest, seen}
+use Rattle.table_key.specs.declared.key.Key.{Key}
 use Rattle.memory_table.proofs.Pages.{Entries, Lent}
 use Rattle.memory_table.proofs.Scans.{page_left, page_none, rest_of_all}
 use Rattle.memory_table.proofs.table.Table.scan_all.Goals as goal

@@ -1,0 +1,6 @@
+pub mod Decimals
+pub mod Longs
+pub mod Marks
+pub mod Normals
+pub mod Scaled
+pub mod Sizes

@@ -1,0 +1,67 @@
+ghost use Rattle.std.specs.Prelude.{◌≡◌};
+ghost use Rattle.table_key.specs.declared.error.TableError.TheVariants.{OutOfMemory};
+
+use std::alloc::{AllocError, AllocFailed};
+use std::fmt;
+
+/// Why a call on a table was refused. The table is then as it was.
+#[derive(Clone, Copy, Debug, PartialEq, Eq)]
+pub enum TableError {
+    /// The item lacks an attribute of the key.
+    Missing,
+
+    /// The value of an attribute of the key is of another kind.
+    WrongKind,
+
+    /// A text or a byte string of the key is empty.
+    Empty,
+
+    /// The text of a number of the key is no number that DynamoDB keeps.
+    NotANumber,
+
+    /// No item is there to be updated.
+    NoItem,
+
+    /// An update would give the item another key.
+    KeyChanged,
+
+    /// The condition doesn't hold.
+    ConditionFailed,
+
+    /// No memory was found.
+    OutOfMemory,
+}
+
+impl From<AllocError> for TableError {
+    ghost from_gives = { λ _ e. e ≡ OutOfMemory };
+
+    fn from(_: AllocError) -> TableError {
+        TableError::OutOfMemory
+    }
+}
+
+/// What could not be stored is let go.
+impl<T: Drop> From<AllocFailed<T>> for TableError {
+    ghost from_gives = { λ _ e. e ≡ OutOfMemory };
+
+    fn from(_: AllocFailed<T>) -> TableError {
+        TableError::OutOfMemory
+    }
+}
+
+impl fmt::Display for TableError {
+    fn fmt<W: fmt::Write>(&self, f: &mut fmt::Formatter<W>) -> fmt::Result {
+        f.write_str(match self {
+            TableError::Missing => "the item lacks an attribute of the key",
+            TableError::WrongKind => "an attribute of the key is of another kind",
+            TableError::Empty => "a text or a byte string of the key is empty",
+            TableError::NotANumber => "a number of the key is no number",
+            TableError::NoItem => "no item has the key",
+            TableError::KeyChanged => "the update would give the item another key",
+            TableError::ConditionFailed => "the condition does not hold",
+            TableError::OutOfMemory => "out of memory",
+        })
+    }
+}
+
+impl std::error::Error for TableError {}

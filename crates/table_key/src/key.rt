@@ -1,0 +1,130 @@
+ghost use Rattle.std.specs.Prelude.{◌≡◌, ◌≢◌, refl, MatchOption};
+ghost use Rattle.std.specs.Cmp.{partial_equiv_from_equiv, eq_by_cmp_equiv, po};
+ghost use Rattle.std.specs.Ordering.{eq_by_cmp, as_partial_cmp, nat_cmp};
+ghost use Rattle.table_key.specs.KeyOrder.{kind_name, kind_rank, value_cmp};
+ghost use Rattle.table_key.specs.KeyLaws.{value_total};
+
+use dynamo_number::Number;
+use std::cmp::Ordering;
+
+/// The kinds of attributes that can be a part of a key.
+#[derive(Clone, Copy, Debug, PartialEq, Eq)]
+pub enum KeyKind {
+    /// A text.
+    S,
+
+    /// A number.
+    N,
+
+    /// A byte string.
+    B,
+}
+
+/// The value of a part of a key.
+///
+/// Texts and byte strings compare by their bytes, numbers by value, and any text comes before any number, that before any
+/// byte string.
+#[derive(Debug, Drop)]
+pub enum KeyValue {
+    /// A text.
+    S(String),
+
+    /// A number.
+    N(Number),
+
+    /// A byte string.
+    B(Vec<u8>),
+}
+
+/// The key of an item: its value of the partition key, and of the sort key where the table has one.
+///
+/// Keys compare by the partition key and then by the sort key.
+#[derive(Debug, Drop, PartialEq, Eq, PartialOrd, Ord)]
+pub struct Key {
+    /// The value of the partition key.
+    pub partition: KeyValue,
+
+    /// The value of the sort key, where the table has one.
+    pub sort: Option<KeyValue>,
+}
+
+impl KeyKind {
+    /// The letter of this kind, as DynamoDB writes it: `S`, `N` or `B`.
+    pub fn name(self) -> &'static str
+        ensures { result.now ≡ kind_name self }
+    {
+        match self {
+            KeyKind::S => "S",
+            KeyKind::N => "N",
+            KeyKind::B => "B",
+        }
+    }
+
+    /// The kind of a letter, if it is the letter of one.
+    pub fn parse(name: &str) -> Option<KeyKind>
+        ensures { MatchOption result ((kind : KeyKind) → name.now ≢ kind_name kind) (λ kind. name.now ≡ kind_name kind) }
+    {
+        match name {
+            "S" => Some(KeyKind::S),
+            "N" => Some(KeyKind::N),
+            "B" => Some(KeyKind::B),
+            _ => None,
+        }
+    }
+}
+
+impl KeyValue {
+    /// Where values of this kind stand among those of others: texts first, byte strings last.
+    pub fn rank(&self) -> u8
+        ensures { result ≡ kind_rank self.now }
+    {
+        match self {
+            KeyValue::S(_) => 0,
+            KeyValue::N(_) => 1,
+            KeyValue::B(_) => 2,
+        }
+    }
+}
+
+impl PartialEq for KeyValue {
+    ghost eq = { eq_by_cmp value_cmp };
+
+    ghost laws = { partial_equiv_from_equiv (eq_by_cmp_equiv value_total) };
+
+    fn eq(&self, other: &KeyValue) -> bool {
+        self.cmp(other) == Ordering::Equal
+    }
+}
+
+impl Eq for KeyValue {
+    ghost laws = { eq_by_cmp_equiv value_total };
+}
+
+impl PartialOrd for KeyValue {
+    ghost partial_cmp = { as_partial_cmp value_cmp };
+
+    ghost laws = { po value_total (λ _ _. refl) };
+
+    fn partial_cmp(&self, other: &KeyValue) -> Option<Ordering> {
+        Some(self.cmp(other))
+    }
+}
+
+impl Ord for KeyValue {
+    ghost cmp = { value_cmp };
+
+    ghost total = { value_total };
+
+    ghost matches_partial_cmp = { λ _ _. refl };
+
+    ghost matches_eq = { λ _ _. refl };
+
+    fn cmp(&self, other: &KeyValue) -> Ordering {
+        match (self, other) {
+            (KeyValue::S(text), KeyValue::S(other)) => text.cmp(other),
+            (KeyValue::N(number), KeyValue::N(other)) => number.cmp(other),
+            (KeyValue::B(bytes), KeyValue::B(other)) => bytes.cmp(other),
+            _ => self.rank().cmp(&other.rank()),
+        }
+    }
+}

@@ -1,0 +1,17 @@
+//! Laws that tie the definitions together. Each is a function that does nothing, whose contract says the law.
+ghost use Rattle.std.specs.Prelude.{◌≡◌, ℕ, ℤ, List, Ok};
+ghost use Rattle.dynamo_value.specs.declared.item.Item.{Item};
+ghost use Rattle.table_key.specs.KeyOf.{ReadsKey};
+ghost use Rattle.table_key.specs.KeyOrder.{key_cmp};
+ghost use Rattle.dynamo_number.specs.Numbers.{IsNumber};
+ghost use Rattle.table_key.specs.declared.key.Key.{Key};
+ghost use Rattle.table_key.specs.declared.schema.KeySchema.{KeySchema};
+ghost use Rattle.std.specs.declared.cmp.Ordering.TheVariants.{Equal};
+
+/// All keys that are read from one item are one key, so that what is put is found under every key that is read from it; a text
+/// says one number.
+pub fn one_key()
+    ensures key { (schema : KeySchema) (item : Item) (key other : Key)
+        → ReadsKey schema item (Ok key) → ReadsKey schema item (Ok other) → key_cmp key other ≡ Equal }
+    ensures number { (text : List ℕ) (y z : ℤ) → IsNumber text y → IsNumber text z → y ≡ z }
+{}

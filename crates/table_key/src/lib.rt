@@ -1,0 +1,12 @@
+//! The keys of a DynamoDB table: which attributes they are, how they are read from an item, and how they compare.
+#![tactic(auto)]
+
+mod error;
+mod key;
+pub mod laws;
+mod schema;
+
+pub use dynamo_number::Number;
+pub use error::TableError;
+pub use key::{Key, KeyKind, KeyValue};
+pub use schema::{KeyAttribute, KeySchema};
