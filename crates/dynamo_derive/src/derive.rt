@@ -105,6 +105,3 @@ fn print_enum_import(
         _ => Ok(()),
     }
 }
-
-#[cfg(test)]
-mod tests;

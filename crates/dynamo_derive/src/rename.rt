@@ -1,7 +1,7 @@
 use std::alloc::{AllocError, Global};
 
 /// How serde writes the names of fields and of variants, after `rename_all`.
-#[derive(Clone, Copy, Debug, PartialEq, Eq)]
+#[derive(Clone, Copy)]
 pub enum RenameRule {
     Lower,
     Upper,
@@ -106,6 +106,3 @@ fn kebab(alloc: Global, snake: &str) -> Result<String, AllocError> {
     }
     Ok(name)
 }
-
-#[cfg(test)]
-mod tests;
