@@ -1,0 +1,47 @@
+-- What a table of one type holds: the items of its values, under their keys.
+use Rattle.std.specs.Prelude.{◌≡◌, ◌⊎◌, Option, Some, None, Result, Ok, Err, MatchOption, MatchResult}
+use Rattle.std.specs.BTreeMap.{get}
+use Rattle.dynamo_value.specs.Av as av
+use Rattle.dynamo_value.specs.Fault.{Fault, out_of_memory}
+use Rattle.dynamo_value.specs.Item.{item_view}
+use Rattle.dynamo_value.specs.Kind.{fault_of}
+use Rattle.dynamo_value.specs.declared.error.Error.{Error}
+use Rattle.dynamo_value.specs.declared.item.Item.{Item}
+use Rattle.dynamo_ser.specs.Datum.{Datum}
+use Rattle.dynamo_de.specs.Meets.{Meets}
+use Rattle.dynamo_de.specs.Source.{Source, attribute}
+use Rattle.dynamo_write.specs.Written.{item_written}
+use Rattle.dynamo_shape.specs.Conforms.{conforms}
+use Rattle.dynamo_shape.specs.Shape.{Shape}
+use Rattle.table_key.specs.KeyOf.{ReadsKey}
+use Rattle.table_key.specs.KeyOrder.{key_cmp}
+use Rattle.table_key.specs.declared.error.TableError.{TableError}
+use Rattle.table_key.specs.declared.key.Key.{Key}
+use Rattle.table_key.specs.declared.schema.KeySchema.{KeySchema}
+use Rattle.memory_table.specs.Content.{items_of}
+use Rattle.memory_table.specs.declared.table.Table.{Table}
+use Rattle.typed_table.specs.declared.error.StoreError.{StoreError}
+use Rattle.typed_table.specs.declared.table.TypedTable.{TypedTable}
+
+abbrev pub table_of : {T : Type 0} → TypedTable T → Table
+table_of t = t.table
+
+-- the item is the one that the value is written as, and what the value tells is of the type's shape
+abbrev pub IsItemOf : {T : Type 0} → Shape → (T → Datum) → T → Item → Type 0
+IsItemOf shape tells value item = conforms shape (tells value) × (item_written (tells value) ≡ Ok (item_view item))
+
+-- the table has the value's item under the key
+abbrev pub Holds : {T : Type 0} → Shape → (T → Datum) → Table → Key → T → Type 0
+Holds shape tells table key value = (item : Item) × (get key_cmp (items_of table) key ≡ Some item) × IsItemOf shape tells value item
+
+-- what is read of the item under a key, where there is one
+abbrev pub ReadsAt : {T : Type 0} → (Source → Result T Fault → Type 0) → Option Item → Result (Option T) Error → Type 0
+ReadsAt reads None r = r ≡ Ok None
+ReadsAt reads (Some item) (Ok None) = ⊥
+ReadsAt reads (Some item) (Ok (Some value)) = reads (attribute (av.M (item_view item))) (Ok value)
+ReadsAt reads (Some item) (Err e) = (fault_of e ≡ out_of_memory) ⊎ reads (attribute (av.M (item_view item))) (Err (fault_of e))
+
+-- Why a value isn't put: writing it as an item gives this fault, its item has this error in place of a key, or memory is wanting.
+abbrev pub FailsToPut : {T : Type 0} → Shape → (T → Datum) → KeySchema → T → StoreError → Type 0
+FailsToPut shape tells schema value (StoreError.Value e) = (item_written (tells value) ≡ Err (fault_of e)) ⊎ (fault_of e ≡ out_of_memory)
+FailsToPut shape tells schema value (StoreError.Table e) = ((item : Item) × IsItemOf shape tells value item × ReadsKey schema item (Err e)) ⊎ (e ≡ TableError.OutOfMemory)

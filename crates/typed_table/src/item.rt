@@ -1,0 +1,45 @@
+//! Values as items, and back.
+
+ghost use Rattle.std.specs.Prelude.{◌≡◌, ◌⊎◌, Err, IfOk, IfErr, MatchResult};
+ghost use Rattle.dynamo_value.specs.Av as av;
+ghost use Rattle.dynamo_value.specs.Fault.{out_of_memory};
+ghost use Rattle.dynamo_value.specs.Item.{item_view};
+ghost use Rattle.dynamo_value.specs.Kind.{fault_of};
+ghost use Rattle.dynamo_de.specs.Meets.{Meets};
+ghost use Rattle.dynamo_de.specs.Source.{attribute};
+ghost use Rattle.dynamo_write.specs.Written.{item_written};
+ghost use Rattle.dynamo_shape.specs.Clear.{Clear};
+ghost use Rattle.typed_table.specs.Stored.{IsItemOf};
+
+use dynamo_read::from_item;
+use dynamo_types::Shaped;
+use dynamo_value::{Item, Result};
+use dynamo_write::to_item;
+use std::alloc::Global;
+
+/// The item of a value.
+///
+/// # Errors
+///
+/// The fault of writing it as an item, or want of memory.
+pub(crate) fn item_of<T: Shaped>(alloc: Global, value: &T) -> Result<Item>
+    ensures ok { IfOk result (λ item. IsItemOf T.about.shape T.tells value.now item) }
+    ensures err { IfErr result (λ e. (item_written (T.tells value.now) ≡ Err (fault_of e)) ⊎ (fault_of e ≡ out_of_memory)) }
+{
+    value.conforms();
+    to_item(alloc, value)
+}
+
+/// The value that an item reads as. Of the item of a value it is the same by value, where the shape is clear.
+///
+/// # Errors
+///
+/// What reading permits, or want of memory.
+pub(crate) fn value_of<T: Shaped>(alloc: Global, item: &Item) -> Result<T>
+    ensures read { Meets fault_of (T.reads (attribute (av.M (item_view item.now)))) result }
+    ensures clear { Clear T.about.shape → (value : T) → IsItemOf T.about.shape T.tells value item.now → MatchResult result (λ w. T.about.same value w) (λ e. fault_of e ≡ out_of_memory) }
+{
+    let value: T = from_item(alloc, item.clone()?)?;
+    value.conforms();
+    Ok(value)
+}

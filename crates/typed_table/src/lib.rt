@@ -1,0 +1,12 @@
+//! A table in memory of the values of one type, for the tests of a service.
+#![tactic(auto)]
+
+mod error;
+mod item;
+mod keyed;
+pub mod laws;
+mod table;
+
+pub use error::StoreError;
+pub use keyed::Keyed;
+pub use table::TypedTable;
