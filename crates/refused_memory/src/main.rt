@@ -14,6 +14,7 @@ mod json;
 mod leaf_readers;
 mod reading;
 mod stopped;
+mod tables;
 mod values;
 mod without_memory;
 mod writing;
@@ -21,7 +22,7 @@ mod writing;
 use std::{env, io};
 use stopped::Stopped;
 
-const ROWS: [&str; 33] = [
+const ROWS: [&str; 36] = [
     "write",
     "write_no_key",
     "custom",
@@ -55,6 +56,9 @@ const ROWS: [&str; 33] = [
     "scalars_written",
     "integers_read",
     "scalars_read",
+    "table_put_new",
+    "table_put_again",
+    "table_query",
 ];
 
 fn run(rt: &HostRuntime, row: &str) -> Result<(), Stopped> {
@@ -92,6 +96,9 @@ fn run(rt: &HostRuntime, row: &str) -> Result<(), Stopped> {
         "scalars_written" => without_memory::scalars_written(rt),
         "integers_read" => without_memory::integers_read(rt),
         "scalars_read" => without_memory::scalars_read(rt),
+        "table_put_new" => tables::put_new(rt),
+        "table_put_again" => tables::put_again(rt),
+        "table_query" => tables::query(rt),
         _ => Ok(println!(rt; "no such row")?),
     }
 }

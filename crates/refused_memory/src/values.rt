@@ -18,7 +18,12 @@ pub fn value(alloc: Global, text: &str) -> Result<AttributeValue> {
     AttributeValue::from_json(alloc, &json(alloc, text)?)
 }
 
+/// The item of this DynamoDB JSON.
+pub fn item(alloc: Global, text: &str) -> Result<Item> {
+    Item::from_json(alloc, &json(alloc, text)?)
+}
+
 /// The map of the item of this DynamoDB JSON.
 pub fn map(alloc: Global, text: &str) -> Result<HashMap<String, AttributeValue>> {
-    Ok(Item::from_json(alloc, &json(alloc, text)?)?.into_inner())
+    Ok(item(alloc, text)?.into_inner())
 }
