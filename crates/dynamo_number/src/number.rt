@@ -50,6 +50,20 @@ impl Number {
         Number::decimal(negative, whole, fraction.as_bytes(), exponent)
     }
 
+    /// Eighteen bytes, which come in the order of the numbers.
+    pub fn to_bytes(&self) -> [u8; 18] {
+        let mut bytes = [0; 18];
+        bytes[0] = 128;
+        bytes[1] = self.power;
+        bytes[2..].copy_from_slice(&self.coefficient.to_be_bytes());
+        if self.negative {
+            for byte in &mut bytes {
+                *byte = !*byte;
+            }
+        }
+        bytes
+    }
+
     // The number of a sign, the digits before and behind a point, and an exponent.
     fn decimal(negative: bool, whole: &[u8], fraction: &[u8], exponent: i32) -> Option<Number>
         ensures { MatchOption result ((z : ℤ) → ¬ (IsDecimal negative whole.now fraction.now exponent z)) (IsDecimal negative whole.now fraction.now exponent) }
