@@ -1,101 +1,50 @@
 -- Reading an attribute value, one level at a time.
-use Rattle.std.proofs.Common.{◌≡◌, ◌⊎◌, ℕ, ℤ, suc, ◌≤◌, Bool, true, false, List, [], ◌∷◌, ◌++◌, map, Option, Some, None, Result, Ok, Err, String, Vec, Global, string_bytes, refl, ap, sym, subst, ◌∙◌, inl, inr, arith}
-use Rattle.std.specs.Prelude.{if◌then◌else◌, ◌||◌, is_some, OnOk}
+use Rattle.std.proofs.Common.{◌≡◌, ◌⊎◌, ℕ, suc, ◌≤◌, Bool, true, false, List, [], ◌∷◌, ◌++◌, map, Option, Some, None, Result, Ok, Err, String, Vec, Global, string_bytes, refl, ap, sym, subst, ◌∙◌, inl, inr, arith}
+use Rattle.std.specs.Prelude.{is_some, OnOk}
 use Rattle.std.specs.Result.{is_err}
 use Rattle.std.specs.FinMap.Entries.{put}
 use Rattle.dynamo_value.specs.View.{text_cmp, view}
 use Rattle.dynamo_value.specs.declared.attribute_value.AttributeValue.{AttributeValue}
 use Rattle.dynamo_value.specs.Av as av
-use Rattle.dynamo_value.specs.Av.{Av, elements_of, members_of}
+use Rattle.dynamo_value.specs.Av.{Av, elements_of}
 use Rattle.dynamo_value.specs.Base64.{bytes_of_base64}
-use Rattle.dynamo_value.specs.Fault.{Fault, failed_to_parse_float, out_of_memory}
-use Rattle.dynamo_value.specs.Integer.{i64, u64}
+use Rattle.dynamo_value.specs.Fault.{Fault, out_of_memory}
 use Rattle.dynamo_value.specs.Prefix as prefix
 use Rattle.dynamo_value.specs.Prefix.{Prefix, prefix_of}
-use Rattle.dynamo_value.specs.Refusal.{fault, any_message, Refused, refusal_in}
-use Rattle.dynamo_value.specs.SingleKey.{several_keys, known}
-use Rattle.dynamo_de.specs.Answer as answer
+use Rattle.dynamo_value.specs.Refusal.{Refused, refusal_in}
+use Rattle.dynamo_value.specs.SingleKey.{several_keys, unknown_key, known}
 use Rattle.dynamo_de.specs.Answer.{Answer, Gives, After}
-use Rattle.dynamo_de.specs.Contents as contents
 use Rattle.dynamo_de.specs.Ignored.{source_height, sources_height, entries_height}
-use Rattle.dynamo_de.specs.Number.{parse, is_float_text, is_number_text}
 use Rattle.dynamo_de.specs.Promises.{Reading, promised, refuse, Agrees}
 use Rattle.dynamo_value.specs.Steps.{◌>>=◌}
-use Rattle.dynamo_de.specs.ReadAttribute.{read_attribute, read_content, read_elements, read_members, read_none, own_refusals, own_refusals_in, refusals_of, attribute_from, attribute_in, item_from, content_from, read_each, read_entries, read_text, read_texts, read_blob, read_blobs, no_map}
+use Rattle.dynamo_de.specs.ReadAttribute.{read_attribute, read_content, read_elements, read_members, read_none, own_refusals, own_refusals_in, refusals_of, attribute_from, attribute_in, item_from, content_from, read_each, read_entries, read_text, read_texts, read_blob, read_blobs, no_map, refusal_of}
+use Rattle.dynamo_de.specs.Reading as reading
+use Rattle.dynamo_de.specs.Reading.{taken, read_string}
 use Rattle.dynamo_de.specs.Reads.{ReadsEach, ReadsList}
-use Rattle.dynamo_de.specs.Scalars.{read_string}
-use Rattle.dynamo_de.specs.Shown.{Shown, shown, signed_or_other, unsigned_or_float}
 use Rattle.dynamo_de.specs.Shows.{TakesEntry}
-use Rattle.dynamo_de.specs.Sight as sight
 use Rattle.dynamo_de.specs.Source.{Source, attribute, key_text, number_text, plain_text, byte_string, Entry, entries_of, values_of, each}
-use Rattle.dynamo_de.specs.declared.request.Request.TheVariants as request
+use Rattle.dynamo_de.specs.Visitors.{claims_map, take_entries, claims_seq, take_elements}
 use Rattle.dynamo_de.proofs.Ignored.{elements_high, members_high, flat}
-use Rattle.dynamo_de.proofs.Promises.{value_answered, fault_answered, value_read, value_agrees, part_agrees, stops, refusal_agrees, told, each_reads}
-
--- ---- what a map and a sequence are shown as
-
-abbrev pub entries_in : Shown → Answer (List Entry)
-entries_in (Err f) = answer.fault f
-entries_in (Ok (sight.entries es)) = answer.value es
-entries_in (Ok _) = answer.refused
-
-abbrev pub elements_in : Shown → Answer (List Source)
-elements_in (Err f) = answer.fault f
-elements_in (Ok (sight.sequence ss)) = answer.value ss
-elements_in (Ok _) = answer.refused
-
--- a number that is neither a map nor a sequence
-module _ {A : Type 0} (look : Shown → Answer A) (fails : (f : Fault) → look (Err f) ≡ answer.fault f) (number : (t : List ℕ) → look (Ok (sight.number_text t)) ≡ answer.refused)
-    (integer : (k : _) (z : ℤ) → look (Ok (sight.integer k z)) ≡ answer.refused) where
-  float_seen : (b : Bool) (t : List ℕ) → (if b then answer.refused else answer.fault (failed_to_parse_float t)) ≡ look (if b then Ok (sight.number_text t) else Err (failed_to_parse_float t))
-  float_seen true t = sym (number t)
-  float_seen false t = sym (fails (failed_to_parse_float t))
-
-  unsigned_seen : (o : Option ℤ) (t : List ℕ) → (if is_some o || is_float_text t then answer.refused else answer.fault (failed_to_parse_float t)) ≡ look (unsigned_or_float o t)
-  unsigned_seen None t = float_seen (is_float_text t) t
-  unsigned_seen (Some z) t = sym (integer u64 z)
-
-  signed_seen : (o : Option ℤ) (t : List ℕ) → (if is_some o || is_some (parse u64 t) || is_float_text t then answer.refused else answer.fault (failed_to_parse_float t)) ≡ look (signed_or_other o t)
-  signed_seen None t = unsigned_seen (parse u64 t) t
-  signed_seen (Some z) t = sym (integer i64 z)
-
-pub entries_as_shown : (s : Source) → contents.read_entries s ≡ entries_in (shown request.Map s)
-entries_as_shown (attribute (av.M ms)) = refl
-entries_as_shown (attribute _) = refl
-entries_as_shown (key_text t) = refl
-entries_as_shown (number_text t) = signed_seen entries_in (λ f. refl) (λ t. refl) (λ k z. refl) (parse i64 t) t
-entries_as_shown (plain_text t) = refl
-entries_as_shown (byte_string bytes) = refl
-
-pub elements_as_shown : (s : Source) → contents.read_elements s ≡ elements_in (shown request.Seq s)
-elements_as_shown (attribute (av.L as')) = refl
-elements_as_shown (attribute (av.Ss ts)) = refl
-elements_as_shown (attribute (av.Ns ts)) = refl
-elements_as_shown (attribute (av.Bs ts)) = refl
-elements_as_shown (attribute _) = refl
-elements_as_shown (key_text t) = refl
-elements_as_shown (number_text t) = signed_seen elements_in (λ f. refl) (λ t. refl) (λ k z. refl) (parse i64 t) t
-elements_as_shown (plain_text t) = refl
-elements_as_shown (byte_string bytes) = refl
+use Rattle.dynamo_de.proofs.Reading.{number_cases}
+use Rattle.dynamo_de.proofs.Promises.{answer_stops, value_answered, fault_answered, value_read, value_agrees, part_agrees, stops, refusal_agrees, told, each_reads}
 
 -- ---- what an attribute value is read from
 
-unknown_map : {A : Type 0} (b : Bool) (t : List ℕ) (next : List Entry → Reading A)
-    → refuse (if b then any_message else fault (failed_to_parse_float t)) ≡ (promised (if b then answer.refused else answer.fault (failed_to_parse_float t)) >>= next)
-unknown_map true t next = refl
-unknown_map false t next = refl
+-- a number is no map
+unknown_map : {A : Type 0} (t : List ℕ) (next : List Entry → Reading A) → refuse (no_map (number_text t)) ≡ (promised (reading.read_entries (number_text t)) >>= next)
+unknown_map t next = number_cases (λ x. refuse (refusal_of (taken claims_map take_entries x)) ≡ (promised (taken claims_map take_entries x) >>= next)) (λ z. refl) (λ z. refl) (λ t. refl) (λ f. refl) t
 
 own_same : (ms : av.Members) → own_refusals ms ≡ own_refusals_in (entries_of ms)
 own_same av.no_members = refl
 own_same (av.member key a ms) = ap (λ rs. refusals_of (promised (known key) >>= λ p. read_content p a) ++ rs) (own_same ms)
 
-pub attribute_as_entries : (s : Source) → attribute_from s ≡ (promised (contents.read_entries s) >>= attribute_in)
+pub attribute_as_entries : (s : Source) → attribute_from s ≡ (promised (reading.read_entries s) >>= attribute_in)
 attribute_as_entries (attribute (av.M av.no_members)) = refl
 attribute_as_entries (attribute (av.M (av.member key a av.no_members))) = refl
 attribute_as_entries (attribute (av.M (av.member key a (av.member other b ms)))) = ap (λ rs. Err (several_keys ∷ rs)) (own_same (av.member key a (av.member other b ms)))
 attribute_as_entries (attribute _) = refl
 attribute_as_entries (key_text t) = refl
-attribute_as_entries (number_text t) = unknown_map (is_number_text t) t attribute_in
+attribute_as_entries (number_text t) = unknown_map t attribute_in
 attribute_as_entries (plain_text t) = refl
 attribute_as_entries (byte_string bytes) = refl
 
@@ -107,11 +56,11 @@ members_same so_far (av.member key a ms) = one (read_attribute a) (λ value. mem
     one (Ok y) h = h y
     one (Err rs) h = refl
 
-pub item_as_entries : (s : Source) → item_from s ≡ (promised (contents.read_entries s) >>= read_entries [])
+pub item_as_entries : (s : Source) → item_from s ≡ (promised (reading.read_entries s) >>= read_entries [])
 item_as_entries (attribute (av.M ms)) = members_same [] ms
 item_as_entries (attribute _) = refl
 item_as_entries (key_text t) = refl
-item_as_entries (number_text t) = unknown_map (is_number_text t) t (read_entries [])
+item_as_entries (number_text t) = unknown_map t (read_entries [])
 item_as_entries (plain_text t) = refl
 item_as_entries (byte_string bytes) = refl
 
@@ -161,39 +110,31 @@ content_same prefix.Bs a = refl
 
 -- ---- how deep it goes
 
-pub entries_lower : {M : Type 0} (entries : M → List Entry) (s : Source) (m : M) → Gives entries (contents.read_entries s) (Ok m) → suc (entries_height (entries m)) ≤ source_height s
-entries_lower entries s m h = below s (value_answered entries (contents.read_entries s) m h)
+pub entries_lower : {M : Type 0} (entries : M → List Entry) (s : Source) (m : M) → Gives entries (reading.read_entries s) (Ok m) → suc (entries_height (entries m)) ≤ source_height s
+entries_lower entries s m h = below s (value_answered entries (reading.read_entries s) m h)
   where
-    below : (s : Source) → promised (contents.read_entries s) ≡ Ok (entries m) → suc (entries_height (entries m)) ≤ source_height s
+    below : (s : Source) → promised (reading.read_entries s) ≡ Ok (entries m) → suc (entries_height (entries m)) ≤ source_height s
     below (attribute (av.M ms)) e = let same : entries_of ms ≡ entries m = cc in rw (← same, members_high ms) (omega arith)
     below (attribute _) e = cc
     below (key_text t) e = cc
-    below (number_text t) e = absurd (no_value (is_number_text t) e)
-      where
-        no_value : (b : Bool) → promised (if b then answer.refused else answer.fault (failed_to_parse_float t)) ≡ Ok (entries m) → ⊥
-        no_value true e = cc
-        no_value false e = cc
+    below (number_text t) e = absurd (number_cases (λ x. promised (taken claims_map take_entries x) ≡ Ok (entries m) → ⊥) (λ z e. cc) (λ z e. cc) (λ t e. cc) (λ f e. cc) t e)
     below (plain_text t) e = cc
     below (byte_string bytes) e = cc
 
-pub elements_lower : {L : Type 0} (elements : L → List Source) (s : Source) (l : L) → Gives elements (contents.read_elements s) (Ok l) → suc (sources_height (elements l)) ≤ source_height s
-elements_lower elements s l h = below s (value_answered elements (contents.read_elements s) l h)
+pub elements_lower : {L : Type 0} (elements : L → List Source) (s : Source) (l : L) → Gives elements (reading.read_elements s) (Ok l) → suc (sources_height (elements l)) ≤ source_height s
+elements_lower elements s l h = below s (value_answered elements (reading.read_elements s) l h)
   where
     flat_below : (source : List ℕ → Source) → ((t : List ℕ) → source_height (source t) ≡ 0) → (ts : List (List ℕ)) → each source ts ≡ elements l → suc (sources_height (elements l)) ≤ 1
     flat_below source none ts same = rw (← same, flat source none ts) (omega arith)
 
-    below : (s : Source) → promised (contents.read_elements s) ≡ Ok (elements l) → suc (sources_height (elements l)) ≤ source_height s
+    below : (s : Source) → promised (reading.read_elements s) ≡ Ok (elements l) → suc (sources_height (elements l)) ≤ source_height s
     below (attribute (av.L as')) e = let same : values_of as' ≡ elements l = cc in rw (← same, elements_high as') (omega arith)
     below (attribute (av.Ss ts)) e = flat_below plain_text (λ t. refl) ts cc
     below (attribute (av.Ns ts)) e = flat_below number_text (λ t. refl) ts cc
     below (attribute (av.Bs ts)) e = flat_below byte_string (λ t. refl) ts cc
     below (attribute _) e = cc
     below (key_text t) e = cc
-    below (number_text t) e = absurd (no_value (is_number_text t) e)
-      where
-        no_value : (b : Bool) → promised (if b then answer.refused else answer.fault (failed_to_parse_float t)) ≡ Ok (elements l) → ⊥
-        no_value true e = cc
-        no_value false e = cc
+    below (number_text t) e = absurd (number_cases (λ x. promised (taken claims_seq take_elements x) ≡ Ok (elements l) → ⊥) (λ z e. cc) (λ z e. cc) (λ t e. cc) (λ f e. cc) t e)
     below (plain_text t) e = cc
     below (byte_string bytes) e = cc
 
@@ -203,9 +144,9 @@ text_agrees : (x : Answer (List ℕ)) (r : Result (String Global) Fault) → Giv
 text_agrees x (Ok text) h = value_agrees string_bytes (promised x) text (value_answered string_bytes x text h)
 text_agrees x (Err f) h = fault_answered string_bytes x f h
 
-pub texts_read : (s : Source) (r : Result (Vec (String Global) Global) Fault) → After (contents.read_elements s) (ReadsList (λ e. Gives string_bytes (read_string e))) r
+pub texts_read : (s : Source) (r : Result (Vec (String Global) Global) Fault) → After (reading.read_elements s) (ReadsList (λ e. Gives string_bytes (read_string e))) r
     → Agrees (λ v. map string_bytes v.items) (read_texts s) r
-texts_read s r h = all (contents.read_elements s) r h
+texts_read s r h = all (reading.read_elements s) r h
   where
     each : (ss : List Source) (r : Result (List (String Global)) Fault) → ReadsEach (λ e. Gives string_bytes (read_string e)) ss r → Agrees (map string_bytes) (read_each read_text ss) r
     each = each_reads string_bytes read_text (λ e. Gives string_bytes (read_string e)) (λ e. text_agrees (read_string e))
@@ -224,23 +165,32 @@ pub blob_refused : (s : Source) (text : String Global) (f g : Fault) → Gives s
 blob_refused s text f g is refused says =
     rw (value_answered string_bytes (read_string s) text is) (refusal_agrees (λ (b : Vec ℕ Global). b.items) (bytes_of_base64 (string_bytes text)) g (told _ f g says refused))
 
-pub blobs_of : {L : Type 0} (elements : L → List Source) (s : Source) (l : L) → Gives elements (contents.read_elements s) (Ok l) → read_each read_blob (elements l) ≡ read_blobs s
-blobs_of elements s l is = rw (value_answered elements (contents.read_elements s) l is) refl
+pub blobs_of : {L : Type 0} (elements : L → List Source) (s : Source) (l : L) → Gives elements (reading.read_elements s) (Ok l) → read_each read_blob (elements l) ≡ read_blobs s
+blobs_of elements s l is = rw (value_answered elements (reading.read_elements s) l is) refl
 
 -- ---- entries that are taken in order
 
-pub item_of_entries : {M : Type 0} (entries : M → List Entry) (s : Source) (m : M) → Gives entries (contents.read_entries s) (Ok m) → item_from s ≡ read_entries [] (entries m)
-item_of_entries entries s m is = item_as_entries s ∙ rw (value_answered entries (contents.read_entries s) m is) refl
+pub attribute_of_entries : {M : Type 0} (entries : M → List Entry) (s : Source) (m : M) → Gives entries (reading.read_entries s) (Ok m) → attribute_from s ≡ attribute_in (entries m)
+attribute_of_entries entries s m is = attribute_as_entries s ∙ rw (value_answered entries (reading.read_entries s) m is) refl
+
+pub attribute_stops : {M : Type 0} (entries : M → List Entry) (s : Source) (f : Fault) → (f ≡ out_of_memory) ⊎ Gives entries (reading.read_entries s) (Err f) → (f ≡ out_of_memory) ⊎ Agrees view (attribute_from s) (Err f)
+attribute_stops entries s f h = subst (λ x. (f ≡ out_of_memory) ⊎ Agrees view x (Err f)) (sym (attribute_as_entries s)) (answer_stops entries view attribute_in (reading.read_entries s) f h)
+
+pub item_stops : {M W : Type 0} (entries : M → List Entry) (tells : W → av.Members) (s : Source) (f : Fault) → (f ≡ out_of_memory) ⊎ Gives entries (reading.read_entries s) (Err f) → (f ≡ out_of_memory) ⊎ Agrees tells (item_from s) (Err f)
+item_stops entries tells s f h = subst (λ x. (f ≡ out_of_memory) ⊎ Agrees tells x (Err f)) (sym (item_as_entries s)) (answer_stops entries tells (read_entries []) (reading.read_entries s) f h)
+
+pub item_of_entries : {M : Type 0} (entries : M → List Entry) (s : Source) (m : M) → Gives entries (reading.read_entries s) (Ok m) → item_from s ≡ read_entries [] (entries m)
+item_of_entries entries s m is = item_as_entries s ∙ rw (value_answered entries (reading.read_entries s) m is) refl
 
 module _ {D M : Type 0} (source : D → Source) (entries : M → List Entry) where
   named : (e : Entry) (d : D × D) (name : String Global) → source d.0 ≡ key_text e.0 → Gives string_bytes (read_string (source d.0)) (Ok name) → string_bytes name ≡ e.0
   named e d name is given = subst (λ s. Gives string_bytes (read_string s) (Ok name)) is given
 
   -- the one entry of a map
-  pub one_entry : (s : Source) (m : M) (new end : List Entry) (d : D × D) (name : String Global) (p : Prefix) → Gives entries (contents.read_entries s) (Ok m)
+  pub one_entry : (s : Source) (m : M) (new end : List Entry) (d : D × D) (name : String Global) (p : Prefix) → Gives entries (reading.read_entries s) (Ok m)
       → TakesEntry source (entries m) new (Some d) → TakesEntry source new end None → Gives string_bytes (read_string (source d.0)) (Ok name)
       → prefix_of (string_bytes name) ≡ Some p → content_from p (source d.1) ≡ attribute_from s
-  one_entry s m new end d name p is first last given known = sym (attribute_as_entries s ∙ rw (value_answered entries (contents.read_entries s) m is) (alone (entries m) new first last))
+  one_entry s m new end d name p is first last given known = sym (attribute_of_entries entries s m is ∙ alone (entries m) new first last)
     where
       alone : (es new : List Entry) → TakesEntry source es new (Some d) → TakesEntry source new end None → attribute_in es ≡ content_from p (source d.1)
       alone [] new t l = cc
@@ -250,6 +200,35 @@ module _ {D M : Type 0} (source : D → Source) (entries : M → List Entry) whe
         where
           nil≢cons : [] ≡ f ∷ es → ⊥
           nil≢cons h = cc
+
+  -- the refusals of none that is alone, and of one under a key that is no prefix
+  pub several_refused : (s : Source) (m : M) (new end : List Entry) (d : D × D) (o : Option (D × D)) (f g : Fault) → Gives entries (reading.read_entries s) (Ok m)
+      → TakesEntry source (entries m) new (Some d) → TakesEntry source new end o → is_some o ≡ true → Refused (Some several_keys) f → (g ≡ f) ⊎ (g ≡ out_of_memory)
+      → (g ≡ out_of_memory) ⊎ Agrees view (attribute_from s) (Err g)
+  several_refused s m new end d None f g is first second more refused says = cc
+  several_refused s m new end d (Some b) f g is first second more refused says =
+      subst (λ x. (g ≡ out_of_memory) ⊎ Agrees view x (Err g)) (sym (attribute_of_entries entries s m is)) (along (entries m) new first second (told (Some several_keys) f g says refused))
+    where
+      along : (es new : List Entry) → TakesEntry source es new (Some d) → TakesEntry source new end (Some b) → Refused (Some several_keys) g → (g ≡ out_of_memory) ⊎ Agrees view (attribute_in es) (Err g)
+      along [] new t u h = cc
+      along (e ∷ []) [] t u h = cc
+      along (e ∷ []) (x ∷ xs) t u h = cc
+      along (e ∷ x ∷ es) new t u (inl lacks) = inl lacks
+      along (e ∷ x ∷ es) new t u (inr says) = inr (inl says)
+
+  pub unknown_refused : (s : Source) (m : M) (new end : List Entry) (d : D × D) (name : String Global) (f g : Fault) → Gives entries (reading.read_entries s) (Ok m)
+      → TakesEntry source (entries m) new (Some d) → TakesEntry source new end None → Gives string_bytes (read_string (source d.0)) (Ok name) → prefix_of (string_bytes name) ≡ None
+      → Refused (Some (unknown_key (string_bytes name))) f → (g ≡ f) ⊎ (g ≡ out_of_memory) → (g ≡ out_of_memory) ⊎ Agrees view (attribute_from s) (Err g)
+  unknown_refused s m new end d name f g is first last given none refused says =
+      subst (λ x. (g ≡ out_of_memory) ⊎ Agrees view x (Err g)) (sym (attribute_of_entries entries s m is)) (along (entries m) new first last (told (Some (unknown_key (string_bytes name))) f g says refused))
+    where
+      along : (es new : List Entry) → TakesEntry source es new (Some d) → TakesEntry source new end None → Refused (Some (unknown_key (string_bytes name))) g
+          → (g ≡ out_of_memory) ⊎ Agrees view (attribute_in es) (Err g)
+      along [] new t l h = cc
+      along (e ∷ es) (x ∷ xs) t l h = absurd l
+      along (e ∷ []) [] t l (inl lacks) = inl lacks
+      along (e ∷ []) [] t l (inr says) = rw (← named e d name t.1 given, none) (inr (inl says))
+      along (e ∷ x ∷ es) [] t l h = cc
 
   pub member_more : (all : Reading av.Members) (so_far : List (List ℕ × Av)) (name : String Global) (v : AttributeValue) (es new : List Entry) (d : D × D) → TakesEntry source es new (Some d)
       → read_entries so_far es ≡ all → Gives string_bytes (read_string (source d.0)) (Ok name) → Agrees view (attribute_from (source d.1)) (Ok v)

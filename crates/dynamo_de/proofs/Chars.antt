@@ -4,7 +4,7 @@ use Rattle.std.specs.Str.{chars, IsUtf8, is_utf8}
 use Rattle.std.specs.List.{slice_get}
 use Rattle.std.proofs.lemmas.Bool.{cases_Bool}
 use Rattle.std.proofs.lemmas.Str.{chars_past_char, IsUtf8-from_is_utf8, is_utf8-from_IsUtf8}
-use Rattle.dynamo_de.specs.Scalars.{the_only, one_char}
+use Rattle.dynamo_de.specs.Visitors.{the_only, one_char}
 
 pub no_char : (t : List ℕ) → slice_get (chars t) 0 ≡ None → one_char t ≡ None
 no_char t h = along (chars t) h

@@ -8,7 +8,7 @@ use Rattle.std.specs.declared.vec.Vec.{Vec}
 use Rattle.dynamo_de.specs.Answer as answer
 use Rattle.dynamo_de.specs.Answer.{Answer, After, Is, Gives}
 use Rattle.dynamo_value.specs.Steps.{◌>>=◌}
-use Rattle.dynamo_de.specs.Contents.{read_elements}
+use Rattle.dynamo_de.specs.Reading.{read_elements}
 use Rattle.dynamo_de.specs.Fields.{NamesOne, read_first, read_fields, read_all, LeadsTo}
 use Rattle.dynamo_de.specs.Meets.{IsMessage}
 use Rattle.dynamo_de.specs.Reads.{ReadsEach, ReadsList}

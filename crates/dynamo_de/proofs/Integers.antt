@@ -10,11 +10,11 @@ use Rattle.dynamo_de.specs.Answer as answer
 use Rattle.dynamo_de.specs.Answer.{Answer, After, Is, Gives, value_or}
 use Rattle.dynamo_de.specs.Meets.{Meets}
 use Rattle.dynamo_de.specs.Number.{parse, in_range, is_numeral, is_signed, fits}
-use Rattle.dynamo_de.specs.Scalars.{read_integer}
+use Rattle.dynamo_de.specs.Reading.{read_integer}
 use Rattle.dynamo_de.specs.Shown.{shown, num_shown, integer_shown, or_fault, attribute_shown, number_text_shown, key_shown, plain_text_shown}
 use Rattle.dynamo_de.specs.Sight as sight
 use Rattle.dynamo_de.specs.Source.{Source, attribute, key_text, number_text, plain_text, byte_string}
-use Rattle.dynamo_de.specs.Takes.{Takes, TakesInteger, Visited, Asks}
+use Rattle.dynamo_de.specs.Takes.{Takes, Visited, Asks}
 use Rattle.dynamo_de.specs.Visitors.{claims_integers, take_integer, checked, is_wide}
 use Rattle.dynamo_de.specs.declared.request.Request.{Request}
 use Rattle.dynamo_de.specs.declared.request.Request.TheVariants as request
@@ -105,7 +105,7 @@ module _ {V : Type 0} (number : V → ℤ) (k : IntegerKind) where
   fitting z r f h = subst (λ b. Gives number (value_or (if b then Some z else None) answer.refused) r) f h
 
   -- the visitor of a kind claims it, or the one of 64 bits in its place
-  claimed : (j : IntegerKind) → j ≡ k → (z : ℤ) (r : Result V Fault) → TakesInteger (claims_integers (is_wide j)) takes j z r → Gives number (value_or (checked k z) answer.refused) r
+  claimed : (j : IntegerKind) → j ≡ k → (z : ℤ) (r : Result V Fault) → Takes (claims_integers (is_wide j)) takes (sight.integer j z) r → Gives number (value_or (checked k z) answer.refused) r
   claimed i8 same z r h = h
   claimed i16 same z r h = h
   claimed i32 same z r h = h

@@ -11,7 +11,7 @@ use Rattle.dynamo_de.specs.Answer.{Answer, Gives}
 use Rattle.dynamo_value.specs.Steps.{◌>>=◌}
 use Rattle.dynamo_de.specs.Ignored.{source_height, sources_height, entries_height}
 use Rattle.dynamo_de.specs.ReadJson.{read_value, read_json, read_entries, read_shown}
-use Rattle.dynamo_de.specs.Scalars.{read_string}
+use Rattle.dynamo_de.specs.Reading.{read_string}
 use Rattle.dynamo_de.specs.Shown.{shown}
 use Rattle.dynamo_de.specs.Shows.{seen, TakesElement, TakesEntry}
 use Rattle.dynamo_de.specs.Source.{Source, key_text, attribute, Entry}

@@ -1,8 +1,6 @@
 mod AttributeRows
 pub mod Attributes
-pub mod ByHand
 pub mod Chars
-pub mod Contents
 pub mod Decimals
 pub mod Each
 pub mod Fields
@@ -14,5 +12,5 @@ pub mod JsonSteps
 pub mod Meets
 pub mod Pairs
 pub mod Promises
+pub mod Reading
 pub mod Rows
-pub mod Scalars

@@ -44,6 +44,11 @@ module _ {A B V W : Type 0} (seen : V → A) (then : W → B) (next : A → Read
   pub goes_on : (x : Reading A) (v : V) (r : Result W Fault) → Agrees seen x (Ok v) → Agrees then (next (seen v)) r → Agrees then (x >>= next) r
   goes_on x v r is h = rw (value_read seen x v is) h
 
+-- the same of an answer that a reader gives
+pub answer_stops : {A B V W : Type 0} (seen : V → A) (then : W → B) (next : A → Reading B) (x : Answer A) (f : Fault) → (f ≡ out_of_memory) ⊎ Gives seen x (Err f) → (f ≡ out_of_memory) ⊎ Agrees then (promised x >>= next) (Err f)
+answer_stops seen then next x f (inl lacks) = inl lacks
+answer_stops seen then next x f (inr is) = inr (stops seen then next (promised x) f (fault_answered seen x f is))
+
 -- ---- what is told of a refusal
 
 -- a fault that stands for another, or for want of memory, keeps its promise

@@ -6,9 +6,8 @@ use Rattle.dynamo_value.specs.Av as av
 use Rattle.dynamo_value.specs.Fault.{failed_to_parse_int, failed_to_parse_float, expected_num, expected_string, expected_char, expected_map, expected_unit, expected_single_key}
 use Rattle.dynamo_value.specs.Integer.{u8, i64, u64}
 use Rattle.dynamo_de.specs.Answer as answer
-use Rattle.dynamo_de.specs.Contents.{read_content}
 use Rattle.dynamo_de.specs.Ignored.{read_ignored}
-use Rattle.dynamo_de.specs.Scalars.{read_bool, read_integer, read_char}
+use Rattle.dynamo_de.specs.Reading.{read_bool, read_integer, read_char, read_content}
 use Rattle.dynamo_de.specs.Shown.{shown}
 use Rattle.dynamo_de.specs.Sight as sight
 use Rattle.dynamo_de.specs.Source.{attribute, key_text, number_text}

@@ -5,7 +5,7 @@ use Rattle.dynamo_value.specs.Fault.{Fault}
 use Rattle.dynamo_de.specs.Answer as answer
 use Rattle.dynamo_de.specs.Answer.{Answer, After}
 use Rattle.dynamo_value.specs.Steps.{◌>>=◌}
-use Rattle.dynamo_de.specs.Scalars.{read_identifier}
+use Rattle.dynamo_de.specs.Reading.{read_identifier}
 use Rattle.dynamo_de.specs.Source.{Source, Entry}
 
 -- an identifier is read as the one that it names

@@ -4,7 +4,6 @@ pub use Rattle.dynamo_value.specs.Integer
 pub use Rattle.dynamo_value.specs.Kind
 pub mod Access
 pub mod Answer
-pub mod Contents
 pub mod Fields
 pub mod Ignored
 pub mod JsonItems
@@ -13,8 +12,8 @@ pub mod Number
 pub mod Promises
 pub mod ReadAttribute
 pub mod ReadJson
+pub mod Reading
 pub mod Reads
-pub mod Scalars
 pub mod Shown
 pub mod Shows
 pub mod Sight

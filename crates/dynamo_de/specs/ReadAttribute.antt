@@ -2,22 +2,22 @@
 -- one entry, whose key is a prefix and whose value is the content. Under N and S stands a string, under BOOL and NULL a boolean,
 -- under B a string of base64, under M a map of attribute values, under L a sequence of them, under SS and NS a sequence of
 -- strings, under BS one of base64. An item is a map of attribute values.
-use Rattle.std.specs.Prelude.{ℕ, List, [], ◌∷◌, ◌++◌, Ok, Err, if◌then◌else◌}
+use Rattle.std.specs.Prelude.{ℕ, List, [], ◌∷◌, ◌++◌, Ok, Err}
 use Rattle.std.specs.FinMap.Entries.{put}
 use Rattle.dynamo_value.specs.Av as av
 use Rattle.dynamo_value.specs.Av.{Av, elements_of, members_of}
 use Rattle.dynamo_value.specs.Base64.{bytes_of_base64}
-use Rattle.dynamo_value.specs.Fault.{failed_to_parse_float, expected_map, expected_seq}
+use Rattle.dynamo_value.specs.Fault.{expected_map, expected_seq}
 use Rattle.dynamo_value.specs.Prefix as prefix
 use Rattle.dynamo_value.specs.Prefix.{Prefix}
 use Rattle.dynamo_value.specs.Refusal.{Refusal, fault, any_message}
 use Rattle.dynamo_value.specs.SingleKey.{no_key, several_keys, known}
 use Rattle.dynamo_value.specs.View.{text_cmp}
-use Rattle.dynamo_de.specs.Contents as contents
-use Rattle.dynamo_de.specs.Number.{is_number_text}
+use Rattle.dynamo_de.specs.Answer.{Answer}
 use Rattle.dynamo_de.specs.Promises.{Reading, refuse, promised}
 use Rattle.dynamo_value.specs.Steps.{◌>>=◌}
-use Rattle.dynamo_de.specs.Scalars.{read_string, read_bool}
+use Rattle.dynamo_de.specs.Reading as reading
+use Rattle.dynamo_de.specs.Reading.{read_string, read_bool}
 use Rattle.dynamo_de.specs.Source.{Source, attribute, number_text, plain_text, byte_string, Entry}
 
 -- ---- what holds no attribute values
@@ -37,15 +37,18 @@ read_each f (x ∷ xs) = do
   Ok (y ∷ ys)
 
 abbrev pub read_texts : Source → Reading (List (List ℕ))
-read_texts s = promised (contents.read_elements s) >>= read_each read_text
+read_texts s = promised (reading.read_elements s) >>= read_each read_text
 
 abbrev pub read_blobs : Source → Reading (List (List ℕ))
-read_blobs s = promised (contents.read_elements s) >>= read_each read_blob
+read_blobs s = promised (reading.read_elements s) >>= read_each read_blob
+
+abbrev pub refusal_of : {A : Type 0} → Answer A → Refusal
+refusal_of (Ok x) = any_message
+refusal_of (Err r) = r
 
 -- A text, a number and a byte string that stand inside of an attribute value show no map.
 abbrev pub no_map : Source → Refusal
-no_map (number_text t) = if is_number_text t then any_message else fault (failed_to_parse_float t)
-no_map _ = any_message
+no_map s = refusal_of (reading.read_entries s)
 
 -- so no element of a set is read
 abbrev pub read_none : (List ℕ → Source) → List (List ℕ) → Reading av.Elements
@@ -144,8 +147,8 @@ content_from prefix.S s = read_text s >>= λ text. Ok (av.S text)
 content_from prefix.Bool s = promised (read_bool s) >>= λ b. Ok (av.Boolean b)
 content_from prefix.B s = read_blob s >>= λ bytes. Ok (av.B bytes)
 content_from prefix.Null s = promised (read_bool s) >>= λ b. Ok (av.Null b)
-content_from prefix.M s = promised (contents.read_entries s) >>= λ es. read_entries [] es >>= λ members. Ok (av.M members)
-content_from prefix.L s = promised (contents.read_elements s) >>= λ ss. read_each attribute_from ss >>= λ values. Ok (av.L (elements_of values))
+content_from prefix.M s = promised (reading.read_entries s) >>= λ es. read_entries [] es >>= λ members. Ok (av.M members)
+content_from prefix.L s = promised (reading.read_elements s) >>= λ ss. read_each attribute_from ss >>= λ values. Ok (av.L (elements_of values))
 content_from prefix.Ss s = read_texts s >>= λ texts. Ok (av.Ss texts)
 content_from prefix.Ns s = read_texts s >>= λ texts. Ok (av.Ns texts)
 content_from prefix.Bs s = read_blobs s >>= λ blobs. Ok (av.Bs blobs)

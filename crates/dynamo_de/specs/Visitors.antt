@@ -1,12 +1,11 @@
 -- What the library's visitors claim, and what they take of what they are shown. What they don't claim they refuse.
-use Rattle.std.specs.Prelude.{ℕ, ℤ, Bool, true, false, List, Option as Maybe, Some as Just, None as Nothing, if◌then◌else◌, ⊤}
+use Rattle.std.specs.Prelude.{ℕ, ℤ, Bool, true, false, chars, List, [], ◌∷◌, Option as Maybe, Some as Just, None as Nothing, Result, Ok, Err, if◌then◌else◌, ⊤}
 use Rattle.std.specs.Str.{is_utf8}
+use Rattle.dynamo_value.specs.Fault.{Fault}
 use Rattle.dynamo_value.specs.Integer.{IntegerKind, i128, u128}
 use Rattle.dynamo_de.specs.Answer as answer
 use Rattle.dynamo_de.specs.Answer.{Answer, value_or}
-use Rattle.dynamo_de.specs.Contents.{Parts, by_name, in_order, or_its_fault}
 use Rattle.dynamo_de.specs.Number.{fits}
-use Rattle.dynamo_de.specs.Scalars.{one_char}
 use Rattle.dynamo_de.specs.Sight as sight
 use Rattle.dynamo_de.specs.Sight.{Sight}
 use Rattle.dynamo_de.specs.Source.{Source, Entry}
@@ -46,6 +45,14 @@ abbrev pub claims_char : Kind → Bool
 claims_char kind.Char = true
 claims_char kind.Str = true
 claims_char _ = false
+
+abbrev pub the_only : List ℕ → Maybe ℕ
+the_only (c ∷ []) = Just c
+the_only _ = Nothing
+
+-- the character of a text that has one alone
+abbrev pub one_char : List ℕ → Maybe ℕ
+one_char t = the_only (chars t)
 
 abbrev pub take_char : Sight → Answer ℕ
 take_char (sight.char c) = answer.value c
@@ -128,6 +135,11 @@ claims_struct kind.Seq = true
 claims_struct kind.Map = true
 claims_struct _ = false
 
+-- the fields of a struct, by their names or in order
+pub data Parts : Type 0 where
+  by_name : List Entry → Parts
+  in_order : List Source → Parts
+
 abbrev pub take_parts : Sight → Answer Parts
 take_parts (sight.entries es) = answer.value (by_name es)
 take_parts (sight.sequence ss) = answer.value (in_order ss)
@@ -137,6 +149,11 @@ abbrev pub claims_enum : Kind → Bool
 claims_enum kind.Enum = true
 claims_enum _ = false
 
+abbrev pub or_its_fault : {A : Type 0} → Result A Fault → Answer A
+or_its_fault (Ok x) = answer.value x
+or_its_fault (Err f) = answer.fault f
+
+-- the name and the content of a variant
 abbrev pub take_variant : Sight → Answer (List ℕ × Maybe Source)
 take_variant (sight.variant v) = or_its_fault v
 take_variant _ = answer.refused

@@ -1,90 +1,57 @@
 ghost use Rattle.std.specs.Prelude.{◌≡◌, map, None, string_bytes};
-ghost use Rattle.dynamo_de.specs.Source.{number_text, plain_text, byte_string, each};
-ghost use Rattle.dynamo_leaf.specs.Readers.{strings_left, numbers_left, bytes_left};
+ghost use Rattle.dynamo_de.specs.Source.{byte_string, each};
+ghost use Rattle.dynamo_leaf.specs.Readers.{texts_left, bytes_left};
 
-use crate::{DeserializerBytes, DeserializerNumber, StringDeserializer};
+use crate::{DeserializerBytes, NumberText, PlainText, TextDeserializer, TextKind};
 use dynamo_de::{DeserializeSeed, SeqAccess};
 use dynamo_value::{Error, Result};
 use std::alloc::Global;
+use std::marker::PhantomData;
 use std::vec::IntoIter;
 
-/// The elements of a set of strings, each read by a [`StringDeserializer`].
+/// The elements of a set of strings, each read by a [`StringDeserializer`](crate::StringDeserializer).
+pub type DeserializerSeqStrings = DeserializerSeqTexts<PlainText>;
+
+/// The elements of a set of numbers, each read by a [`DeserializerNumber`](crate::DeserializerNumber).
+pub type DeserializerSeqNumbers = DeserializerSeqTexts<NumberText>;
+
+/// The elements of a set of texts of one kind, each read by a [`TextDeserializer`].
 #[derive(Drop)]
-pub struct DeserializerSeqStrings {
+pub struct DeserializerSeqTexts<P> {
     alloc: Global,
     texts: IntoIter<String>,
+    of: PhantomData<P>,
 }
 
-impl DeserializerSeqStrings {
+impl<P: TextKind> DeserializerSeqTexts<P> {
     /// The elements of this set, in its order. It takes no memory. What is read takes its memory from `alloc`.
     pub fn from_vec(alloc: Global, texts: Vec<String>) -> Self
-        ensures { strings_left result ≡ each plain_text (map string_bytes texts.items) }
+        ensures { texts_left P.of_text result ≡ each P.of_text (map string_bytes texts.items) }
     {
-        DeserializerSeqStrings {
+        DeserializerSeqTexts {
             alloc,
             texts: texts.into_iter(),
+            of: PhantomData,
         }
     }
 }
 
-impl SeqAccess for DeserializerSeqStrings {
+impl<P: TextKind> SeqAccess for DeserializerSeqTexts<P> {
     type Error = Error;
 
-    ghost left = { strings_left };
+    ghost left = { texts_left P.of_text };
 
     fn next_element_seed<T: DeserializeSeed>(&mut self, seed: T) -> Result<Option<T::Value>> {
         match self.texts.next() {
             None => Ok(None),
             Some(element) => {
-                let element = StringDeserializer::from_string(self.alloc, element);
+                let element = TextDeserializer::<P>::from_string(self.alloc, element);
                 Ok(Some(seed.deserialize(element)?))
             }
         }
     }
 
-    /// None: the strings of a set aren't counted.
-    fn size_hint(&self) -> Option<usize>
-        ensures { result ≡ None }
-    {
-        None
-    }
-}
-
-/// The elements of a set of numbers, each read by a [`DeserializerNumber`].
-#[derive(Drop)]
-pub struct DeserializerSeqNumbers {
-    alloc: Global,
-    numbers: IntoIter<String>,
-}
-
-impl DeserializerSeqNumbers {
-    /// The elements of this set, in its order. It takes no memory. What is read takes its memory from `alloc`.
-    pub fn from_vec(alloc: Global, numbers: Vec<String>) -> Self
-        ensures { numbers_left result ≡ each number_text (map string_bytes numbers.items) }
-    {
-        DeserializerSeqNumbers {
-            alloc,
-            numbers: numbers.into_iter(),
-        }
-    }
-}
-
-impl SeqAccess for DeserializerSeqNumbers {
-    type Error = Error;
-
-    ghost left = { numbers_left };
-
-    fn next_element_seed<T: DeserializeSeed>(&mut self, seed: T) -> Result<Option<T::Value>> {
-        match self.numbers.next() {
-            None => Ok(None),
-            Some(element) => {
-                let element = DeserializerNumber::from_string(self.alloc, element);
-                Ok(Some(seed.deserialize(element)?))
-            }
-        }
-    }
-
-    /// None: the numbers of a set aren't counted.
+    /// None: the elements of a set aren't counted.
     fn size_hint(&self) -> Option<usize>
         ensures { result ≡ None }
     {

@@ -1,3 +1,4 @@
+pub mod ByteOrder
 pub mod Decimals
 pub mod Longs
 pub mod Marks

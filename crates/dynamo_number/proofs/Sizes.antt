@@ -10,13 +10,13 @@ use Rattle.std.specs.Ordering.{nat_cmp, int_cmp, ordering_then, ordering_reverse
 pub ten_pos : (k : ℕ) → 0 < 10 ^ k
 ten_pos k = omega (arith, one-le-pow k 10 (omega arith))
 
-less : (x y : ℕ) → x < y → nat_cmp x y ≡ Less
+pub less : (x y : ℕ) → x < y → nat_cmp x y ≡ Less
 less x y h = sym (nat_cmp_is x y Less h)
 
-greater : (x y : ℕ) → y < x → nat_cmp x y ≡ Greater
+pub greater : (x y : ℕ) → y < x → nat_cmp x y ≡ Greater
 greater x y h = sym (nat_cmp_is x y Greater h)
 
-equal : (x y : ℕ) → x ≡ y → nat_cmp x y ≡ Equal
+pub equal : (x y : ℕ) → x ≡ y → nat_cmp x y ≡ Equal
 equal x y h = sym (nat_cmp_is x y Equal h)
 
 -- ---- without the sign

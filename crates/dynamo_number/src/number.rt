@@ -5,6 +5,7 @@ ghost use Rattle.std.specs.List.{before_first, after_first};
 ghost use Rattle.std.specs.Str.Parse.{AllDigits, digits_value_after, starts_with_minus, without_leading_sign};
 ghost use Rattle.dynamo_number.specs.Numbers.{IsNumber, IsDecimal, IsExponent, IsKept, mantissa, mark, has, signed};
 ghost use Rattle.dynamo_number.specs.Digits.{IsLong, IsScaled};
+ghost use Rattle.dynamo_number.specs.Bytes.{IsBytesOf, size_bytes};
 
 use std::cmp::Ordering;
 use std::marker::Model;
@@ -50,18 +51,16 @@ impl Number {
         Number::decimal(negative, whole, fraction.as_bytes(), exponent)
     }
 
-    /// Eighteen bytes, which come in the order of the numbers.
-    pub fn to_bytes(&self) -> [u8; 18] {
-        let mut bytes = [0; 18];
-        bytes[0] = 128;
-        bytes[1] = self.power;
-        bytes[2..].copy_from_slice(&self.coefficient.to_be_bytes());
+    /// Eighteen bytes, which come in the order of the numbers, as [`laws::bytes_in_order`](crate::laws::bytes_in_order) says.
+    pub fn to_bytes(&self) -> [u8; 18]
+        ensures { IsBytesOf self.now result }
+    {
+        let bytes = size_bytes(self.power, self.coefficient);
         if self.negative {
-            for byte in &mut bytes {
-                *byte = !*byte;
-            }
+            bytes.map(|byte| !byte)
+        } else {
+            bytes
         }
-        bytes
     }
 
     // The number of a sign, the digits before and behind a point, and an exponent.
@@ -101,6 +100,18 @@ impl Number {
             Err(_) => None,
         }
     }
+}
+
+// The bytes of a number that is not negative.
+fn size_bytes(power: u8, coefficient: u128) -> [u8; 18]
+    ensures bytes { result ≡ size_bytes power coefficient }
+    ensures is_byte { power < 256 }
+{
+    let mut bytes = [0; 18];
+    bytes[0] = 128;
+    bytes[1] = power;
+    bytes[2..].copy_from_slice(&coefficient.to_be_bytes());
+    bytes
 }
 
 // What stands before the exponent of a number's text, and the exponent, 0 where none is written.

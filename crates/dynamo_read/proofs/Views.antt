@@ -8,7 +8,7 @@ use Rattle.dynamo_value.specs.Table.{Table}
 use Rattle.dynamo_value.specs.View.{view, elements_view}
 use Rattle.dynamo_value.specs.declared.attribute_value.AttributeValue.{AttributeValue, L, M}
 use Rattle.dynamo_de.specs.Answer as answer
-use Rattle.dynamo_de.specs.Contents.{read_elements}
+use Rattle.dynamo_de.specs.Reading.{read_elements}
 use Rattle.dynamo_de.specs.Source.{Source, Entry, attribute, entries_of, values_of}
 
 -- the entries of the members that entries make

@@ -5,9 +5,9 @@ use Rattle.dynamo_value.specs.Fault.{Fault}
 use Rattle.dynamo_de.specs.Access.{ReadsVariant}
 use Rattle.dynamo_de.specs.Answer as answer
 use Rattle.dynamo_de.specs.Answer.{Answer, After}
-use Rattle.dynamo_de.specs.Contents.{read_variant, or_its_fault}
+use Rattle.dynamo_de.specs.Reading.{read_variant, read_identifier}
+use Rattle.dynamo_de.specs.Visitors.{or_its_fault}
 use Rattle.dynamo_de.specs.Meets.{Meets}
-use Rattle.dynamo_de.specs.Scalars.{read_identifier}
 use Rattle.dynamo_de.specs.Source.{Source, Text}
 use Rattle.dynamo_de.proofs.Meets.{meets_more}
 use Rattle.dynamo_shape.specs.Conforms.{conforms}

@@ -8,7 +8,8 @@ use Rattle.dynamo_ser.specs.Datum.{Datum, Fields}
 use Rattle.dynamo_de.specs.Answer as answer
 use Rattle.dynamo_de.specs.Answer.{Answer, After, value_or}
 use Rattle.dynamo_value.specs.Steps.{◌>>=◌}
-use Rattle.dynamo_de.specs.Contents.{by_name, read_parts}
+use Rattle.dynamo_de.specs.Reading.{read_parts}
+use Rattle.dynamo_de.specs.Visitors.{by_name}
 use Rattle.dynamo_de.specs.Meets.{Meets, IsMessage}
 use Rattle.dynamo_de.specs.Source.{Source, Text, Entry}
 use Rattle.dynamo_de.proofs.Meets.{meets_more}

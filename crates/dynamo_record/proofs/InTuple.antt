@@ -1,17 +1,17 @@
 -- A tuple struct is read by its fields in order.
-use Rattle.std.proofs.Common.{[], List, Result, refl, sym, ap, subst}
+use Rattle.std.proofs.Common.{[], Result, refl, sym, ap, subst}
 use Rattle.dynamo_value.specs.Fault.{Fault}
 use Rattle.dynamo_ser.specs.Datum as datum
 use Rattle.dynamo_ser.specs.Datum.{Datum, elements_of}
 use Rattle.dynamo_de.specs.Answer.{After}
 use Rattle.dynamo_value.specs.Steps.{◌>>=◌}
-use Rattle.dynamo_de.specs.Contents.{read_elements}
+use Rattle.dynamo_de.specs.Reading.{read_elements}
 use Rattle.dynamo_de.specs.Meets.{Meets}
-use Rattle.dynamo_de.specs.Source.{Source, Text, attribute, key_text, number_text, plain_text, byte_string}
+use Rattle.dynamo_de.specs.Source.{Source, Text}
 use Rattle.dynamo_de.specs.Takes.{Asks}
 use Rattle.dynamo_de.specs.Visitors.{claims_seq, take_elements}
 use Rattle.dynamo_de.specs.declared.request.Request.TheVariants as request
-use Rattle.dynamo_de.proofs.Contents.{elements_read}
+use Rattle.dynamo_de.proofs.Reading.{as_read}
 use Rattle.dynamo_de.proofs.Meets.{meets_more}
 use Rattle.dynamo_shape.specs.Conforms.{conforms, conform_each}
 use Rattle.dynamo_shape.specs.Read.{read_each}
@@ -24,14 +24,6 @@ use Rattle.dynamo_record.specs.Newtypes.{ReadsAs}
 use Rattle.dynamo_record.specs.TupleStructs.{elements_in, fields_shape, named_tuple}
 use Rattle.dynamo_record.proofs.Inside.{in_order}
 
--- a tuple struct is asked for as a sequence is
-asked : {V E : Type 0} (next : List Source → Result V Fault → Type 0) (fault : E → Fault) (s : Source) (r : Result V E) → Asks fault claims_seq (λ x. After (take_elements x) next) request.TupleStruct s r → Meets fault (After (read_elements s) next) r
-asked next fault (attribute a) r h = elements_read next fault (attribute a) r h
-asked next fault (key_text t) r h = elements_read next fault (key_text t) r h
-asked next fault (number_text t) r h = elements_read next fault (number_text t) r h
-asked next fault (plain_text t) r h = elements_read next fault (plain_text t) r h
-asked next fault (byte_string bytes) r h = elements_read next fault (byte_string bytes) r h
-
 module _ {L E : Type 0} (name : Text) (a : AboutList L) (fault : E → Fault) (s : Source) where
   as_tuple : (r : Result L Fault) → After (read_elements s) (ReadsInOrder a) r → ReadsAs (named_tuple name a) s r
   unfolding ReadsAs
@@ -41,4 +33,4 @@ module _ {L E : Type 0} (name : Text) (a : AboutList L) (fault : E → Fault) (s
       (read_elements s >>= read_each (shapes_of (a.shapes []))) r (in_order {C = L} {E = E} fault (λ l. l) a (datum.variant [] 0 []) s r h)
 
   pub tuple_read : (r : Result L E) → Asks fault claims_seq (λ x. After (take_elements x) (ReadsInOrder a)) request.TupleStruct s r → Meets fault (ReadsAs (named_tuple name a) s) r
-  tuple_read r h = meets_more fault (After (read_elements s) (ReadsInOrder a)) (ReadsAs (named_tuple name a) s) as_tuple r (asked (ReadsInOrder a) fault s r h)
+  tuple_read r h = meets_more fault (After (read_elements s) (ReadsInOrder a)) (ReadsAs (named_tuple name a) s) as_tuple r (as_read claims_seq take_elements (ReadsInOrder a) (λ c x f e h. cc) request.TupleStruct fault s r h)

@@ -7,7 +7,7 @@ use Rattle.dynamo_de.specs.Access.{OfContent}
 use Rattle.dynamo_de.specs.Answer as answer
 use Rattle.dynamo_de.specs.Answer.{Answer, After}
 use Rattle.dynamo_value.specs.Steps.{◌>>=◌}
-use Rattle.dynamo_de.specs.Contents.{read_elements}
+use Rattle.dynamo_de.specs.Reading.{read_elements}
 use Rattle.dynamo_de.specs.Meets.{Meets}
 use Rattle.dynamo_de.specs.Shown.{shown}
 use Rattle.dynamo_de.specs.Source.{Source, Text}
@@ -15,7 +15,7 @@ use Rattle.dynamo_de.specs.Takes as takes
 use Rattle.dynamo_de.specs.Takes.{Takes}
 use Rattle.dynamo_de.specs.Visitors.{claims_seq, take_elements}
 use Rattle.dynamo_de.specs.declared.request.Request.TheVariants as request
-use Rattle.dynamo_de.proofs.Contents.{elements_read}
+use Rattle.dynamo_de.proofs.Reading.{as_read}
 use Rattle.dynamo_shape.specs.Conforms.{conforms, conform_each, conforms_content}
 use Rattle.dynamo_shape.specs.Laws.{AnswersByShape, ReadsByShape}
 use Rattle.dynamo_shape.specs.Permits.{Permits}
@@ -116,11 +116,11 @@ module _ {C L E : Type 0} (fault : E → Fault) (part : C → L) (a : AboutList 
   values_read (Some y) x w e h =
       made_of (conform_each Shapes_) SameElements (conforms_content (shape.several Shapes_) v) Told ((about_several part a).told v) (datum.tuple_variant v)
       (λ d k. subst (conform_each Shapes_) (sym (ap elements_in k.1)) k.2) (λ d d2 same. (d2, refl, same)) (read_elements y >>= read_each Shapes_) x w (ap (λ l. datum.tuple_variant v (Told l)) e)
-      (in_order y (Ok x) (elements_read (ReadsInOrder a) fault y (Ok x) h))
+      (in_order y (Ok x) (as_read claims_seq take_elements (ReadsInOrder a) (λ c x f e h. cc) request.Seq fault y (Ok x) h))
 
   pub values_fail : (s : Option Source) (e : E) → AsksElements s (Err e) → Tuple s (Err e)
   values_fail None e h = h
-  values_fail (Some y) e h = elim (elements_read (ReadsInOrder a) fault y (Err e) h) [
+  values_fail (Some y) e h = elim (as_read claims_seq take_elements (ReadsInOrder a) (λ c x f e h. cc) request.Seq fault y (Err e) h) [
     | inl lacks ↦ inl lacks
     | inr failed ↦ inr (stops SameElements Same (read_elements y >>= read_each Shapes_) (λ ds. answer.value (datum.tuple_variant v ds)) (fault e) (in_order y (Err (fault e)) failed))
   ]

@@ -8,16 +8,16 @@ use Rattle.dynamo_de.specs.Access.{OfContent}
 use Rattle.dynamo_de.specs.Answer as answer
 use Rattle.dynamo_de.specs.Answer.{Answer, After}
 use Rattle.dynamo_value.specs.Steps.{◌>>=◌}
-use Rattle.dynamo_de.specs.Contents.{Parts, by_name, read_entries}
+use Rattle.dynamo_de.specs.Reading.{taken, read_entries}
 use Rattle.dynamo_de.specs.Meets.{Meets}
 use Rattle.dynamo_de.specs.Shown.{shown}
 use Rattle.dynamo_de.specs.Source.{Source, Text, attribute, key_text, number_text, plain_text, byte_string}
 use Rattle.dynamo_de.specs.Takes as takes
 use Rattle.dynamo_de.specs.Takes.{Takes}
-use Rattle.dynamo_de.specs.Visitors.{claims_struct, take_parts}
+use Rattle.dynamo_de.specs.Visitors.{claims_struct, take_parts, Parts, by_name, claims_map, take_entries}
 use Rattle.dynamo_de.specs.declared.request.Request.TheVariants as request
 use Rattle.dynamo_de.proofs.Meets.{meets_more}
-use Rattle.dynamo_de.proofs.Scalars.{unknown}
+use Rattle.dynamo_de.proofs.Reading.{number_cases}
 use Rattle.dynamo_shape.specs.Conforms.{conform_fields, conforms_content}
 use Rattle.dynamo_shape.specs.Laws.{AnswersByShape}
 use Rattle.dynamo_shape.specs.Read.{into, read_field, fields_by_name}
@@ -47,7 +47,7 @@ module _ {V : Type 0} (next : Parts → Result V Fault → Type 0) where
   entries_from (attribute (av.M ms)) r h = h
   entries_from (attribute _) r h = h
   entries_from (key_text t) r h = h
-  entries_from (number_text t) r h = unknown claims_struct (λ x. After (take_parts x) next) (λ es. next (by_name es)) refl refl refl t r h
+  entries_from (number_text t) r h = number_cases (λ x. takes.Visited (Takes claims_struct (λ y. After (take_parts y) next)) x r → After (taken claims_map take_entries x) (λ es. next (by_name es)) r) (λ z k. k) (λ z k. k) (λ t k. k) (λ f k. k) t h
   entries_from (plain_text t) r h = h
   entries_from (byte_string bytes) r h = h
 

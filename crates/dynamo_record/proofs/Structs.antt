@@ -5,7 +5,7 @@ use Rattle.dynamo_ser.specs.Datum as datum
 use Rattle.dynamo_de.specs.Access.{NextKey, NextValue}
 use Rattle.dynamo_de.specs.Answer as answer
 use Rattle.dynamo_de.specs.Answer.{Answer, After}
-use Rattle.dynamo_de.specs.Contents.{by_name, in_order}
+use Rattle.dynamo_de.specs.Visitors.{by_name, in_order}
 use Rattle.dynamo_de.specs.Fields.{NamesOne}
 use Rattle.dynamo_de.specs.Meets.{Meets, IsMessage}
 use Rattle.dynamo_de.specs.Source.{Source, Entry, Text}

@@ -12,15 +12,14 @@ use Rattle.dynamo_ser.specs.Datum.{Datum}
 use Rattle.dynamo_de.specs.Access.{ReadsVariant}
 use Rattle.dynamo_de.specs.Answer as answer
 use Rattle.dynamo_de.specs.Answer.{Answer, After}
-use Rattle.dynamo_de.specs.Contents.{read_variant, or_its_fault}
+use Rattle.dynamo_de.specs.Reading.{read_variant, read_identifier}
 use Rattle.dynamo_de.specs.Meets.{Meets}
-use Rattle.dynamo_de.specs.Scalars.{read_identifier}
 use Rattle.dynamo_de.specs.Source.{Source, Text}
 use Rattle.dynamo_de.specs.Takes.{Asks}
-use Rattle.dynamo_de.specs.Visitors.{claims_enum, take_variant}
+use Rattle.dynamo_de.specs.Visitors.{claims_enum, take_variant, or_its_fault}
 use Rattle.dynamo_de.specs.declared.request.Request.TheVariants as request
-use Rattle.dynamo_de.proofs.ByHand.{enum_read}
 use Rattle.dynamo_de.proofs.Meets.{meets_more}
+use Rattle.dynamo_de.proofs.Reading.{as_read}
 use Rattle.dynamo_shape.specs.Conforms.{conforms, conforms_variant}
 use Rattle.dynamo_shape.specs.Permits.{Permits}
 use Rattle.dynamo_shape.specs.Read.{read_one_of}
@@ -108,7 +107,7 @@ module _ {T : Type 0} (a : AboutUnits T) where
   enum_answered fault source r h =
       meets_more fault (After (read_variant source) (FromVariant a)) (unit_enum_reads a source)
       (λ r k. after (conforms (unit_enum_shape a)) Same (unit_enum_tells a) (FromVariant a) (λ v. read_one_of (unit_variants a.names) a.name 0 v.0 v.1) (λ v r x. x) (read_variant source) r k)
-      r (enum_read (FromVariant a) fault source r h)
+      r (as_read claims_enum take_variant (FromVariant a) (λ c x f e h. cc) request.Enum fault source r h)
 
 -- ---- places in lists
 

@@ -9,7 +9,7 @@ use Rattle.dynamo_ser.specs.Datum.{Datum}
 use Rattle.dynamo_ser.specs.Symbols.{SetKind, symbol}
 use Rattle.dynamo_de.specs.Answer.{After}
 use Rattle.dynamo_value.specs.Steps.{◌>>=◌}
-use Rattle.dynamo_de.specs.Contents.{read_elements}
+use Rattle.dynamo_de.specs.Reading.{read_elements}
 use Rattle.dynamo_de.specs.Reads.{ReadsList}
 use Rattle.dynamo_de.specs.Source.{Source}
 use Rattle.dynamo_shape.specs.ByValue.{SameEach}

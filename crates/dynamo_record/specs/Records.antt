@@ -5,7 +5,7 @@ use Rattle.dynamo_value.specs.Fault.{Fault}
 use Rattle.dynamo_ser.specs.Datum as datum
 use Rattle.dynamo_ser.specs.Datum.{Datum, Fields}
 use Rattle.dynamo_de.specs.Answer.{Answer}
-use Rattle.dynamo_de.specs.Contents.{Parts}
+use Rattle.dynamo_de.specs.Visitors.{Parts}
 use Rattle.dynamo_de.specs.Source.{Source, Text}
 use Rattle.dynamo_shape.specs.Conforms.{conforms}
 use Rattle.dynamo_shape.specs.Laws.{AnswersByShape}

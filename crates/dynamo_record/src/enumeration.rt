@@ -1,7 +1,7 @@
 ghost use Rattle.std.specs.Prelude.{◌≡◌, ◌++◌, codes, map};
 ghost use Rattle.dynamo_de.specs.Answer.{After};
 ghost use Rattle.dynamo_de.specs.Meets.{Meets};
-ghost use Rattle.dynamo_de.specs.Scalars.{read_identifier};
+ghost use Rattle.dynamo_de.specs.Reading.{read_identifier};
 ghost use Rattle.dynamo_de.specs.Visitors.{claims_str, take_identifier, claims_enum, take_variant};
 ghost use Rattle.dynamo_record.specs.Enums.{AboutEnum, of_variants, enum_reads, NamesVariant, FromVariants, AsMany, VariantsNamed};
 

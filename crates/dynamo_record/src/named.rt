@@ -1,7 +1,8 @@
 ghost use Rattle.std.specs.Prelude.{◌≡◌, [], codes, map, true, length};
 ghost use Rattle.dynamo_de.specs.Access.{OfContent};
 ghost use Rattle.dynamo_de.specs.Answer.{After};
-ghost use Rattle.dynamo_de.specs.Contents.{by_name, read_entries};
+ghost use Rattle.dynamo_de.specs.Reading.{read_entries};
+ghost use Rattle.dynamo_de.specs.Visitors.{by_name};
 ghost use Rattle.dynamo_de.specs.Meets.{Meets};
 ghost use Rattle.dynamo_record.specs.Contents.{about_named};
 ghost use Rattle.dynamo_record.specs.Names.{Names, differ};

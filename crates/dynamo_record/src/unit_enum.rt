@@ -2,7 +2,7 @@ ghost use Rattle.std.specs.Prelude.{◌≡◌, ◌++◌, ℕ, codes, map, length
 ghost use Rattle.std.specs.List.{range_with_len};
 ghost use Rattle.dynamo_de.specs.Answer.{After};
 ghost use Rattle.dynamo_de.specs.Meets.{Meets};
-ghost use Rattle.dynamo_de.specs.Scalars.{read_identifier};
+ghost use Rattle.dynamo_de.specs.Reading.{read_identifier};
 ghost use Rattle.dynamo_de.specs.Visitors.{claims_str, take_identifier, claims_enum, take_variant};
 ghost use Rattle.dynamo_shape.specs.Conforms as shapes;
 ghost use Rattle.dynamo_record.specs.UnitEnums.{AboutUnits, IsNumber, FromName, FromVariant, unit_enum_shape, unit_enum_tells, unit_enum_reads};

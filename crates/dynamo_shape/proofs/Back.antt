@@ -8,7 +8,7 @@ use Rattle.dynamo_shape.proofs.Sets.{set_back}
 use Rattle.dynamo_shape.proofs.Maps.{map_back, pairs_back, pairs_weaker}
 use Rattle.dynamo_shape.proofs.Structs.{FieldsBack, no_fields_back, field_back, all_named}
 use Rattle.dynamo_shape.proofs.Found.{or_false, same_bytes}
-use Rattle.dynamo_shape.proofs.Results.{one_char-encode}
+use Rattle.dynamo_shape.proofs.Results.{chars-encode}
 use Rattle.dynamo_value.specs.Av as av
 use Rattle.dynamo_ser.specs.Datum as datum
 use Rattle.dynamo_de.specs.Answer.{Answer, value}
@@ -128,7 +128,7 @@ moved_content c v d e p h = subst (ContentBack c v) (sym p) h
 mutual
   pub back : (s : Shape) (d : Datum) → NearlyClear s → conforms s d → ReadsBack s d
   back boolean d n c = moved boolean _ _ c.1 (Boolean c.0, datum.boolean c.0, refl, refl, refl)
-  back char d n c = moved char _ _ c.1 (S (encode_utf8 c.0), datum.char c.0, refl, rw (one_char-encode c.0 c.2) refl, refl)
+  back char d n c = moved char _ _ c.1 (S (encode_utf8 c.0), datum.char c.0, refl, rw (chars-encode c.0 c.2) refl, refl)
   back string d n c = moved string _ _ c.1 (S c.0, datum.string c.0, refl, refl, refl)
   back bytes d n c = moved bytes _ _ c.1 (B c.0, datum.bytes c.0, refl, refl, refl)
   back unit d n c = moved unit _ _ c (Null true, datum.unit, refl, refl, refl)

@@ -6,7 +6,7 @@ use Rattle.dynamo_ser.specs.Datum.{Datum}
 use Rattle.dynamo_ser.specs.Options.{option_tells}
 use Rattle.dynamo_de.specs.Answer.{Answer, After, Gives, Is}
 use Rattle.dynamo_value.specs.Steps.{◌>>=◌}
-use Rattle.dynamo_de.specs.Contents.{read_content}
+use Rattle.dynamo_de.specs.Reading.{read_content}
 use Rattle.dynamo_de.specs.Reads.{ReadsOption}
 use Rattle.dynamo_de.specs.Source.{Source}
 use Rattle.dynamo_shape.specs.Laws.{AnswersByShape}

@@ -4,7 +4,7 @@ use Rattle.std.specs.Prelude.{encode_utf8, bytes_eq}
 use Rattle.std.specs.Fmt.{signed_decimal}
 use Rattle.dynamo_de.proofs.Decimals.{parse_back}
 use Rattle.dynamo_shape.proofs.Found.{or_false, same_bytes}
-use Rattle.dynamo_shape.proofs.Results.{ok_same, value_same, one_char-encode}
+use Rattle.dynamo_shape.proofs.Results.{ok_same, value_same, chars-encode}
 use Rattle.dynamo_ser.specs.Datum as datum
 use Rattle.dynamo_de.specs.Answer.{value}
 use Rattle.dynamo_de.specs.Source as source
@@ -47,7 +47,7 @@ units_back (variant v k vs) name i d n c = absurd n
 
 pub key_back : (k : Shape) (l : Datum) → IsKey k → conforms k l → KeyBack k l
 key_back boolean l n c = moved boolean _ _ c.1 (bool_text c.0, refl, refl, bool_back c.0)
-key_back char l n c = moved char _ _ c.1 (encode_utf8 c.0, refl, refl, rw (one_char-encode c.0 c.2) refl)
+key_back char l n c = moved char _ _ c.1 (encode_utf8 c.0, refl, refl, rw (chars-encode c.0 c.2) refl)
 key_back string l n c = moved string _ _ c.1 (c.0, refl, refl, refl)
 key_back (integer k) l n c = moved (integer k) _ _ c.1 (signed_decimal c.0, refl, refl, rw (parse_back k c.0 c.2) refl)
 key_back (newtype name s) l n c = let h = key_back s c.0 n.1 c.2 in moved (newtype name s) _ _ c.1 (h.0, h.1, ap (datum.newtype_struct name) h.2, rw h.3 refl)

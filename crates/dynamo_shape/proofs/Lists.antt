@@ -11,7 +11,7 @@ use Rattle.dynamo_ser.specs.Options.{option_tells}
 use Rattle.dynamo_de.specs.Answer as answer
 use Rattle.dynamo_de.specs.Answer.{After}
 use Rattle.dynamo_value.specs.Steps.{◌>>=◌}
-use Rattle.dynamo_de.specs.Contents.{read_content, read_elements}
+use Rattle.dynamo_de.specs.Reading.{read_content, read_elements}
 use Rattle.dynamo_de.specs.Reads.{Through, ReadsOption, ReadsEach, ReadsList}
 use Rattle.dynamo_de.specs.Source.{Source}
 use Rattle.dynamo_shape.specs.Conforms.{conforms, AllElements}

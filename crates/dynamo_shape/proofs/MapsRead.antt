@@ -11,7 +11,7 @@ use Rattle.dynamo_de.specs.Access.{ReadsPair}
 use Rattle.dynamo_de.specs.Answer as answer
 use Rattle.dynamo_de.specs.Answer.{Answer, After}
 use Rattle.dynamo_value.specs.Steps.{◌>>=◌}
-use Rattle.dynamo_de.specs.Contents.{read_entries}
+use Rattle.dynamo_de.specs.Reading.{read_entries}
 use Rattle.dynamo_de.specs.Reads.{ReadsEach, ReadsMap}
 use Rattle.dynamo_de.specs.Source.{Source, Entry, attribute, key_text}
 use Rattle.dynamo_shape.specs.Conforms.{conforms, AllPairs, HasKey, PairsDiffer}

@@ -8,7 +8,9 @@ use Rattle.dynamo_shape.proofs.Found.{same_bytes}
 use Rattle.dynamo_ser.specs.Datum as datum
 use Rattle.dynamo_de.specs.Answer.{Answer, value, fault, refused, value_or}
 use Rattle.dynamo_de.specs.Number.{parse}
-use Rattle.dynamo_de.specs.Scalars.{one_char}
+use Rattle.dynamo_de.specs.Reading.{taken}
+use Rattle.dynamo_de.specs.Sight as sight
+use Rattle.dynamo_de.specs.Visitors.{one_char, claims_bool, take_bool}
 use Rattle.dynamo_de.specs.Source.{Text, key_text}
 use Rattle.dynamo_value.specs.Fault.{expected_string, expected_num}
 use Rattle.dynamo_ser.specs.Datum.{Variant, Datum, Pairs, no_pairs, pair}
@@ -115,7 +117,7 @@ abbrev KeysOnly : Answer Datum → Type 0
 KeysOnly (Ok l) = IsKeyDatum l
 KeysOnly _ = ⊤
 
-bool_self : (b c : Bool) → KeysOnly (into datum.boolean (cond b (value true) (cond c (value false) (fault expected_string))))
+bool_self : (b c : Bool) → KeysOnly (into datum.boolean (taken claims_bool take_bool (cond b (Ok (sight.boolean true)) (cond c (Ok (sight.boolean false)) (Err expected_string)))))
 bool_self true c = refl
 bool_self false true = refl
 bool_self false false = tt

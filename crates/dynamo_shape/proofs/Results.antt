@@ -1,5 +1,5 @@
 -- Results and answers that are values.
-use Rattle.std.proofs.Common.{◌≡◌, ℕ, [], ◌∷◌, Result, Ok, Err, Some, refl, sym, ap, ◌∙◌}
+use Rattle.std.proofs.Common.{◌≡◌, ℕ, [], ◌∷◌, Result, Ok, Err, refl, sym, ap, ◌∙◌}
 use Rattle.std.specs.Prelude.{chars, encode_utf8, is_ok}
 use Rattle.std.specs.Result.{result_unwrap_or}
 use Rattle.std.specs.Char.{IsScalar}
@@ -7,7 +7,6 @@ use Rattle.std.proofs.lemmas.Bool.{true≢false}
 use Rattle.std.proofs.lemmas.Str.{chars-encodes}
 use Rattle.dynamo_write.proofs.Collected.{nothing_more}
 use Rattle.dynamo_de.specs.Answer.{Answer, value}
-use Rattle.dynamo_de.specs.Scalars.{one_char, the_only}
 use Rattle.dynamo_value.specs.Fault.{Fault}
 use Rattle.dynamo_value.specs.Steps.{◌>>=◌}
 
@@ -28,5 +27,5 @@ pub bind_ok : {A B : Type 0} (r : Result A Fault) (f : A → Result B Fault) (y 
 bind_ok (Ok x) f y h = (x, refl, h)
 bind_ok (Err e) f y h = absurd (err_ok h)
 
-pub one_char-encode : (c : ℕ) → IsScalar c → one_char (encode_utf8 c) ≡ Some c
-one_char-encode c h = ap the_only (ap chars (sym (nothing_more (encode_utf8 c))) ∙ chars-encodes (c ∷ []) (rw h refl))
+pub chars-encode : (c : ℕ) → IsScalar c → chars (encode_utf8 c) ≡ c ∷ []
+chars-encode c h = ap chars (sym (nothing_more (encode_utf8 c))) ∙ chars-encodes (c ∷ []) (rw h refl)

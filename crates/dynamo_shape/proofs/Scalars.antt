@@ -7,7 +7,7 @@ use Rattle.dynamo_value.specs.Integer.{IntegerKind}
 use Rattle.dynamo_ser.specs.Datum as datum
 use Rattle.dynamo_ser.specs.Datum.{Datum}
 use Rattle.dynamo_de.specs.Answer.{Answer, Gives}
-use Rattle.dynamo_de.specs.Scalars.{read_bool, read_integer, read_char, read_string, read_bytes, read_unit}
+use Rattle.dynamo_de.specs.Reading.{read_bool, read_integer, read_char, read_string, read_bytes, read_unit}
 use Rattle.dynamo_shape.specs.Conforms.{conforms}
 use Rattle.dynamo_shape.specs.Laws.{AnswersByShape, ReadsByShape, IsToldByValue, ToldAlike}
 use Rattle.dynamo_shape.specs.Read.{into}

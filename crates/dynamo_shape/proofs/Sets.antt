@@ -5,11 +5,11 @@ use Rattle.std.specs.Fmt.{signed_decimal}
 use Rattle.dynamo_de.proofs.Decimals.{parse_back}
 use Rattle.dynamo_shape.proofs.Alike.{data_refl}
 use Rattle.dynamo_shape.proofs.Keys.{units_back}
-use Rattle.dynamo_shape.proofs.Results.{one_char-encode}
+use Rattle.dynamo_shape.proofs.Results.{chars-encode}
 use Rattle.dynamo_value.specs.Av as av
 use Rattle.dynamo_ser.specs.Datum as datum
 use Rattle.dynamo_de.specs.Answer.{value}
-use Rattle.dynamo_de.specs.Contents.{read_elements}
+use Rattle.dynamo_de.specs.Reading.{read_elements}
 use Rattle.dynamo_de.specs.Source.{Text, Source, attribute, plain_text, number_text, byte_string, each}
 use Rattle.dynamo_ser.specs.Datum.{Datum}
 use Rattle.dynamo_ser.specs.Symbols.{SetKind, strings, numbers, blobs, symbol}
@@ -37,7 +37,7 @@ moved k s d e p h = subst (ElementBack k s) (sym p) h
 
 element_back : (k : SetKind) (s : Shape) (d : Datum) → IsElement k s → conforms s d → ElementBack k s d
 element_back strings string d n c = moved strings string _ _ c.1 (S c.0, c.0, refl, refl, refl, refl)
-element_back strings char d n c = moved strings char _ _ c.1 (S (encode_utf8 c.0), encode_utf8 c.0, refl, refl, rw (one_char-encode c.0 c.2) refl, refl)
+element_back strings char d n c = moved strings char _ _ c.1 (S (encode_utf8 c.0), encode_utf8 c.0, refl, refl, rw (chars-encode c.0 c.2) refl, refl)
 element_back strings (enum name vs) d n c = let h = units_back vs name 0 d n c in (S h.0, h.0, h.5, refl, h.4, h.3)
 element_back numbers (integer k) d n c = moved numbers (integer k) _ _ c.1 (N (signed_decimal c.0), signed_decimal c.0, refl, refl, rw (parse_back k c.0 c.2) refl, refl)
 element_back blobs bytes d n c = moved blobs bytes _ _ c.1 (B c.0, c.0, refl, refl, refl, refl)

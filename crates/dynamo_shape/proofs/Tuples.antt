@@ -6,7 +6,7 @@ use Rattle.dynamo_ser.specs.Datum.{Datum, Elements, elements_of}
 use Rattle.dynamo_de.specs.Answer as answer
 use Rattle.dynamo_de.specs.Answer.{After}
 use Rattle.dynamo_value.specs.Steps.{◌>>=◌}
-use Rattle.dynamo_de.specs.Contents.{read_elements}
+use Rattle.dynamo_de.specs.Reading.{read_elements}
 use Rattle.dynamo_de.specs.Reads.{ReadsFirst, ReadsTwo, ReadsThree, ReadsFour}
 use Rattle.dynamo_de.specs.Source.{Source}
 use Rattle.dynamo_shape.specs.Conforms.{conforms, conform_each}

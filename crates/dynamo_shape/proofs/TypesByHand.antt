@@ -4,7 +4,8 @@ use Rattle.dynamo_value.specs.Fault.{Fault}
 use Rattle.dynamo_ser.specs.Datum as datum
 use Rattle.dynamo_ser.specs.Datum.{Datum}
 use Rattle.dynamo_de.specs.Answer.{Answer, After, Gives}
-use Rattle.dynamo_de.specs.Contents.{Parts, by_name, in_order, read_newtype, read_parts}
+use Rattle.dynamo_de.specs.Reading.{read_newtype, read_parts}
+use Rattle.dynamo_de.specs.Visitors.{Parts, by_name, in_order}
 use Rattle.dynamo_de.specs.Source.{Source, Text, Entry}
 use Rattle.dynamo_shape.specs.Conforms.{conforms}
 use Rattle.dynamo_shape.specs.Laws.{ReadsByShape}

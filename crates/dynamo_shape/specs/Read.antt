@@ -8,9 +8,9 @@ use Rattle.dynamo_ser.specs.Datum.{Datum, Elements, Pairs, Fields, Variant}
 use Rattle.dynamo_ser.specs.Symbols.{symbol}
 use Rattle.dynamo_de.specs.Answer.{Answer, value, refused, value_or}
 use Rattle.dynamo_value.specs.Steps.{◌>>=◌}
-use Rattle.dynamo_de.specs.Contents.{read_content, read_elements, read_entries, read_newtype, read_parts, read_variant, Parts, by_name, in_order}
+use Rattle.dynamo_de.specs.Reading.{read_content, read_elements, read_entries, read_newtype, read_parts, read_variant, read_bool, read_integer, read_char, read_string, read_bytes, read_unit, read_unit_struct}
+use Rattle.dynamo_de.specs.Visitors.{Parts, by_name, in_order}
 use Rattle.dynamo_de.specs.Ignored.{ignore}
-use Rattle.dynamo_de.specs.Scalars.{read_bool, read_integer, read_char, read_string, read_bytes, read_unit, read_unit_struct}
 use Rattle.dynamo_de.specs.Source.{Source, Text, Entry, attribute, key_text}
 use Rattle.dynamo_shape.specs.SameKey.{put_pair}
 use Rattle.dynamo_shape.specs.Shape.{Shape, boolean, char, string, bytes, unit, integer, unit_struct, option, newtype, list, set, tuple, tuple_struct, map, struct, enum, Shapes, no_shapes, shape, FieldShapes, no_field_shapes, field_shape, Content, nothing, one, several, named, Variants, no_variants, variant}

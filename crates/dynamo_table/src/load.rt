@@ -1,19 +1,19 @@
-//! Loading the lines of the input, some hundred in a transaction.
-use crate::failure::Failure;
-use crate::line::{LineFault, is_blank, read_item};
-use crate::run::PAGE;
+//! Loading the lines of an export, some hundred in a transaction.
+use crate::run::{Answer, Outcome};
+use crate::session::PAGE;
+use anyhow::bail;
 use dynamo_value::Item;
+use fixtures::{Line, LineFault, Lines};
 use sqlite::Alter;
-use std::io::{BufRead, BufReader, IsTerminal};
+use std::fmt::Display;
+use std::io::{BufReader, IsTerminal};
 use table_store::TableStore;
 
-// What is loaded of the input so far.
+// A load at work: what is loaded of the input so far.
 #[derive(Drop)]
-struct Loading {
-    keeps_going: bool,
-    tells_progress: bool,
-    // The number of the last line that was read.
-    number: u64,
+struct Loading<'r, 'a, S: Alter + Drop> {
+    rt: &'r HostRuntime,
+    store: &'a mut TableStore<S>,
     // How many items are in the table.
     loaded: u64,
     // How many lines have a fault.
@@ -22,121 +22,75 @@ struct Loading {
     waiting: Vec<Item>,
 }
 
-// The item of a line, if the table takes it.
-fn item_of<S: Alter + Drop>(
-    rt: &HostRuntime,
-    store: &TableStore<S>,
-    line: &[u8],
-) -> Result<Item, LineFault> {
-    let item = read_item(rt.alloc(), line)?;
-    match store.key_of(&item) {
-        Ok(_) => Ok(item),
-        Err(error) => Err(LineFault::Key(error)),
-    }
-}
-
-impl Loading {
-    // Takes a line in.
-    fn take<S: Alter + Drop>(
-        &mut self,
-        rt: &HostRuntime,
-        store: &mut TableStore<S>,
-        line: &[u8],
-    ) -> Result<(), Failure> {
-        self.number = self.number.saturating_add(1);
-        if is_blank(line) {
-            return Ok(());
+impl<S: Alter + Drop> Loading<'_, '_, S> {
+    // Takes in the item of a line, which waits for a transaction of some hundred, or tells why there is none.
+    fn take(&mut self, line: Result<Line, LineFault>) -> anyhow::Result<()> {
+        match line {
+            Ok(Line { number, item }) => match self.store.key_of(&item) {
+                Ok(_) => self.waiting.push(item)?,
+                Err(error) => self.tell(format_args!("line {number}: {error}")),
+            },
+            Err(fault) => self.tell(fault),
         }
-        match item_of(rt, store, line) {
-            Ok(item) => self.wait(rt, store, item),
-            Err(fault) => self.meet(rt, store, fault),
-        }
-    }
-
-    // Keeps an item for the next transaction, which comes where there are enough.
-    fn wait<S: Alter + Drop>(
-        &mut self,
-        rt: &HostRuntime,
-        store: &mut TableStore<S>,
-        item: Item,
-    ) -> Result<(), Failure> {
-        self.waiting.push(item)?;
         if self.waiting.len() < PAGE {
             Ok(())
         } else {
-            self.write(rt, store)
+            self.write()
         }
     }
 
-    // Goes on behind a line with a fault, or stops there with all lines before it in the table.
-    fn meet<S: Alter + Drop>(
-        &mut self,
-        rt: &HostRuntime,
-        store: &mut TableStore<S>,
-        fault: LineFault,
-    ) -> Result<(), Failure> {
-        if self.keeps_going {
-            self.broken = self.broken.saturating_add(1);
-            let _ = eprintln!(rt; "error: line {}: {fault}", self.number);
-            Ok(())
-        } else {
-            self.write(rt, store)?;
-            Err(Failure::Line(self.number, fault))
-        }
+    // Tells the fault of a line.
+    fn tell<F: Display + Drop>(&mut self, fault: F) {
+        let _ = eprintln!(self.rt; "error: {fault}");
+        self.broken = self.broken.saturating_add(1);
     }
 
     // Puts the items that wait into the table, in one transaction.
-    fn write<S: Alter + Drop>(
-        &mut self,
-        rt: &HostRuntime,
-        store: &mut TableStore<S>,
-    ) -> Result<(), Failure> {
-        store.write_all(self.waiting.as_slice())?;
+    fn write(&mut self) -> anyhow::Result<()> {
+        self.store.write_all(self.waiting.as_slice())?;
         let count = u64::try_from(self.waiting.len()).unwrap_or(u64::MAX);
         self.loaded = self.loaded.saturating_add(count);
         self.waiting.clear();
-        if self.tells_progress {
-            let _ = eprint!(rt; "\r{} items loaded", self.loaded);
+        if self.rt.stderr().is_terminal() {
+            let _ = eprint!(self.rt; "\r{} items loaded", self.loaded);
         }
         Ok(())
     }
-
-    // What is answered at the end of the input.
-    fn end(&self, rt: &HostRuntime) -> Result<(), Failure> {
-        if self.tells_progress {
-            let _ = eprintln!(rt; "");
-        }
-        if self.broken == 0 {
-            Ok(())
-        } else {
-            Err(Failure::Lines(self.broken))
-        }
-    }
 }
 
-/// Puts the items of the input's lines into a table. A line stands for an item, or is blank.
+/// Puts the items of the input's lines into a table. A line with a fault is told, and ends the load with all lines before it in
+/// the table, or is passed over.
 ///
 /// # Errors
 ///
-/// `Line` of the first line that has a fault, `Lines` where it keeps going and some have; `Io` where the input can't be read,
-/// and those of the table. What was loaded stays.
+/// Those of the table, and of the input, each by its message. What was loaded stays.
 pub fn load<S: Alter + Drop>(
     rt: &HostRuntime,
     store: &mut TableStore<S>,
     keeps_going: bool,
-) -> Result<(), Failure> {
+) -> Answer {
+    let mut lines = Lines::new(rt.alloc(), BufReader::new(rt.alloc(), rt.reader())?);
+    let waiting = Vec::new(rt.alloc());
     let mut loading = Loading {
-        keeps_going,
-        tells_progress: rt.stderr().is_terminal(),
-        number: 0,
+        rt,
+        store,
         loaded: 0,
         broken: 0,
-        waiting: Vec::new(rt.alloc()),
+        waiting,
     };
-    for line in BufReader::new(rt.alloc(), rt.reader())?.split(rt.alloc(), b'\n') {
-        let line = line?;
-        loading.take(rt, store, line.as_slice())?;
+    for _ in 0..u64::MAX {
+        match lines.next_line() {
+            Some(line) if keeps_going || loading.broken == 0 => loading.take(line)?,
+            _ => break,
+        }
     }
-    loading.write(rt, store)?;
-    loading.end(rt)
+    loading.write()?;
+    if rt.stderr().is_terminal() {
+        let _ = eprintln!(rt; "");
+    }
+    match loading.broken {
+        0 => Ok(Outcome::Done),
+        1 if !keeps_going => Ok(Outcome::Told),
+        count => bail!("lines that are not loaded: {count}"),
+    }
 }

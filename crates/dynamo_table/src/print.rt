@@ -1,5 +1,5 @@
 //! Items as lines of the output.
-use crate::failure::Failure;
+use crate::run::{Answer, Outcome};
 use dynamo_json::DynamoJson;
 use dynamo_value::Item;
 use std::alloc::AllocError;
@@ -20,33 +20,19 @@ pub enum Form {
 ///
 /// # Errors
 ///
-/// `Io` where the output can't be written, and want of memory.
-pub fn print_items(rt: &HostRuntime, form: Form, items: &[Item]) -> Result<(), Failure> {
+/// What the output refuses, and want of memory.
+pub fn print_items(rt: &HostRuntime, form: Form, items: &[Item]) -> Answer {
+    let (before, behind) = match form {
+        Form::Plain => ("", "\n"),
+        Form::Export => ("{\"Item\":", "}\n"),
+    };
     let mut text = String::new(rt.alloc());
     for item in items {
-        push_line(&mut text, form, item)?;
+        text.push_str(before)?;
+        // The text fails for want of memory alone.
+        item.push_json_text(&mut text).map_err(|_| AllocError)?;
+        text.push_str(behind)?;
     }
     io::writer(rt).write_all(text.as_bytes())?;
-    Ok(())
-}
-
-fn push_line(text: &mut String, form: Form, item: &Item) -> Result<(), AllocError> {
-    match form {
-        Form::Plain => push_item(text, item)?,
-        Form::Export => {
-            text.push_str("{\"Item\":")?;
-            push_item(text, item)?;
-            text.push('}')?;
-        }
-    }
-    text.push('\n')?;
-    Ok(())
-}
-
-// The text fails for want of memory alone.
-fn push_item(text: &mut String, item: &Item) -> Result<(), AllocError> {
-    match item.push_json_text(text) {
-        Ok(()) => Ok(()),
-        Err(_) => Err(AllocError),
-    }
+    Ok(Outcome::Done)
 }

@@ -14,7 +14,7 @@ use Rattle.dynamo_value.specs.Integer.{IntegerKind}
 use Rattle.dynamo_ser.specs.Datum as datum
 use Rattle.dynamo_ser.specs.Datum.{Datum}
 use Rattle.dynamo_de.specs.Answer.{After}
-use Rattle.dynamo_de.specs.Contents.{read_entries}
+use Rattle.dynamo_de.specs.Reading.{read_entries}
 use Rattle.dynamo_de.specs.Reads.{ReadsMap}
 use Rattle.dynamo_de.specs.Source.{Source}
 use Rattle.dynamo_shape.specs.ByValue.{SameMap}

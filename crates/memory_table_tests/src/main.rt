@@ -2,12 +2,10 @@
 //!
 //! `numbers.tsv` has 2,000 rows: a text, whether it is the text of a number that DynamoDB keeps, another text, whether it is,
 //! and how the two compare. The rows that differ are printed, and how many there are. Each line of `calls.txt` is a call on a
-//! table, or makes another one, and what it answers is printed. At the end come ten thousand calls drawn at random, held
-//! against a plain list.
+//! table, or makes another one, and what it answers is printed. Calls drawn at random are in `table_store_tests`.
 #![tactic(auto)]
 
 mod numbers;
-mod random;
 mod script;
 mod values;
 
@@ -59,17 +57,7 @@ fn calls(rt: &HostRuntime) -> io::Result<()> {
     Ok(())
 }
 
-fn random_calls(rt: &HostRuntime) -> io::Result<()> {
-    let mut table = script::table(rt.alloc(), "n:")?;
-    let mut draw = random::Draw::new(20);
-    match random::agreeing(rt.alloc(), &mut table, &mut draw) {
-        Ok(count) => println!(rt; "{count} random calls agree"),
-        Err(error) => println!(rt; "{error}"),
-    }
-}
-
 fn main(rt: HostRuntime) -> io::Result<()> {
     number_rows(&rt)?;
-    calls(&rt)?;
-    random_calls(&rt)
+    calls(&rt)
 }

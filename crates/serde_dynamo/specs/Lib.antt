@@ -20,7 +20,6 @@ pub use Rattle.dynamo_ser.specs.Wrapped
 pub use Rattle.dynamo_ser.specs.Writes
 pub use Rattle.dynamo_de.specs.Access
 pub use Rattle.dynamo_de.specs.Answer
-pub use Rattle.dynamo_de.specs.Contents
 pub use Rattle.dynamo_de.specs.Fields
 pub use Rattle.dynamo_de.specs.Ignored
 pub use Rattle.dynamo_de.specs.Meets
@@ -28,8 +27,8 @@ pub use Rattle.dynamo_de.specs.Number
 pub use Rattle.dynamo_de.specs.Promises
 pub use Rattle.dynamo_de.specs.ReadAttribute
 pub use Rattle.dynamo_de.specs.ReadJson
+pub use Rattle.dynamo_de.specs.Reading
 pub use Rattle.dynamo_de.specs.Reads
-pub use Rattle.dynamo_de.specs.Scalars
 pub use Rattle.dynamo_de.specs.Shown
 pub use Rattle.dynamo_de.specs.Shows
 pub use Rattle.dynamo_de.specs.Sight

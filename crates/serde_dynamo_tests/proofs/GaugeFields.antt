@@ -7,12 +7,11 @@ use Rattle.serde_dynamo.specs.Datum as datum
 use Rattle.serde_dynamo.specs.Datum.{Datum}
 use Rattle.dynamo_de.specs.Access.{NextElement, NextKey, NextValue}
 use Rattle.dynamo_de.specs.Answer.{Answer, After, Is, Gives}
-use Rattle.dynamo_de.specs.Contents.{read_content}
+use Rattle.dynamo_de.specs.Reading.{read_content, read_string, read_integer}
 use Rattle.dynamo_de.specs.Fields.{NamesOne, read_first, read_fields, LeadsTo}
 use Rattle.dynamo_de.specs.Ignored.{read_ignored}
 use Rattle.dynamo_de.specs.Meets.{IsMessage}
 use Rattle.dynamo_de.specs.Reads.{ReadsOption}
-use Rattle.dynamo_de.specs.Scalars.{read_string, read_integer}
 use Rattle.dynamo_de.specs.Source.{Source, Entry}
 use Rattle.dynamo_de.specs.declared.ignored_any.IgnoredAny.{IgnoredAny}
 use Rattle.dynamo_de.proofs.Fields as fields

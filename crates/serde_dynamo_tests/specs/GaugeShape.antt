@@ -4,7 +4,7 @@ use Rattle.serde_dynamo.specs.About.{About}
 use Rattle.serde_dynamo.specs.Answer as answer
 use Rattle.serde_dynamo.specs.Answer.{Answer, Gives}
 use Rattle.serde_dynamo.specs.Av.{Av}
-use Rattle.serde_dynamo.specs.Contents.{Parts, by_name, in_order}
+use Rattle.serde_dynamo.specs.Visitors.{Parts, by_name, in_order}
 use Rattle.serde_dynamo.specs.Datum as datum
 use Rattle.serde_dynamo.specs.Datum.{Datum}
 use Rattle.serde_dynamo.specs.Fault.{Fault}

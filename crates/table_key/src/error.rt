@@ -7,8 +7,11 @@ use std::fmt;
 /// Why a call on a table was refused. The table is then as it was.
 #[derive(Clone, Copy, Debug, PartialEq, Eq)]
 pub enum TableError {
-    /// The item lacks an attribute of the key.
+    /// An attribute of the key is missing.
     Missing,
+
+    /// A sort key is given, and the table has none.
+    NoSortKey,
 
     /// The value of an attribute of the key is of another kind.
     WrongKind,
@@ -18,6 +21,12 @@ pub enum TableError {
 
     /// The text of a number of the key is no number that DynamoDB keeps.
     NotANumber,
+
+    /// The word of a byte string of the key is no base64 text.
+    NotBase64,
+
+    /// The word is not that of a key attribute, a name and a kind.
+    NotAnAttribute,
 
     /// No item is there to be updated.
     NoItem,
@@ -52,10 +61,13 @@ impl<T: Drop> From<AllocFailed<T>> for TableError {
 impl fmt::Display for TableError {
     fn fmt<W: fmt::Write>(&self, f: &mut fmt::Formatter<W>) -> fmt::Result {
         f.write_str(match self {
-            TableError::Missing => "the item lacks an attribute of the key",
+            TableError::Missing => "an attribute of the key is missing",
+            TableError::NoSortKey => "the table has no sort key",
             TableError::WrongKind => "an attribute of the key is of another kind",
             TableError::Empty => "a text or a byte string of the key is empty",
             TableError::NotANumber => "a number of the key is no number",
+            TableError::NotBase64 => "a byte string of the key is no base64 text",
+            TableError::NotAnAttribute => "a key attribute is not of the form NAME:KIND",
             TableError::NoItem => "no item has the key",
             TableError::KeyChanged => "the update would give the item another key",
             TableError::ConditionFailed => "the condition does not hold",

@@ -1,17 +1,17 @@
 //! Runs what stands on the tables. Each line of `requests.txt` is a request file, whose requests are printed, or its fault. The
 //! lines of the input are an export: each item is printed as it is after it was written and read again, or why there is none.
-//! At the end a table of members is used.
+//! At the end a table of members is used, in memory and in a database.
 #![tactic(auto)]
 
 mod exports;
+mod kept;
 mod member;
 mod members;
 mod requests;
 
-use std::io;
-
-fn main(rt: HostRuntime) -> io::Result<()> {
+fn main(rt: HostRuntime) -> anyhow::Result<()> {
     requests::print_all(&rt)?;
     exports::print_again(&rt)?;
-    members::print_calls(&rt)
+    members::print_calls(&rt)?;
+    kept::print_calls(&rt)
 }

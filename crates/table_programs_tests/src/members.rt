@@ -19,7 +19,8 @@ impl Keyed for Member {
     }
 }
 
-fn member(alloc: Global, id: &str, name: &str, age: u8) -> Result<Member, AllocError> {
+/// A member of this id, name and age in years.
+pub fn member(alloc: Global, id: &str, name: &str, age: u8) -> Result<Member, AllocError> {
     let id = String::from_str(alloc, id)?;
     let name = String::from_str(alloc, name)?;
     Ok(Member { id, name, age })

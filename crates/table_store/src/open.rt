@@ -1,8 +1,8 @@
-//! Tables in memory and in files.
-use crate::{StoreError, TableStore};
+use crate::TableStore;
 use sqlite::{Connection, File, FileStore, MemStore};
 use std::alloc::Global;
 use table_key::KeySchema;
+use table_rows::StoreError;
 
 /// A table without items in a database in memory.
 ///

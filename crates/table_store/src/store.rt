@@ -1,19 +1,21 @@
-use crate::bytes::KeyBytes;
-use crate::definition::{Definition, is_same, make_tables};
-use crate::{StoreError, rows};
+ghost use Rattle.std.specs.Prelude.{◌≡◌};
+ghost use Rattle.table_key.specs.KeyOf.{ReadsKey};
+ghost use Rattle.table_store.specs.Content.{NeedsKey, schema_of};
+
 use dynamo_value::Item;
+use key_bytes::{Bounds, KeyBytes, bytes_of};
 use sqlite::{Alter, Connection};
 use std::alloc::Global;
 use table_key::{Key, KeySchema, TableError};
-use table_query::Condition;
+use table_query::{Condition, Query};
+use table_rows::{Definition, StoreError, make_tables};
 
 /// A DynamoDB table in a SQLite database: items by their keys, in the keys' order.
 #[derive(Drop)]
 pub struct TableStore<S: Alter + Drop> {
-    pub(crate) alloc: Global,
-    pub(crate) conn: Connection<S>,
-    pub(crate) id: i64,
-    pub(crate) schema: KeySchema,
+    alloc: Global,
+    conn: Connection<S>,
+    table: Definition,
 }
 
 impl<S: Alter + Drop> TableStore<S> {
@@ -29,11 +31,11 @@ impl<S: Alter + Drop> TableStore<S> {
         schema: KeySchema,
     ) -> Result<TableStore<S>, StoreError> {
         make_tables(&mut conn)?;
-        if Definition::find(&mut conn, name)?.is_none() {
-            Definition::add(&mut conn, name, &schema)?;
+        if Definition::find(alloc, &mut conn, name)?.is_none() {
+            Definition::add(alloc, &mut conn, name, &schema)?;
         }
         let store = TableStore::open(alloc, conn, name)?;
-        if is_same(&store.schema, &schema) {
+        if *store.schema() == schema {
             Ok(store)
         } else {
             Err(StoreError::OtherSchema)
@@ -51,13 +53,8 @@ impl<S: Alter + Drop> TableStore<S> {
         name: &str,
     ) -> Result<TableStore<S>, StoreError> {
         make_tables(&mut conn)?;
-        match Definition::find(&mut conn, name)? {
-            Some(Definition { id, schema }) => Ok(TableStore {
-                alloc,
-                conn,
-                id,
-                schema,
-            }),
+        match Definition::find(alloc, &mut conn, name)? {
+            Some(table) => Ok(TableStore { alloc, conn, table }),
             None => Err(StoreError::NoTable),
         }
     }
@@ -69,13 +66,17 @@ impl<S: Alter + Drop> TableStore<S> {
     }
 
     /// What the table's keys are.
-    pub fn schema(&self) -> &KeySchema {
-        &self.schema
+    pub fn schema(&self) -> &KeySchema
+        ensures { result.now ≡ schema_of self.now }
+    {
+        &self.table.schema
     }
 
     /// The key of an item of this table, and errors as [`KeySchema::key_of`] has them.
-    pub fn key_of(&self, item: &Item) -> Result<Key, TableError> {
-        self.schema.key_of(item)
+    pub fn key_of(&self, item: &Item) -> Result<Key, TableError>
+        ensures { ReadsKey (schema_of self.now) item.now result }
+    {
+        self.table.schema.key_of(item)
     }
 
     /// How many items there are.
@@ -83,8 +84,10 @@ impl<S: Alter + Drop> TableStore<S> {
     /// # Errors
     ///
     /// `Database` and `OutOfMemory`.
-    pub fn count(&mut self) -> Result<u64, StoreError> {
-        rows::count(&mut self.conn, self.id)
+    pub fn count(&mut self) -> Result<u64, StoreError>
+        ensures schema { schema_of self.new ≡ schema_of self.old }
+    {
+        table_rows::count(&mut self.conn, self.table.id)
     }
 
     /// The item under a key, where there is one.
@@ -92,9 +95,11 @@ impl<S: Alter + Drop> TableStore<S> {
     /// # Errors
     ///
     /// `Unreadable` where its text doesn't read, `Database` and `OutOfMemory`.
-    pub fn get(&mut self, key: &Key) -> Result<Option<Item>, StoreError> {
+    pub fn get(&mut self, key: &Key) -> Result<Option<Item>, StoreError>
+        ensures schema { schema_of self.new ≡ schema_of self.old }
+    {
         let key = KeyBytes::of(self.alloc, key)?;
-        rows::get(self.alloc, &mut self.conn, self.id, &key)
+        table_rows::get(self.alloc, &mut self.conn, self.table.id, &key)
     }
 
     /// Puts an item under its key, and answers the item that was there.
@@ -102,7 +107,10 @@ impl<S: Alter + Drop> TableStore<S> {
     /// # Errors
     ///
     /// `Key` with the errors of [`KeySchema::key_of`], and those of [`TableStore::get`].
-    pub fn put(&mut self, item: &Item) -> Result<Option<Item>, StoreError> {
+    pub fn put(&mut self, item: &Item) -> Result<Option<Item>, StoreError>
+        ensures needs { NeedsKey (schema_of self.old) item.now result }
+        ensures schema { schema_of self.new ≡ schema_of self.old }
+    {
         self.put_if(Condition::Always, item)
     }
 
@@ -111,18 +119,17 @@ impl<S: Alter + Drop> TableStore<S> {
     /// # Errors
     ///
     /// Those of [`TableStore::put`], and `Key` with `ConditionFailed` where the condition doesn't hold.
-    pub fn put_if(
-        &mut self,
-        condition: Condition,
-        item: &Item,
-    ) -> Result<Option<Item>, StoreError> {
-        let key = self.schema.key_of(item)?;
+    pub fn put_if(&mut self, condition: Condition, item: &Item) -> Result<Option<Item>, StoreError>
+        ensures needs { NeedsKey (schema_of self.old) item.now result }
+        ensures schema { schema_of self.new ≡ schema_of self.old }
+    {
+        let key = self.table.schema.key_of(item)?;
         let key = KeyBytes::of(self.alloc, &key)?;
-        let before = rows::get(self.alloc, &mut self.conn, self.id, &key)?;
+        let before = table_rows::get(self.alloc, &mut self.conn, self.table.id, &key)?;
         if !condition.holds(before.is_some()) {
             return Err(StoreError::Key(TableError::ConditionFailed));
         }
-        rows::put(self.alloc, &mut self.conn, self.id, &key, item)?;
+        table_rows::put(self.alloc, &mut self.conn, self.table.id, &key, item)?;
         Ok(before)
     }
 
@@ -131,7 +138,9 @@ impl<S: Alter + Drop> TableStore<S> {
     /// # Errors
     ///
     /// Those of [`TableStore::get`].
-    pub fn delete(&mut self, key: &Key) -> Result<Option<Item>, StoreError> {
+    pub fn delete(&mut self, key: &Key) -> Result<Option<Item>, StoreError>
+        ensures schema { schema_of self.new ≡ schema_of self.old }
+    {
         self.delete_if(Condition::Always, key)
     }
 
@@ -140,17 +149,15 @@ impl<S: Alter + Drop> TableStore<S> {
     /// # Errors
     ///
     /// Those of [`TableStore::get`], and `Key` with `ConditionFailed` where the condition doesn't hold.
-    pub fn delete_if(
-        &mut self,
-        condition: Condition,
-        key: &Key,
-    ) -> Result<Option<Item>, StoreError> {
+    pub fn delete_if(&mut self, condition: Condition, key: &Key) -> Result<Option<Item>, StoreError>
+        ensures schema { schema_of self.new ≡ schema_of self.old }
+    {
         let key = KeyBytes::of(self.alloc, key)?;
-        let before = rows::get(self.alloc, &mut self.conn, self.id, &key)?;
+        let before = table_rows::get(self.alloc, &mut self.conn, self.table.id, &key)?;
         if !condition.holds(before.is_some()) {
             return Err(StoreError::Key(TableError::ConditionFailed));
         }
-        rows::delete(&mut self.conn, self.id, &key)?;
+        table_rows::delete(&mut self.conn, self.table.id, &key)?;
         Ok(before)
     }
 
@@ -166,17 +173,54 @@ impl<S: Alter + Drop> TableStore<S> {
         change: F,
     ) -> Result<(), StoreError>
         requires { F.IsAlwaysCallable change }
+        ensures schema { schema_of self.new ≡ schema_of self.old }
     {
         let Some(item) = self.get(key)? else {
             return Err(StoreError::Key(TableError::NoItem));
         };
         let changed = change(&item)?;
-        let own_key = self.schema.key_of(&changed)?;
+        let own_key = self.table.schema.key_of(&changed)?;
         if own_key.cmp(key).is_ne() {
             return Err(StoreError::Key(TableError::KeyChanged));
         }
         let key = KeyBytes::of(self.alloc, key)?;
-        rows::put(self.alloc, &mut self.conn, self.id, &key, &changed)
+        table_rows::put(self.alloc, &mut self.conn, self.table.id, &key, &changed)
+    }
+
+    /// The items that a query finds.
+    ///
+    /// # Errors
+    ///
+    /// `Unreadable` where the text of an item doesn't read, `Key` where it lacks its key, `Database` and `OutOfMemory`.
+    pub fn query(&mut self, query: &Query<'_>) -> Result<Vec<Item>, StoreError>
+        ensures schema { schema_of self.new ≡ schema_of self.old }
+    {
+        let bounds = Bounds::of_query(self.alloc, query)?;
+        let partition = bytes_of(self.alloc, query.partition)?;
+        table_rows::find(
+            self.alloc,
+            &mut self.conn,
+            &self.table,
+            query,
+            &partition,
+            &bounds,
+        )
+    }
+
+    /// A page of all items: those behind `start_after`, in the order of their keys, at most `limit`. The next page starts after
+    /// the last key of this one.
+    ///
+    /// # Errors
+    ///
+    /// `Unreadable` where the text of an item doesn't read, `Database` and `OutOfMemory`.
+    pub fn scan(&mut self, limit: usize, start_after: Option<&Key>) -> Result<Vec<Item>, StoreError>
+        ensures schema { schema_of self.new ≡ schema_of self.old }
+    {
+        let start = match start_after {
+            Some(key) => KeyBytes::of(self.alloc, key)?,
+            None => KeyBytes::before_all(self.alloc),
+        };
+        table_rows::page(self.alloc, &mut self.conn, self.table.id, &start, limit)
     }
 
     /// Puts each of these items under its key: all, or none where one of them is refused.
@@ -184,22 +228,26 @@ impl<S: Alter + Drop> TableStore<S> {
     /// # Errors
     ///
     /// Those of [`TableStore::put`].
-    pub fn write_all(&mut self, items: &[Item]) -> Result<(), StoreError> {
-        rows::run(&mut self.conn, "BEGIN")?;
+    pub fn write_all(&mut self, items: &[Item]) -> Result<(), StoreError>
+        ensures schema { schema_of self.new ≡ schema_of self.old }
+    {
+        table_rows::run(&mut self.conn, "BEGIN")?;
         match self.put_each(items) {
-            Ok(()) => rows::run(&mut self.conn, "COMMIT"),
+            Ok(()) => table_rows::run(&mut self.conn, "COMMIT"),
             Err(error) => {
-                let _ = rows::run(&mut self.conn, "ROLLBACK");
+                let _ = table_rows::run(&mut self.conn, "ROLLBACK");
                 Err(error)
             }
         }
     }
 
-    fn put_each(&mut self, items: &[Item]) -> Result<(), StoreError> {
+    fn put_each(&mut self, items: &[Item]) -> Result<(), StoreError>
+        ensures schema { schema_of self.new ≡ schema_of self.old }
+    {
         for item in items {
-            let key = self.schema.key_of(item)?;
+            let key = self.table.schema.key_of(item)?;
             let key = KeyBytes::of(self.alloc, &key)?;
-            rows::put(self.alloc, &mut self.conn, self.id, &key, item)?;
+            table_rows::put(self.alloc, &mut self.conn, self.table.id, &key, item)?;
         }
         Ok(())
     }

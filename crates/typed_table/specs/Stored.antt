@@ -1,5 +1,5 @@
 -- What a table of one type holds: the items of its values, under their keys.
-use Rattle.std.specs.Prelude.{◌≡◌, ◌⊎◌, Option, Some, None, Result, Ok, Err, MatchOption, MatchResult}
+use Rattle.std.specs.Prelude.{◌≡◌, ◌⊎◌, ⊤, List, [], ◌∷◌, Option, Some, None, Result, Ok, Err, MatchOption, MatchResult}
 use Rattle.std.specs.BTreeMap.{get}
 use Rattle.dynamo_value.specs.Av as av
 use Rattle.dynamo_value.specs.Fault.{Fault, out_of_memory}
@@ -45,3 +45,15 @@ ReadsAt reads (Some item) (Err e) = (fault_of e ≡ out_of_memory) ⊎ reads (at
 abbrev pub FailsToPut : {T : Type 0} → Shape → (T → Datum) → KeySchema → T → StoreError → Type 0
 FailsToPut shape tells schema value (StoreError.Value e) = (item_written (tells value) ≡ Err (fault_of e)) ⊎ (fault_of e ≡ out_of_memory)
 FailsToPut shape tells schema value (StoreError.Table e) = ((item : Item) × IsItemOf shape tells value item × ReadsKey schema item (Err e)) ⊎ (e ≡ TableError.OutOfMemory)
+
+-- the items read as these values, each in its place
+abbrev pub ReadEach : {T : Type 0} → (Source → Result T Fault → Type 0) → List (Key × Item) → List T → Type 0
+ReadEach reads [] [] = ⊤
+ReadEach reads (e ∷ es) (value ∷ values) = reads (attribute (av.M (item_view e.1))) (Ok value) × ReadEach reads es values
+ReadEach reads [] (value ∷ values) = ⊥
+ReadEach reads (e ∷ es) [] = ⊥
+
+-- one of the items is refused by this fault
+abbrev pub RefusesOne : {T : Type 0} → (Source → Result T Fault → Type 0) → Fault → List (Key × Item) → Type 0
+RefusesOne reads fault [] = ⊥
+RefusesOne reads fault (e ∷ es) = reads (attribute (av.M (item_view e.1))) (Err fault) ⊎ RefusesOne reads fault es

@@ -9,20 +9,22 @@ ghost use Rattle.dynamo_de.specs.Meets.{Meets};
 ghost use Rattle.dynamo_de.specs.Source.{attribute};
 ghost use Rattle.dynamo_write.specs.Written.{item_written};
 ghost use Rattle.dynamo_shape.specs.Clear.{Clear};
-ghost use Rattle.typed_table.specs.Stored.{IsItemOf};
+ghost use Rattle.table_query.specs.Queries.{seen};
+ghost use Rattle.typed_table.specs.Stored.{IsItemOf, ReadEach, RefusesOne};
 
 use dynamo_read::from_item;
 use dynamo_types::Shaped;
 use dynamo_value::{Item, Result};
 use dynamo_write::to_item;
 use std::alloc::Global;
+use table_key::Key;
 
 /// The item of a value.
 ///
 /// # Errors
 ///
 /// The fault of writing it as an item, or want of memory.
-pub(crate) fn item_of<T: Shaped>(alloc: Global, value: &T) -> Result<Item>
+pub fn item_of<T: Shaped>(alloc: Global, value: &T) -> Result<Item>
     ensures ok { IfOk result (λ item. IsItemOf T.about.shape T.tells value.now item) }
     ensures err { IfErr result (λ e. (item_written (T.tells value.now) ≡ Err (fault_of e)) ⊎ (fault_of e ≡ out_of_memory)) }
 {
@@ -35,11 +37,27 @@ pub(crate) fn item_of<T: Shaped>(alloc: Global, value: &T) -> Result<Item>
 /// # Errors
 ///
 /// What reading permits, or want of memory.
-pub(crate) fn value_of<T: Shaped>(alloc: Global, item: &Item) -> Result<T>
+pub fn value_of<T: Shaped>(alloc: Global, item: &Item) -> Result<T>
     ensures read { Meets fault_of (T.reads (attribute (av.M (item_view item.now)))) result }
     ensures clear { Clear T.about.shape → (value : T) → IsItemOf T.about.shape T.tells value item.now → MatchResult result (λ w. T.about.same value w) (λ e. fault_of e ≡ out_of_memory) }
 {
     let value: T = from_item(alloc, item.clone()?)?;
     value.conforms();
     Ok(value)
+}
+
+/// The values that items read as, each in its place.
+///
+/// # Errors
+///
+/// What reading one of them permits, or want of memory.
+pub(crate) fn values_of<T: Shaped>(alloc: Global, found: &[(&Key, &Item)]) -> Result<Vec<T>>
+    ensures read { IfOk result (λ values. ReadEach T.reads (seen found.now) values.items) }
+    ensures err { IfErr result (λ e. (fault_of e ≡ out_of_memory) ⊎ RefusesOne T.reads (fault_of e) (seen found.now)) }
+{
+    let mut values = Vec::with_capacity(alloc, found.len())?;
+    for (_, item) in found {
+        values.push(value_of(alloc, item)?)?;
+    }
+    Ok(values)
 }

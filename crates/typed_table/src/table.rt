@@ -1,4 +1,4 @@
-ghost use Rattle.std.specs.Prelude.{◌≡◌, ◌≢◌, [], None, IfOk, IfErr, OnErr, OnOk, MatchOption, MatchResult};
+ghost use Rattle.std.specs.Prelude.{◌≡◌, ◌≢◌, ◌⊎◌, [], None, IfOk, IfErr, OnErr, OnOk, MatchOption, MatchResult};
 ghost use Rattle.std.specs.BTreeMap.{get, Updates};
 ghost use Rattle.std.specs.declared.cmp.Ordering.TheVariants.{Equal};
 ghost use Rattle.dynamo_value.specs.Fault.{out_of_memory};
@@ -8,9 +8,9 @@ ghost use Rattle.table_key.specs.KeyOrder.{key_cmp};
 ghost use Rattle.table_key.specs.declared.key.Key.{Key};
 ghost use Rattle.table_query.specs.Queries.{answer};
 ghost use Rattle.memory_table.specs.Content.{entries_of, items_of, schema_of};
-ghost use Rattle.typed_table.specs.Stored.{FailsToPut, Holds, ReadsAt, table_of};
+ghost use Rattle.typed_table.specs.Stored.{FailsToPut, Holds, ReadEach, ReadsAt, RefusesOne, table_of};
 
-use crate::item::{item_of, value_of};
+use crate::item::{item_of, value_of, values_of};
 use crate::{Keyed, StoreError};
 use dynamo_value::Result;
 use memory_table::Table;
@@ -95,17 +95,16 @@ impl<T: Keyed> TypedTable<T> {
         self.table.delete(key).is_some()
     }
 
-    /// The values that a query finds, in its order.
+    /// The values that a query finds, in its order: what each of the items reads as.
     ///
     /// # Errors
     ///
-    /// What reading an item permits, or want of memory.
-    pub fn query(&self, query: &Query<'_>) -> Result<Vec<T>> {
+    /// What reading one of the items permits, or want of memory.
+    pub fn query(&self, query: &Query<'_>) -> Result<Vec<T>>
+        ensures read { IfOk result (λ values. ReadEach T.reads (answer query.now (entries_of (table_of self.now))) values.items) }
+        ensures err { IfErr result (λ e. (fault_of e ≡ out_of_memory) ⊎ RefusesOne T.reads (fault_of e) (answer query.now (entries_of (table_of self.now)))) }
+    {
         let found = self.table.query(self.alloc, query)?;
-        let mut values = Vec::with_capacity(self.alloc, found.len())?;
-        for (_, item) in &found {
-            values.push(value_of(self.alloc, item)?)?;
-        }
-        Ok(values)
+        values_of(self.alloc, found.as_slice())
     }
 }

@@ -7,7 +7,7 @@ ghost use Rattle.dynamo_value.specs.Kind.{fault_of};
 ghost use Rattle.dynamo_value.specs.PrefixView.{prefix_view};
 ghost use Rattle.dynamo_value.specs.View.{view, members_view};
 ghost use Rattle.dynamo_de.specs.Answer.{Gives};
-ghost use Rattle.dynamo_de.specs.Contents as contents;
+ghost use Rattle.dynamo_de.specs.Reading as reading;
 ghost use Rattle.dynamo_de.specs.Meets.{Meets};
 ghost use Rattle.dynamo_de.specs.Promises.{Agrees};
 ghost use Rattle.dynamo_de.specs.ReadAttribute.{attribute_from, item_from, content_from, read_each, read_entries};
@@ -164,9 +164,8 @@ fn read_bytes<R: Reader>(alloc: Global, reader: R) -> Result<Vec<u8>, R::Error>
 }
 
 // The entries of a map that is asked for.
-#[tactic(auto, using(crate::proofs::Attributes::entries_as_shown))]
 fn entries_of<R: Reader>(alloc: Global, reader: R, expecting: &str) -> Result<R::Entries, R::Error>
-    ensures { Meets R.Error.fault (Gives R.entries (contents.read_entries (R.source reader))) result }
+    ensures { Meets R.Error.fault (Gives R.entries (reading.read_entries (R.source reader))) result }
 {
     match reader.show(Request::Map)? {
         Showing::Map(entries) => Ok(entries),
@@ -175,13 +174,12 @@ fn entries_of<R: Reader>(alloc: Global, reader: R, expecting: &str) -> Result<R:
 }
 
 // The elements of a sequence that is asked for.
-#[tactic(auto, using(crate::proofs::Attributes::elements_as_shown))]
 fn elements_of<R: Reader>(
     alloc: Global,
     reader: R,
     expecting: &str,
 ) -> Result<R::Elements, R::Error>
-    ensures { Meets R.Error.fault (Gives R.elements (contents.read_elements (R.source reader))) result }
+    ensures { Meets R.Error.fault (Gives R.elements (reading.read_elements (R.source reader))) result }
 {
     match reader.show(Request::Seq)? {
         Showing::Sequence(elements) => Ok(elements),

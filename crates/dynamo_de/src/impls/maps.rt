@@ -3,7 +3,7 @@ ghost use Rattle.std.specs.BTreeMap as sorted;
 ghost use Rattle.std.specs.HashMap as hashed;
 ghost use Rattle.std.specs.Ordering.{eq_by_cmp};
 ghost use Rattle.dynamo_de.specs.Answer.{After};
-ghost use Rattle.dynamo_de.specs.Contents.{read_entries};
+ghost use Rattle.dynamo_de.specs.Reading.{read_entries};
 ghost use Rattle.dynamo_de.specs.Reads.{ReadsMap};
 ghost use Rattle.dynamo_de.specs.Visitors.{claims_map, take_entries};
 

@@ -4,7 +4,7 @@ ghost use Rattle.dynamo_value.specs.Integer as integers;
 ghost use Rattle.dynamo_de.specs.Answer as answer;
 ghost use Rattle.dynamo_de.specs.Answer.{Gives, value_or};
 ghost use Rattle.dynamo_de.specs.Meets.{Meets};
-ghost use Rattle.dynamo_de.specs.Scalars.{read_bool, read_integer};
+ghost use Rattle.dynamo_de.specs.Reading.{read_bool, read_integer};
 ghost use Rattle.dynamo_de.specs.Visitors.{claims_bool, take_bool, claims_integers, take_integer, checked, is_wide as is_wide_kind};
 
 use crate::{Deserialize, Deserializer, Error, Kind, Visitor};
@@ -43,7 +43,7 @@ impl Visitor for BoolVisitor {
 impl Deserialize for bool {
     ghost reads = { λ s. Gives (λ b. b) (read_bool s) };
 
-    #[tactic(auto, using(crate::proofs::Scalars::bool_read))]
+    #[tactic(auto, using(crate::proofs::Reading::bool_read))]
     fn deserialize<D: Deserializer>(alloc: Global, deserializer: D) -> Result<bool, D::Error> {
         deserializer.deserialize_bool(BoolVisitor { alloc })
     }

@@ -1,8 +1,7 @@
 ghost use Rattle.std.specs.Prelude.{◌≡◌};
 ghost use Rattle.dynamo_de.specs.Answer.{Gives, After};
-ghost use Rattle.dynamo_de.specs.Contents.{read_content};
+ghost use Rattle.dynamo_de.specs.Reading.{read_content, read_unit};
 ghost use Rattle.dynamo_de.specs.Reads.{ReadsOption, Through};
-ghost use Rattle.dynamo_de.specs.Scalars.{read_unit};
 ghost use Rattle.dynamo_de.specs.Visitors.{claims_unit, take_unit, claims_option, take_content};
 
 use crate::{Deserialize, Deserializer, Error, Kind, Visitor};
@@ -41,7 +40,7 @@ impl Visitor for UnitVisitor {
 impl Deserialize for () {
     ghost reads = { λ s. Gives (λ u. u) (read_unit s) };
 
-    #[tactic(auto, using(crate::proofs::Scalars::unit_read))]
+    #[tactic(auto, using(crate::proofs::Reading::unit_read))]
     fn deserialize<D: Deserializer>(alloc: Global, deserializer: D) -> Result<(), D::Error> {
         deserializer.deserialize_unit(UnitVisitor { alloc })
     }

@@ -1,7 +1,7 @@
 ghost use Rattle.std.specs.Prelude.{◌≡◌, ◌⊎◌, Err};
 ghost use Rattle.dynamo_value.specs.Fault.{out_of_memory};
 ghost use Rattle.dynamo_de.specs.Answer.{After};
-ghost use Rattle.dynamo_de.specs.Contents.{read_elements};
+ghost use Rattle.dynamo_de.specs.Reading.{read_elements};
 ghost use Rattle.dynamo_de.specs.Meets.{IsMessage};
 ghost use Rattle.dynamo_de.specs.Reads.{ReadsList, ReadsTwo, ReadsThree, ReadsFour};
 ghost use Rattle.dynamo_de.specs.Visitors.{claims_seq, take_elements};

@@ -1,7 +1,7 @@
 ghost use Rattle.std.specs.Prelude.{◌≡◌, string_bytes};
 ghost use Rattle.dynamo_value.specs.Bytes.{octets_of};
 ghost use Rattle.dynamo_de.specs.Answer.{Gives};
-ghost use Rattle.dynamo_de.specs.Scalars.{read_char, read_string, read_bytes};
+ghost use Rattle.dynamo_de.specs.Reading.{read_char, read_string, read_bytes};
 ghost use Rattle.dynamo_de.specs.Visitors.{claims_char, take_char, claims_texts, take_string, take_bytes};
 
 use crate::{Deserialize, Deserializer, Error, Kind, Visitor};
@@ -53,7 +53,7 @@ impl Visitor for CharVisitor {
 impl Deserialize for char {
     ghost reads = { λ s. Gives (λ c. c) (read_char s) };
 
-    #[tactic(auto, using(crate::proofs::Scalars::char_read))]
+    #[tactic(auto, using(crate::proofs::Reading::char_read))]
     fn deserialize<D: Deserializer>(alloc: Global, deserializer: D) -> Result<char, D::Error> {
         deserializer.deserialize_char(CharVisitor { alloc })
     }
@@ -106,7 +106,7 @@ impl Visitor for StringVisitor {
 impl Deserialize for String {
     ghost reads = { λ s. Gives string_bytes (read_string s) };
 
-    #[tactic(auto, using(crate::proofs::Scalars::string_read))]
+    #[tactic(auto, using(crate::proofs::Reading::string_read))]
     fn deserialize<D: Deserializer>(alloc: Global, deserializer: D) -> Result<String, D::Error> {
         deserializer.deserialize_string(StringVisitor { alloc })
     }
@@ -159,7 +159,7 @@ impl Visitor for ByteBufVisitor {
 impl Deserialize for ByteBuf {
     ghost reads = { λ s. Gives octets_of (read_bytes s) };
 
-    #[tactic(auto, using(crate::proofs::Scalars::bytes_read))]
+    #[tactic(auto, using(crate::proofs::Reading::bytes_read))]
     fn deserialize<D: Deserializer>(alloc: Global, deserializer: D) -> Result<ByteBuf, D::Error> {
         deserializer.deserialize_byte_buf(ByteBufVisitor { alloc })
     }

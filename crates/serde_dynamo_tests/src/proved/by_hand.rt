@@ -1,7 +1,7 @@
 //! A struct of a user's own that is written, read and given its shape by hand.
 ghost use Rattle.std.specs.Prelude.{◌≡◌, refl, Ok, codes};
 ghost use Rattle.serde_dynamo.specs.Answer.{After};
-ghost use Rattle.serde_dynamo.specs.Contents.{read_parts};
+ghost use Rattle.serde_dynamo.specs.Reading.{read_parts};
 ghost use Rattle.serde_dynamo.specs.Fields.{NamesOne};
 ghost use Rattle.serde_dynamo.specs.Visitors.{claims_str, take_identifier, claims_struct, take_parts};
 ghost use Rattle.dynamo_shape.proofs.TypesByHand.{struct_permitted};

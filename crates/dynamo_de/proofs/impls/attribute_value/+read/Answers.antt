@@ -1,19 +1,76 @@
 use Rattle.std.proofs.Common.{rules, ◌≡◌, ◌+◌, ◌*◌, ◌<◌, Some, None, Ok, [], ap, sym, subst, ◌∙◌, string_bytes, arith}
+use Rattle.dynamo_value.specs.Av as av
+use Rattle.dynamo_value.specs.Av.{elements_of}
+use Rattle.dynamo_value.specs.Kind.{fault_of}
 use Rattle.dynamo_value.specs.Prefix.{prefix_of}
 use Rattle.dynamo_value.specs.PrefixView.{prefix_view}
 use Rattle.dynamo_value.specs.Table.{Table}
+use Rattle.dynamo_value.specs.Steps.{◌>>=◌}
 use Rattle.dynamo_value.specs.View.{view, entries_view, members_view}
 use Rattle.dynamo_value.proofs.Members.{inserted}
 use Rattle.dynamo_de.specs.Answer.{Gives}
 use Rattle.dynamo_de.specs.Ignored.{source_height, sources_height, entries_height}
 use Rattle.dynamo_de.specs.Meets.{Meets}
 use Rattle.dynamo_de.specs.Promises.{Agrees}
-use Rattle.dynamo_de.specs.ReadAttribute.{attribute_from, read_entries}
-use Rattle.dynamo_de.specs.Scalars.{read_string}
+use Rattle.dynamo_de.specs.ReadAttribute.{attribute_from, read_each, read_entries}
+use Rattle.dynamo_de.specs.Reading as reading
+use Rattle.dynamo_de.specs.Reading.{read_string}
 use Rattle.dynamo_de.specs.Shows.{TakesEntry}
-use Rattle.dynamo_de.proofs.Attributes.{entries_lower, elements_lower, one_entry, member_more, member_stops, kept}
+use Rattle.dynamo_de.proofs.Attributes.{attribute_stops, several_refused, unknown_refused, entries_lower, elements_lower, one_entry, member_more, member_stops, kept}
 use Rattle.dynamo_de.proofs.JsonSteps.{members_lower}
+use Rattle.dynamo_de.proofs.Promises.{answer_stops}
 use Rattle.dynamo_de.proofs.impls.attribute_value.+read.Goals as goal
+
+pub read-returns-in_err-entries : goal.read-returns-in_err-entries
+read-returns-in_err-entries g t c =
+    let stop = attribute_stops g.R.Reader.entries (g.R.Reader.source c.args.reader) (g.R.Error.Error.fault c.in_err-entries.field-0.0) c.in_err-entries.ensures in
+    search rules
+
+pub read-returns-then-is_some : goal.read-returns-then-is_some
+read-returns-then-is_some g t c =
+    let first : TakesEntry g.R.Reader.source (g.R.Reader.entries c.in_ok-entries.entries) (g.R.Reader.entries c.next_entry.new.rest) (Some (c.in-Some.key, c.in-Some.content)) = search rules in
+    several_refused g.R.Reader.source g.R.Reader.entries (g.R.Reader.source c.args.reader) c.in_ok-entries.entries _ _ (c.in-Some.key, c.in-Some.content) c.next_entry-2.result (fault_of c.several_keys.result) _
+    (search rules) first c.next_entry-2.ensures (search rules) c.several_keys.ensures c.told-then-is_some.ensures
+
+pub read-returns-in_default-named : goal.read-returns-in_default-named
+read-returns-in_default-named g t c =
+    let first : TakesEntry g.R.Reader.source (g.R.Reader.entries c.in_ok-entries.entries) (g.R.Reader.entries c.next_entry.new.rest) (Some (c.in-Some.key, c.in-Some.content)) = search rules in
+    let last : TakesEntry g.R.Reader.source (g.R.Reader.entries c.next_entry.new.rest) (g.R.Reader.entries c.next_entry-2.new.rest) None = search rules in
+    unknown_refused g.R.Reader.source g.R.Reader.entries (g.R.Reader.source c.args.reader) c.in_ok-entries.entries _ _ (c.in-Some.key, c.in-Some.content) c.in_ok-key.key (fault_of c.unknown_key.result) _
+    (search rules) first last (search rules) (search rules) (search rules) c.told-in_default-named.ensures
+
+pub read-read_content-requires : goal.read-read_content-requires
+read-read_content-requires g t c κs within =
+    let s = g.R.Reader.source c.args.reader in
+    let left = g.R.Reader.entries c.in_ok-entries.entries in
+    let new = g.R.Reader.entries c.next_entry.new.rest in
+    let first : TakesEntry g.R.Reader.source left new (Some (c.in-Some.key, c.in-Some.content)) = search rules in
+    let whole = entries_lower g.R.Reader.entries s c.in_ok-entries.entries (search rules) in
+    let part = members_lower g.R.Reader.source left new (c.in-Some.key, c.in-Some.content) first in
+    let falls : 2 * source_height (g.R.Reader.source c.in-Some.content) < 2 * source_height s = omega (arith, whole, part.0) in
+    search rules
+
+pub read_content-returns-in_err-deserialize-in-N : goal.read_content-returns-in_err-deserialize-in-N
+read_content-returns-in_err-deserialize-in-N g t c =
+    let stop = answer_stops string_bytes view (λ text. Ok (av.N text)) (read_string (g.R.Reader.source c.args.content)) (g.R.Error.Error.fault c.in_err-deserialize-in-N.field-0.0) c.in_err-deserialize-in-N.ensures in
+    search rules
+
+pub read_content-returns-in_err-deserialize-in-S : goal.read_content-returns-in_err-deserialize-in-S
+read_content-returns-in_err-deserialize-in-S g t c =
+    let stop = answer_stops string_bytes view (λ text. Ok (av.S text)) (read_string (g.R.Reader.source c.args.content)) (g.R.Error.Error.fault c.in_err-deserialize-in-S.field-0.0) c.in_err-deserialize-in-S.ensures in
+    search rules
+
+pub read_content-returns-in_err-entries-in-M : goal.read_content-returns-in_err-entries-in-M
+read_content-returns-in_err-entries-in-M g t c =
+    let stop = answer_stops g.R.Reader.entries view (λ es. read_entries [] es >>= λ members. Ok (av.M members)) (reading.read_entries (g.R.Reader.source c.args.content)) (g.R.Error.Error.fault c.in_err-entries-in-M.field-0.0)
+    c.in_err-entries-in-M.ensures in
+    search rules
+
+pub read_content-returns-in_err-elements-in-L : goal.read_content-returns-in_err-elements-in-L
+read_content-returns-in_err-elements-in-L g t c =
+    let stop = answer_stops g.R.Reader.elements view (λ ss. read_each attribute_from ss >>= λ values. Ok (av.L (elements_of values))) (reading.read_elements (g.R.Reader.source c.args.content))
+    (g.R.Error.Error.fault c.in_err-elements-in-L.field-0.0) c.in_err-elements-in-L.ensures in
+    search rules
 
 pub read-returns : goal.read-returns
 read-returns g t c =

@@ -1,7 +1,8 @@
 use Rattle.std.proofs.Common.{rules, ℕ, List, refl, ◌≡◌, ◌++◌, ◌∷◌, [], map, ap, ◌∙◌, Vec, Global}
-use Rattle.dynamo_de.specs.ReadAttribute.{read_blob, read_blobs}
+use Rattle.dynamo_de.specs.ReadAttribute.{read_blob, read_blobs, read_each}
+use Rattle.dynamo_de.specs.Reading.{read_elements}
 use Rattle.dynamo_de.proofs.Attributes.{blobs_of}
-use Rattle.dynamo_de.proofs.Promises.{EachFrom, taken_starts, taken_more, taken_ends, taken_stops}
+use Rattle.dynamo_de.proofs.Promises.{answer_stops, EachFrom, taken_starts, taken_more, taken_ends, taken_stops}
 use Rattle.dynamo_de.proofs.impls.attribute_value.read_blobs.Goals as goal
 
 abbrev Blob : Type 0
@@ -9,6 +10,11 @@ Blob = Vec ℕ Global
 
 abbrev items_of : Blob → List ℕ
 items_of b = b.items
+
+pub returns-in_err-elements : goal.returns-in_err-elements
+returns-in_err-elements g c =
+    let stop = answer_stops g.R.Reader.elements (λ (v : Vec Blob Global). map items_of v.items) (read_each read_blob) (read_elements (g.R.Reader.source c.args.reader)) (g.R.Error.Error.fault c.in_err-elements.field-0.0) c.in_err-elements.ensures in
+    search rules
 
 pub loop-element-init : goal.loop-element-init
 loop-element-init g c = rw c.new-blobs.ensures.items (taken_starts items_of read_blob g.R.Reader.source (g.R.Reader.elements c.in_ok-elements.elements))

@@ -5,7 +5,7 @@ use Rattle.serde_json.specs.declared.value.Value.{the_lemmas}
 use Rattle.serde_json.proofs.Views.{members_view-insert_entry}
 use Rattle.dynamo_de.specs.Answer.{Gives}
 use Rattle.dynamo_de.specs.ReadJson.{read_json, read_entries}
-use Rattle.dynamo_de.specs.Scalars.{read_string}
+use Rattle.dynamo_de.specs.Reading.{read_string}
 use Rattle.dynamo_de.specs.Shows.{TakesEntry}
 use Rattle.dynamo_de.specs.declared.showing.Showing.TheVariants as showing
 use Rattle.dynamo_de.proofs.Json.{ItemsFrom, items_fall, members_fall, content_falls}

@@ -1,4 +1,4 @@
-use Rattle.dynamo_de.proofs.ByHand.{identifier_read}
+use Rattle.dynamo_de.proofs.Reading.{identifier_read}
 use Rattle.dynamo_record.specs.Enums.{NamesVariant}
 use Rattle.dynamo_record.proofs.enumeration.TagSeedDeserializeSeed.deserialize.Goals as goal
 

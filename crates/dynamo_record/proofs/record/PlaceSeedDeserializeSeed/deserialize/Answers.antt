@@ -1,5 +1,5 @@
 use Rattle.std.proofs.Common.{◌≡◌, Ok}
-use Rattle.dynamo_de.proofs.ByHand.{identifier_read}
+use Rattle.dynamo_de.proofs.Reading.{identifier_read}
 use Rattle.dynamo_record.specs.Names.{place_of}
 use Rattle.dynamo_record.proofs.record.PlaceSeedDeserializeSeed.deserialize.Goals as goal
 

@@ -1,7 +1,7 @@
 use Rattle.std.proofs.Common.{[], Err, subst, inl, inr}
 use Rattle.std.proofs.lemmas.Result.{err_from_is_err_and}
 use Rattle.dynamo_de.specs.Answer as answer
-use Rattle.dynamo_de.specs.Contents.{in_order}
+use Rattle.dynamo_de.specs.Visitors.{in_order}
 use Rattle.dynamo_record.specs.Fields.{read_fields}
 use Rattle.dynamo_record.specs.Listed.{Makes}
 use Rattle.dynamo_record.specs.Names.{too_few_text}

@@ -1,4 +1,4 @@
-use Rattle.dynamo_de.proofs.ByHand.{identifier_read}
+use Rattle.dynamo_de.proofs.Reading.{identifier_read}
 use Rattle.dynamo_record.specs.UnitEnums.{FromName}
 use Rattle.dynamo_record.proofs.unit_enum.NameSeedDeserializeSeed.deserialize.Goals as goal
 

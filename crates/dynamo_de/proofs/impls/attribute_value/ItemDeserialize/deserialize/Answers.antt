@@ -2,9 +2,14 @@ use Rattle.std.proofs.Common.{rules, refl}
 use Rattle.dynamo_value.specs.Item.{item_view}
 use Rattle.dynamo_value.specs.Table.{Table}
 use Rattle.dynamo_value.specs.View.{members_view}
-use Rattle.dynamo_de.proofs.Attributes.{item_of_entries}
+use Rattle.dynamo_de.proofs.Attributes.{item_of_entries, item_stops}
 use Rattle.dynamo_de.proofs.Promises.{value_read, refused_alike}
 use Rattle.dynamo_de.proofs.impls.attribute_value.ItemDeserialize.deserialize.Goals as goal
+
+pub returns-in_err-entries : goal.returns-in_err-entries
+returns-in_err-entries g c =
+    let stop = item_stops g.D.Reader.entries item_view (g.D.Reader.source c.args.deserializer) (g.D.Error.Error.fault c.in_err-entries.field-0.0) c.in_err-entries.ensures in
+    search rules
 
 pub returns-in_err-read_members : goal.returns-in_err-read_members
 returns-in_err-read_members g c =

@@ -1,5 +1,5 @@
 use Rattle.std.proofs.Common.{◌≡◌, Ok}
-use Rattle.dynamo_de.proofs.ByHand.{identifier_read}
+use Rattle.dynamo_de.proofs.Reading.{identifier_read}
 use Rattle.serde_dynamo_tests.specs.GaugeShape.{gauge_field}
 use Rattle.serde_dynamo_tests.proofs.proved.by_hand.FieldDeserialize.deserialize.Goals as goal
 

@@ -1,0 +1,164 @@
+ghost use Rattle.std.specs.Prelude.{◌≡◌, false, [], string_bytes};
+ghost use Rattle.dynamo_value.specs.Kind.{fault_of};
+ghost use Rattle.dynamo_de.specs.Shown.{shown};
+ghost use Rattle.dynamo_leaf.specs.Outright.{ShowsOutright, NamesOutright};
+ghost use Rattle.dynamo_leaf.specs.Readers.{text_source, name_chosen};
+
+use crate::{
+    KeyText, LeafReader, NoElements, NoEntries, NumberText, PlainText, TextKind, VariantName,
+    raise, show_key, show_plain_text,
+};
+use dynamo_de::{Reader, Request, Showing};
+use dynamo_value::{Error, ErrorImpl, Result};
+use std::alloc::Global;
+use std::marker::PhantomData;
+
+/// The reader of the key of a map.
+///
+/// It shows what [`show_key`](crate::show_key) says, and meets the same errors. A newtype is shown the same key again, and
+/// an enum the variant of that name.
+pub type DeserializerMapKey = TextDeserializer<KeyText>;
+
+/// The reader of an element of a set of numbers.
+///
+/// It shows what [`show_number`](crate::show_number) says, and meets the same errors: an integer of the type that is asked
+/// for, and at any other request whichever number is there.
+pub type DeserializerNumber = TextDeserializer<NumberText>;
+
+/// The reader of an element of a set of strings, and of the name of a variant.
+///
+/// An enum is shown the variant of that name. At any other request it shows the text. It never refuses.
+pub type StringDeserializer = TextDeserializer<PlainText>;
+
+/// How the text of a reader is read: what is shown inside of one is read by a reader of the same type.
+#[derive(Drop)]
+enum Place {
+    /// As its kind says.
+    Own,
+    /// As the key of a map.
+    Key,
+    /// As the name of a variant.
+    Name,
+}
+
+/// The reader of a single text, of the key of a map, of a number or of a plain text.
+///
+/// It shows what [`TextKind::show_text`] of its kind says, and meets the same errors.
+#[derive(Drop)]
+pub struct TextDeserializer<P> {
+    alloc: Global,
+    text: String,
+    place: Place,
+    of: PhantomData<P>,
+}
+
+impl<P: TextKind> TextDeserializer<P> {
+    /// The reader of this text. It takes no memory. What is read takes its memory from `alloc`.
+    pub fn from_string(alloc: Global, text: String) -> Self
+        ensures { text_source P.of_text result ≡ P.of_text (string_bytes text) }
+    {
+        TextDeserializer {
+            alloc,
+            text,
+            place: Place::Own,
+            of: PhantomData,
+        }
+    }
+}
+
+// The text of a number shows neither a key nor a name, and a plain text no key. Both are here so that one function raises
+// every leaf.
+impl<P: TextKind> LeafReader for TextDeserializer<P> {
+    type Choice = VariantName;
+
+    ghost leaf_source = { text_source P.of_text };
+
+    ghost leaf_chosen = { name_chosen };
+
+    fn of_key(alloc: Global, text: String) -> Self {
+        TextDeserializer {
+            alloc,
+            text,
+            place: Place::Key,
+            of: PhantomData,
+        }
+    }
+
+    fn of_name(alloc: Global, text: String) -> VariantName {
+        VariantName { alloc, text }
+    }
+}
+
+impl<P: TextKind> Reader for TextDeserializer<P> {
+    type Error = Error;
+
+    type Elements = NoElements;
+
+    type Entries = NoEntries;
+
+    type Choice = VariantName;
+
+    ghost source = { text_source P.of_text };
+
+    ghost elements = { λ _. [] };
+
+    ghost counted = { λ _. false };
+
+    ghost entries = { λ _. [] };
+
+    ghost chosen = { name_chosen };
+
+    fn alloc(&self) -> Global {
+        self.alloc
+    }
+
+    fn show(self, request: Request) -> Result<Showing<Self, NoElements, NoEntries, VariantName>>
+        ensures { ShowsOutright fault_of (text_source P.of_text) name_chosen (shown request (text_source P.of_text self)) result }
+    {
+        let TextDeserializer {
+            alloc,
+            text,
+            place,
+            ..
+        } = self;
+        let leaf = match place {
+            Place::Own => P::show_text(request, text)?,
+            Place::Key => show_key(request, text)?,
+            Place::Name => show_plain_text(request, text)?,
+        };
+        Ok(raise(alloc, leaf))
+    }
+
+    fn next_element(_rest: &mut NoElements) -> Option<Self> {
+        None
+    }
+
+    fn next_entry(_rest: &mut NoEntries) -> Option<(Self, Self)> {
+        None
+    }
+
+    fn choose(choice: VariantName) -> Result<(Self, Option<Self>)>
+        ensures { NamesOutright fault_of (text_source P.of_text) (name_chosen choice) result }
+    {
+        let VariantName { alloc, text } = choice;
+        let name = TextDeserializer {
+            alloc,
+            text,
+            place: Place::Name,
+            of: PhantomData,
+        };
+        Ok((name, None))
+    }
+
+    fn value_before_key() -> Error {
+        Error::from(ErrorImpl::MapValueBeforeKey)
+    }
+
+    fn more_than_one_char() -> Error {
+        Error::from(ErrorImpl::ExpectedChar)
+    }
+
+    fn elements_left(_rest: &NoElements) -> Option<usize> {
+        None
+    }
+}

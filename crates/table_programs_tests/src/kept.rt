@@ -1,0 +1,32 @@
+//! A table of members in a database.
+use crate::member::Member;
+use crate::members::member;
+use sqlite::{Alter, Connection, MemStore};
+use table_query::Query;
+use typed_store::TypedStore;
+
+// A member that is put, found and taken out.
+fn print_life<S: Alter + Drop>(
+    rt: &HostRuntime,
+    store: &mut TypedStore<Member, S>,
+) -> anyhow::Result<()> {
+    let key = store.put(&member(rt.alloc(), "a1", "Ford", 43)?)?;
+    println!(rt; "kept {:?}", store.get(&key)?)?;
+    for member in &store.query(&Query::of(&key.partition))? {
+        println!(rt; "found {member:?}")?;
+    }
+    println!(rt; "deleted {}", store.delete(&key)?)?;
+    println!(rt; "kept {:?}", store.get(&key)?)?;
+    Ok(())
+}
+
+/// Prints what calls on a table of members in a database in memory answer.
+///
+/// # Errors
+///
+/// Those of the calls, and of printing.
+pub fn print_calls(rt: &HostRuntime) -> anyhow::Result<()> {
+    let conn = Connection::open_in_memory(rt.alloc())?;
+    let mut store: TypedStore<Member, MemStore> = TypedStore::create(rt.alloc(), conn, "members")?;
+    print_life(rt, &mut store)
+}

@@ -1,0 +1,96 @@
+use crate::StoreError;
+use sqlite::{Alter, Connection, Row, params};
+use std::alloc::Global;
+use table_key::{KeyAttribute, KeySchema, TableError};
+
+const TABLES: &str =
+    "CREATE TABLE IF NOT EXISTS dynamo_table (id INTEGER PRIMARY KEY, name TEXT NOT NULL UNIQUE, \
+     partition_key TEXT NOT NULL, sort_key TEXT) STRICT;\
+     CREATE TABLE IF NOT EXISTS dynamo_item (table_id INTEGER NOT NULL, partition_key BLOB NOT NULL, \
+     sort_key BLOB NOT NULL, item TEXT NOT NULL, PRIMARY KEY (table_id, partition_key, sort_key)) STRICT";
+
+const ADD: &str = "INSERT INTO dynamo_table (name, partition_key, sort_key) VALUES (?1, ?2, ?3)";
+
+const FIND: &str = "SELECT id, partition_key, sort_key FROM dynamo_table WHERE name = ?1";
+
+/// A table of a database. Its key attributes are kept as words, a name and a kind.
+#[derive(Drop)]
+pub struct Definition {
+    /// Its number, by which its items are found.
+    pub id: i64,
+
+    /// What its keys are.
+    pub schema: KeySchema,
+}
+
+impl Definition {
+    /// The table of a name, where there is one.
+    ///
+    /// # Errors
+    ///
+    /// `Unreadable` where its key attributes don't read, `Database` and `OutOfMemory`.
+    pub fn find<S: Alter>(
+        alloc: Global,
+        conn: &mut Connection<S>,
+        name: &str,
+    ) -> Result<Option<Definition>, StoreError> {
+        let found = conn.query_all(FIND, params![name])?;
+        match found.first() {
+            Some(row) => Ok(Some(Definition::read(alloc, row)?)),
+            None => Ok(None),
+        }
+    }
+
+    /// Writes a table of a name that no table has.
+    ///
+    /// # Errors
+    ///
+    /// `Database`, also where a table has the name, and `OutOfMemory`.
+    pub fn add<S: Alter>(
+        alloc: Global,
+        conn: &mut Connection<S>,
+        name: &str,
+        schema: &KeySchema,
+    ) -> Result<(), StoreError> {
+        let partition = schema.partition.to_word(alloc)?;
+        let sort = match &schema.sort {
+            Some(sort) => Some(sort.to_word(alloc)?),
+            None => None,
+        };
+        conn.execute(ADD, params![name, &partition, &sort])?;
+        Ok(())
+    }
+
+    // The table of a row.
+    fn read(alloc: Global, row: &Row) -> Result<Definition, StoreError> {
+        let sort: Option<String> = row.get(2)?;
+        let schema = KeySchema {
+            partition: attribute(alloc, row.get(1)?)?,
+            sort: match sort {
+                Some(word) => Some(attribute(alloc, word)?),
+                None => None,
+            },
+        };
+        Ok(Definition {
+            id: row.get(0)?,
+            schema,
+        })
+    }
+}
+
+fn attribute(alloc: Global, word: String) -> Result<KeyAttribute, StoreError> {
+    match KeyAttribute::parse(alloc, word.as_str()) {
+        Ok(attribute) => Ok(attribute),
+        Err(TableError::OutOfMemory) => Err(StoreError::OutOfMemory),
+        Err(_) => Err(StoreError::Unreadable),
+    }
+}
+
+/// Makes the two SQL tables where they are not there: that of the tables' key attributes, and that of all their items.
+///
+/// # Errors
+///
+/// `Database` and `OutOfMemory`.
+pub fn make_tables<S: Alter>(conn: &mut Connection<S>) -> Result<(), StoreError> {
+    Ok(conn.execute_batch(TABLES)?)
+}

@@ -1,0 +1,84 @@
+ghost use Rattle.std.specs.Prelude.{◌≡◌};
+ghost use Rattle.table_rows.specs.Errors.{of_table};
+ghost use Rattle.table_rows.specs.declared.error.StoreError.{StoreError};
+
+use sqlite::{Error, ErrorCode};
+use std::alloc::{AllocError, AllocFailed};
+use std::fmt;
+use table_key::TableError;
+
+/// Why a call on a table in a database was refused.
+#[derive(Clone, Copy, Debug, PartialEq, Eq)]
+pub enum StoreError {
+    /// The table refuses the item or the key, as a table in memory does.
+    Key(TableError),
+
+    /// The database failed.
+    Database(Error),
+
+    /// The text that is kept of an item, or of a table, doesn't read.
+    Unreadable,
+
+    /// The database has no table of this name.
+    NoTable,
+
+    /// The database has a table of this name with other keys.
+    OtherSchema,
+
+    /// No memory was found.
+    OutOfMemory,
+}
+
+impl From<AllocError> for StoreError {
+    ghost from_gives = { λ _ e. e ≡ StoreError.OutOfMemory };
+
+    fn from(_: AllocError) -> StoreError {
+        StoreError::OutOfMemory
+    }
+}
+
+/// What could not be stored is let go.
+impl<T: Drop> From<AllocFailed<T>> for StoreError {
+    ghost from_gives = { λ _ e. e ≡ StoreError.OutOfMemory };
+
+    fn from(_: AllocFailed<T>) -> StoreError {
+        StoreError::OutOfMemory
+    }
+}
+
+/// Want of memory is the same fault wherever it comes from.
+impl From<TableError> for StoreError {
+    ghost from_gives = { λ error e. e ≡ of_table error };
+
+    fn from(error: TableError) -> StoreError {
+        match error {
+            TableError::OutOfMemory => StoreError::OutOfMemory,
+            _ => StoreError::Key(error),
+        }
+    }
+}
+
+/// Want of memory is the same fault wherever it comes from.
+impl From<Error> for StoreError {
+    fn from(error: Error) -> StoreError {
+        match error {
+            Error::SqliteFailure(ErrorCode::OutOfMemory) => StoreError::OutOfMemory,
+            _ => StoreError::Database(error),
+        }
+    }
+}
+
+impl fmt::Display for StoreError {
+    fn fmt<W: fmt::Write>(&self, f: &mut fmt::Formatter<W>) -> fmt::Result {
+        match self {
+            StoreError::Key(error) => write!(f, "{error}"),
+            StoreError::Database(error) => write!(f, "{error}"),
+            StoreError::Unreadable => f.write_str("what the database keeps does not read"),
+            StoreError::NoTable => f.write_str("the database has no table of this name"),
+            StoreError::OtherSchema => f.write_str("the table is there with other keys"),
+            StoreError::OutOfMemory => f.write_str("out of memory"),
+        }
+    }
+}
+
+impl std::error::Error for StoreError {}

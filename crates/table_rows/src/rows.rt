@@ -1,0 +1,115 @@
+use crate::StoreError;
+use dynamo_json::DynamoJson;
+use dynamo_value::{ErrorImpl, Item};
+use key_bytes::KeyBytes;
+use serde_json::Value;
+use sqlite::types::ValueRef;
+use sqlite::{Alter, Connection, Row, params};
+use std::alloc::Global;
+
+const GET: &str =
+    "SELECT item FROM dynamo_item WHERE table_id = ?1 AND partition_key = ?2 AND sort_key = ?3";
+
+const PUT: &str =
+    "INSERT OR REPLACE INTO dynamo_item (table_id, partition_key, sort_key, item) VALUES (?1, ?2, ?3, ?4)";
+
+const DELETE: &str =
+    "DELETE FROM dynamo_item WHERE table_id = ?1 AND partition_key = ?2 AND sort_key = ?3";
+
+const COUNT: &str = "SELECT count(*) FROM dynamo_item WHERE table_id = ?1";
+
+// The item of a text of DynamoDB JSON.
+fn item_of(alloc: Global, text: &[u8]) -> Result<Item, StoreError> {
+    match Value::from_slice(alloc, text) {
+        Ok(json) => item_of_json(alloc, &json),
+        Err(error) if error.is_memory() => Err(StoreError::OutOfMemory),
+        Err(_) => Err(StoreError::Unreadable),
+    }
+}
+
+fn item_of_json(alloc: Global, json: &Value) -> Result<Item, StoreError> {
+    match Item::from_json(alloc, json) {
+        Ok(item) => Ok(item),
+        Err(error) if matches!(error.kind(), ErrorImpl::OutOfMemory) => {
+            Err(StoreError::OutOfMemory)
+        }
+        Err(_) => Err(StoreError::Unreadable),
+    }
+}
+
+/// The item of a row, whose first column is its text.
+pub(crate) fn read_item(alloc: Global, row: &Row) -> Result<Item, StoreError> {
+    match row.get_ref(0) {
+        Ok(ValueRef::Text(text)) => item_of(alloc, text),
+        _ => Err(StoreError::Unreadable),
+    }
+}
+
+/// The item under a key, where there is one.
+///
+/// # Errors
+///
+/// `Unreadable` where its text doesn't read, `Database` and `OutOfMemory`.
+pub fn get<S: Alter>(
+    alloc: Global,
+    conn: &mut Connection<S>,
+    id: i64,
+    key: &KeyBytes,
+) -> Result<Option<Item>, StoreError> {
+    let found = conn.query_all(GET, params![id, &key.partition, &key.sort])?;
+    match found.first() {
+        Some(row) => Ok(Some(read_item(alloc, row)?)),
+        None => Ok(None),
+    }
+}
+
+/// Puts an item under a key.
+///
+/// # Errors
+///
+/// `Database` and `OutOfMemory`.
+pub fn put<S: Alter>(
+    alloc: Global,
+    conn: &mut Connection<S>,
+    id: i64,
+    key: &KeyBytes,
+    item: &Item,
+) -> Result<(), StoreError> {
+    let Ok(text) = item.to_json_text(alloc) else {
+        return Err(StoreError::OutOfMemory);
+    };
+    conn.execute(PUT, params![id, &key.partition, &key.sort, &text])?;
+    Ok(())
+}
+
+/// Takes out the item under a key.
+///
+/// # Errors
+///
+/// `Database` and `OutOfMemory`.
+pub fn delete<S: Alter>(
+    conn: &mut Connection<S>,
+    id: i64,
+    key: &KeyBytes,
+) -> Result<(), StoreError> {
+    conn.execute(DELETE, params![id, &key.partition, &key.sort])?;
+    Ok(())
+}
+
+/// How many items a table has.
+///
+/// # Errors
+///
+/// `Database` and `OutOfMemory`.
+pub fn count<S: Alter>(conn: &mut Connection<S>, id: i64) -> Result<u64, StoreError> {
+    Ok(conn.query_row(COUNT, params![id])?.get(0)?)
+}
+
+/// Runs a statement that begins or ends a transaction.
+///
+/// # Errors
+///
+/// `Database` and `OutOfMemory`.
+pub fn run<S: Alter>(conn: &mut Connection<S>, sql: &str) -> Result<(), StoreError> {
+    Ok(conn.execute_batch(sql)?)
+}

@@ -1,0 +1,95 @@
+use crate::rows::read_item;
+use crate::{Definition, StoreError};
+use dynamo_value::Item;
+use key_bytes::{Bounds, KeyBytes};
+use sqlite::types::ValueRef;
+use sqlite::{Alter, Connection, params};
+use std::alloc::Global;
+use table_query::Query;
+
+const FORWARD: &str = "SELECT item FROM dynamo_item WHERE table_id = ?1 AND partition_key = ?2 \
+     AND sort_key >= ?3 AND sort_key <= ?4 ORDER BY sort_key";
+
+const BACKWARD: &str = "SELECT item FROM dynamo_item WHERE table_id = ?1 AND partition_key = ?2 \
+     AND sort_key >= ?3 AND sort_key <= ?4 ORDER BY sort_key DESC";
+
+const REST: &str =
+    "SELECT item FROM dynamo_item WHERE table_id = ?1 AND partition_key = ?2 AND sort_key > ?3 \
+     ORDER BY sort_key LIMIT ?4";
+
+const FOLLOWING: &str = "SELECT item FROM dynamo_item WHERE table_id = ?1 AND partition_key > ?2 \
+     ORDER BY partition_key, sort_key LIMIT ?3";
+
+/// The items that a query finds in a table, read from the rows under the bytes of its partition key and between bounds of the sort
+/// key, in its direction and up to its limit. No more rows are read than it takes.
+///
+/// # Errors
+///
+/// `Unreadable` where the text of an item doesn't read, `Key` where it lacks its key, `Database` and `OutOfMemory`.
+pub fn find<S: Alter>(
+    alloc: Global,
+    conn: &mut Connection<S>,
+    table: &Definition,
+    query: &Query<'_>,
+    partition: &[u8],
+    bounds: &Bounds,
+) -> Result<Vec<Item>, StoreError> {
+    let mut found = Vec::new(alloc);
+    let sql = if query.backward { BACKWARD } else { FORWARD };
+    let mut rows = conn.query(sql, params![table.id, partition, &bounds.low, &bounds.high])?;
+    for _ in 0..u64::MAX {
+        if found.len() >= query.limit {
+            break;
+        }
+        let Some(row) = rows.next()? else {
+            break;
+        };
+        let item = read_item(alloc, row)?;
+        if query.finds(&table.schema.key_of(&item)?) {
+            found.push(item)?;
+        }
+    }
+    Ok(found)
+}
+
+/// The items behind a key of a table, in the order of the keys, at most `limit`: the rest of its partition, and then the
+/// partitions that follow.
+///
+/// # Errors
+///
+/// `Unreadable` where the text of an item doesn't read, `Database` and `OutOfMemory`.
+pub fn page<S: Alter>(
+    alloc: Global,
+    conn: &mut Connection<S>,
+    id: i64,
+    start: &KeyBytes,
+    limit: usize,
+) -> Result<Vec<Item>, StoreError> {
+    let params = params![id, &start.partition, &start.sort, count_of(limit)];
+    let mut items = items_of(alloc, conn, REST, params)?;
+    let left = limit.saturating_sub(items.len());
+    if left > 0 {
+        let params = params![id, &start.partition, count_of(left)];
+        items.append(&mut items_of(alloc, conn, FOLLOWING, params)?)?;
+    }
+    Ok(items)
+}
+
+// The items of the rows that a statement finds.
+fn items_of<S: Alter>(
+    alloc: Global,
+    conn: &mut Connection<S>,
+    sql: &str,
+    params: &[ValueRef<'_>],
+) -> Result<Vec<Item>, StoreError> {
+    let mut items = Vec::new(alloc);
+    for row in conn.query_all(sql, params)?.iter() {
+        items.push(read_item(alloc, row)?)?;
+    }
+    Ok(items)
+}
+
+// A limit as SQLite takes it.
+fn count_of(limit: usize) -> i64 {
+    i64::try_from(limit).unwrap_or(i64::MAX)
+}

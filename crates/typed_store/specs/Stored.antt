@@ -1,0 +1,26 @@
+-- What a table in a database has of the values of one type.
+use Rattle.std.specs.Prelude.{Result, Ok}
+use Rattle.dynamo_value.specs.Av as av
+use Rattle.dynamo_value.specs.Fault.{Fault}
+use Rattle.dynamo_value.specs.Item.{item_view}
+use Rattle.dynamo_value.specs.declared.item.Item.{Item}
+use Rattle.dynamo_ser.specs.Datum.{Datum}
+use Rattle.dynamo_de.specs.Source.{Source, attribute}
+use Rattle.dynamo_shape.specs.Shape.{Shape}
+use Rattle.table_key.specs.KeyOf.{ReadsKey}
+use Rattle.table_key.specs.declared.key.Key.{Key}
+use Rattle.table_key.specs.declared.schema.KeySchema.{KeySchema}
+use Rattle.table_store.specs.Content as store
+use Rattle.typed_table.specs.Stored.{IsItemOf}
+use Rattle.typed_store.specs.declared.store.TypedStore.{TypedStore}
+
+abbrev pub schema_of : {T S : Type 0} → TypedStore T S → KeySchema
+schema_of t = store.schema_of t.store
+
+-- the key is that of the item that the value is written as
+abbrev pub IsKeyOf : {T : Type 0} → Shape → (T → Datum) → KeySchema → T → Key → Type 0
+IsKeyOf shape tells schema value key = (item : Item) × IsItemOf shape tells value item × ReadsKey schema item (Ok key)
+
+-- the value is what an item reads as
+abbrev pub WasRead : {T : Type 0} → (Source → Result T Fault → Type 0) → T → Type 0
+WasRead reads value = (item : Item) × reads (attribute (av.M (item_view item))) (Ok value)

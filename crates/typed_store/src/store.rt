@@ -1,0 +1,96 @@
+ghost use Rattle.std.specs.Prelude.{IfOk, IfSome};
+ghost use Rattle.typed_store.specs.Stored.{IsKeyOf, WasRead, schema_of};
+
+use crate::TypedError;
+use dynamo_value::Item;
+use sqlite::{Alter, Connection};
+use std::alloc::Global;
+use std::marker::PhantomData;
+use table_key::Key;
+use table_query::Query;
+use table_store::TableStore;
+use typed_table::{Keyed, item_of, value_of};
+
+/// A table in a SQLite database of values of one type, each an item under its key.
+#[derive(Drop)]
+pub struct TypedStore<T, S: Alter + Drop> {
+    alloc: Global,
+    store: TableStore<S>,
+    values: PhantomData<T>,
+}
+
+impl<T: Keyed, S: Alter + Drop> TypedStore<T, S> {
+    /// The table of this name in a database, made where there is none. What it answers takes its memory from `alloc`.
+    ///
+    /// # Errors
+    ///
+    /// `Store` with the errors of [`TableStore::create`].
+    pub fn create(alloc: Global, conn: Connection<S>, name: &str) -> Result<Self, TypedError> {
+        let schema = T::key_schema(alloc)?;
+        Ok(TypedStore {
+            alloc,
+            store: TableStore::create(alloc, conn, name, schema)?,
+            values: PhantomData,
+        })
+    }
+
+    /// The table of the items, taken out.
+    pub fn into_items(self) -> TableStore<S> {
+        self.store
+    }
+
+    /// Puts a value under its key, and answers the key. What was there is let go.
+    ///
+    /// # Errors
+    ///
+    /// `Value` where the value isn't written as an item, and `Store` with the errors of [`TableStore::put`].
+    pub fn put(&mut self, value: &T) -> Result<Key, TypedError>
+        ensures { IfOk result (IsKeyOf T.about.shape T.tells (schema_of self.old) value.now) }
+    {
+        let item = item_of(self.alloc, value)?;
+        let key = self.store.key_of(&item)?;
+        self.store.put(&item)?;
+        Ok(key)
+    }
+
+    /// The value under a key, where there is one: what the item that the database has there reads as.
+    ///
+    /// # Errors
+    ///
+    /// `Value` with what reading the item permits, and `Store` with the errors of [`TableStore::get`].
+    pub fn get(&mut self, key: &Key) -> Result<Option<T>, TypedError>
+        ensures { IfOk result (λ found. IfSome found (WasRead T.reads)) }
+    {
+        match self.store.get(key)? {
+            Some(item) => Ok(Some(value_of(self.alloc, &item)?)),
+            None => Ok(None),
+        }
+    }
+
+    /// Takes out what is under a key, and answers whether there was anything.
+    ///
+    /// # Errors
+    ///
+    /// `Store` with the errors of [`TableStore::delete`].
+    pub fn delete(&mut self, key: &Key) -> Result<bool, TypedError> {
+        Ok(self.store.delete(key)?.is_some())
+    }
+
+    /// The values that a query finds, in its order.
+    ///
+    /// # Errors
+    ///
+    /// `Value` with what reading one of the items permits, and `Store` with the errors of [`TableStore::query`].
+    pub fn query(&mut self, query: &Query<'_>) -> Result<Vec<T>, TypedError> {
+        let found = self.store.query(query)?;
+        self.values_of(found.as_slice())
+    }
+
+    fn values_of(&self, found: &[Item]) -> Result<Vec<T>, TypedError> {
+        let mut values = Vec::with_capacity(self.alloc, found.len())?;
+        for item in found {
+            values.push(value_of(self.alloc, item)?)?;
+        }
+        Ok(values)
+    }
+}
