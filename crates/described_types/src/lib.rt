@@ -4,29 +4,21 @@
 
 mod address;
 mod code;
-#[cfg(test)]
-mod enum_rows;
 mod lots;
 mod order;
 mod page;
 mod parcel;
 mod reading;
-#[cfg(test)]
-mod rows;
 mod sealed;
 mod sensor;
 mod shelf;
 mod shipment;
 mod side;
 mod station;
-#[cfg(test)]
-mod struct_rows;
 mod weight;
 mod wide_20;
 mod wide_40;
 mod wide_40_stored;
-#[cfg(test)]
-mod wide_rows;
 
 pub use address::{Address, stored_address};
 pub use code::Code;

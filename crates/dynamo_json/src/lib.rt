@@ -13,6 +13,3 @@ pub use dynamo::DynamoJson;
 pub use plain::to_json_value;
 pub use via_json::to_attribute_value_via_json;
 pub use without_floats::is_without_floats;
-
-#[cfg(test)]
-mod tests;

@@ -38,6 +38,3 @@ pub fn to_json_value<T: Serialize + Drop>(alloc: Global, value: T) -> Result<Val
 {
     value.serialize(Serializer::new(alloc))
 }
-
-#[cfg(test)]
-mod tests;

@@ -2,7 +2,7 @@
 
 use crate::answer::{Answer, Written};
 use crate::stopped::Stopped;
-use dynamo_serde_tests::Order;
+use derived_types::Order;
 use serde_dynamo::Result;
 
 /// An order with a field of each kind, written and read.

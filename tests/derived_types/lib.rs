@@ -1,0 +1,15 @@
+//! Types that derive serde's traits, by `dynamo_serde`: each attribute, each kind of enum and of key, and twins of types that
+//! are described. What is wanted stands as DynamoDB JSON, which the library reads and writes.
+
+mod attributes;
+mod conversions;
+mod depth;
+mod enums;
+mod keys;
+mod order_rows;
+mod random;
+mod rows;
+mod scalars;
+mod twins;
+mod values;
+mod wide;

@@ -1,0 +1,5 @@
+//! Described types, written and read: structs, enums and wide structs.
+mod enum_rows;
+mod rows;
+mod struct_rows;
+mod wide_rows;
