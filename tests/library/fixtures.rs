@@ -12,7 +12,6 @@ pub(crate) mod requests;
 pub(crate) mod rows;
 pub(crate) mod show;
 pub(crate) mod teller;
-pub(crate) mod tree;
 pub(crate) mod types;
 pub(crate) mod valued;
 pub(crate) mod writes;

@@ -2,7 +2,7 @@
 //!
 //! `numbers.tsv` has 2,000 rows: a text, whether it is the text of a number that DynamoDB keeps, another text, whether it is,
 //! and how the two compare. The rows that differ are printed, and how many there are. Each line of `calls.txt` is a call on a
-//! table, or makes another one, and what it answers is printed. Calls drawn at random are in `table_store_tests`.
+//! table, or makes another one, and what it answers is printed. Calls drawn at random are in the test `table_store`.
 #![tactic(auto)]
 
 mod numbers;

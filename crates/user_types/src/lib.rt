@@ -8,3 +8,4 @@ pub mod forms;
 pub mod kinds;
 pub mod own_types;
 pub mod station;
+pub mod tree;
