@@ -1,1 +1,2 @@
 pub mod OneKey
+pub mod Words

@@ -1,5 +1,5 @@
 -- The key of an item, and why an item has none.
-use Rattle.std.specs.Prelude.{◌≡◌, ◌⊎◌, ◌++◌, ℕ, ℤ, List, [], ◌∷◌, Option, Some, None, Result, Ok, Err, MatchOption, MatchResult, option_map, string_bytes}
+use Rattle.std.specs.Prelude.{◌≡◌, ◌≢◌, ◌⊎◌, ◌++◌, ℕ, ℤ, List, [], ◌∷◌, Option, Some, None, Result, Ok, Err, IfSome, MatchOption, MatchResult, option_map, string_bytes}
 use Rattle.std.specs.HashMap.{get_by_text}
 use Rattle.dynamo_value.specs.Av as av
 use Rattle.dynamo_value.specs.Base64.{bytes_of_base64}
@@ -59,6 +59,14 @@ Says kind word r = ReadsAs kind word r
 abbrev pub word_of : KeyAttribute → List ℕ
 word_of attribute = string_bytes attribute.name ++ (58 ∷ kind_name attribute.kind)
 
+-- the attribute has a name
+abbrev pub IsNamed : KeyAttribute → Type 0
+IsNamed attribute = string_bytes attribute.name ≢ []
+
+-- the word is that of no attribute with a name
+abbrev pub IsNoWord : List ℕ → Type 0
+IsNoWord word = (attribute : KeyAttribute) → IsNamed attribute → word ≢ word_of attribute
+
 -- what the attribute of a key answers, by its kind and its value in the item
 abbrev pub Answers : KeyKind → Option Av → Result KeyValue TableError → Type 0
 Answers kind None r = r ≡ Err TableError.Missing
@@ -90,6 +98,14 @@ sort_words (Some sort) = word_of sort ∷ []
 
 abbrev pub words_of : KeySchema → List (List ℕ)
 words_of schema = word_of schema.partition ∷ sort_words schema.sort
+
+-- the attributes of a table's keys have names
+abbrev pub AreNamed : KeySchema → Type 0
+AreNamed schema = IsNamed schema.partition × IfSome schema.sort IsNamed
+
+-- the words are those of no table's keys
+abbrev pub AreNoWords : List (List ℕ) → Type 0
+AreNoWords words = (schema : KeySchema) → AreNamed schema → words ≢ words_of schema
 
 -- the sort key that a word says, after the partition key
 abbrev pub SaysSort : Option KeyAttribute → Option (List ℕ) → KeyValue → Result Key TableError → Type 0

@@ -1,5 +1,5 @@
 ghost use Rattle.std.specs.Prelude.{◌≡◌, ◌⊎◌, IfOk, IfErr, map, option_map, string_bytes};
-ghost use Rattle.table_key.specs.KeyOf.{Reads, ReadsAs, ReadsKey, Says, SaysKey, word_of, words_of};
+ghost use Rattle.table_key.specs.KeyOf.{AreNamed, AreNoWords, IsNamed, IsNoWord, Reads, ReadsAs, ReadsKey, Says, SaysKey, word_of, words_of};
 ghost use Rattle.table_key.specs.declared.error.TableError.TheVariants.{NotAnAttribute, OutOfMemory};
 
 use crate::{Key, KeyKind, KeyValue, TableError};
@@ -34,19 +34,20 @@ impl KeyAttribute {
     ///
     /// `NotAnAttribute` where the word is another, or has no name; want of memory.
     pub fn parse(alloc: Global, word: &str) -> Result<KeyAttribute, TableError>
-        ensures ok { IfOk result (λ attribute. word.now ≡ word_of attribute) }
-        ensures err { IfErr result (λ e. (e ≡ NotAnAttribute) ⊎ (e ≡ OutOfMemory)) }
+        ensures ok { IfOk result (λ attribute. (word.now ≡ word_of attribute) × IsNamed attribute) }
+        ensures err { IfErr result (λ e. (e ≡ OutOfMemory) ⊎ ((e ≡ NotAnAttribute) × IsNoWord word.now)) }
     {
         let Some((name, kind)) = word.rsplit_once(':') else {
             return Err(TableError::NotAnAttribute);
         };
-        match KeyKind::parse(kind) {
-            Some(kind) if !name.is_empty() => Ok(KeyAttribute {
-                name: String::from_str(alloc, name)?,
-                kind,
-            }),
-            _ => Err(TableError::NotAnAttribute),
+        if name.is_empty() {
+            return Err(TableError::NotAnAttribute);
         }
+        let Some(kind) = KeyKind::parse(kind) else {
+            return Err(TableError::NotAnAttribute);
+        };
+        let name = String::from_str(alloc, name)?;
+        Ok(KeyAttribute { name, kind })
     }
 
     /// The word `NAME:KIND` of this attribute, which [`KeyAttribute::parse`] reads.
@@ -139,8 +140,8 @@ impl KeySchema {
     /// Those of [`KeyAttribute::parse`], the sort key's before the partition key's, and `NotAnAttribute` where there are no words,
     /// or more than two.
     pub fn parse(alloc: Global, words: &[&str]) -> Result<KeySchema, TableError>
-        ensures ok { IfOk result (λ schema. map (λ w. w.now) words.now ≡ words_of schema) }
-        ensures err { IfErr result (λ e. (e ≡ NotAnAttribute) ⊎ (e ≡ OutOfMemory)) }
+        ensures ok { IfOk result (λ schema. (map (λ w. w.now) words.now ≡ words_of schema) × AreNamed schema) }
+        ensures err { IfErr result (λ e. (e ≡ OutOfMemory) ⊎ ((e ≡ NotAnAttribute) × AreNoWords (map (λ w. w.now) words.now))) }
     {
         let (partition, sort) = match words {
             [partition] => (partition, None),
