@@ -2,7 +2,7 @@
 use Rattle.std.specs.Prelude.{map, option_map, string_bytes}
 use Rattle.dynamo_value.specs.View.{view, entries_view}
 use Rattle.dynamo_serde.specs.Sent.{Frame, State, whole, list, table, marked}
-use Rattle.dynamo_serde.specs.SetKind.{symbol_of}
+use Rattle.dynamo_serde.specs.SymbolOf.{symbol_of}
 use Rattle.dynamo_serde.specs.declared.open.Open.{Open}
 use Rattle.dynamo_serde.specs.declared.builder.Builder.{Builder}
 

@@ -1,5 +1,5 @@
 pub mod Symbol
-pub mod SetKind
+pub mod SymbolOf
 pub mod Sent
 pub mod Building
 pub mod Called

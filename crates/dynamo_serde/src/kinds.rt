@@ -4,8 +4,8 @@ ghost use Rattle.std.specs.Prelude.{◌≡◌};
 ghost use Rattle.dynamo_serde.specs.Laid.{kind_name};
 ghost use Rattle.dynamo_serde.specs.Tape.{token_of};
 
-use crate::set::SetKind;
 use crate::tape::Token;
+use dynamo_write::SetKind;
 use serde::{Case, Name, NameKind};
 
 // A name is a word between two characters U+037E, as no variant is named.

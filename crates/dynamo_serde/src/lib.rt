@@ -13,7 +13,6 @@ mod fault;
 mod format;
 mod kinds;
 mod open;
-mod set;
 mod symbol;
 mod tape;
 mod typed;

@@ -3,7 +3,7 @@ ghost use Rattle.std.specs.Prelude.{◌≡◌, string_bytes, Some, OnOk};
 ghost use Rattle.std.specs.FinMap.Entries.{put as put_entry};
 ghost use Rattle.dynamo_value.specs.View.{view, entries_view, text_cmp};
 ghost use Rattle.dynamo_serde.specs.Sent.{put_in, key_in, symbol_in};
-ghost use Rattle.dynamo_serde.specs.SetKind.{symbol_of};
+ghost use Rattle.dynamo_serde.specs.SymbolOf.{symbol_of};
 ghost use Rattle.dynamo_serde.specs.Building.{frame};
 
 use crate::fault::fault;

@@ -2,11 +2,11 @@
 ghost use Rattle.std.specs.Prelude.{◌≡◌, Some, IfOk, option_map};
 ghost use Rattle.dynamo_value.specs.View.{view};
 ghost use Rattle.dynamo_serde.specs.Symbol.{named, converted as converted_to};
-ghost use Rattle.dynamo_serde.specs.SetKind.{symbol_of};
+ghost use Rattle.dynamo_serde.specs.SymbolOf.{symbol_of};
 
 use crate::fault::fault;
-use crate::set::{SetKind, set_kind, set_of};
 use dynamo_value::{AttributeValue, ErrorImpl, Result};
+use dynamo_write::SetKind;
 use std::alloc::Global;
 
 // A list under one of these is a set.
@@ -33,7 +33,7 @@ pub(crate) enum Symbol {
 pub(crate) fn symbol_named(name: &str) -> Option<Symbol>
     ensures { option_map symbol_of result ≡ named name.now }
 {
-    match set_kind(name) {
+    match SetKind::of_symbol(name) {
         Some(kind) => Some(Symbol::Set(kind)),
         None if name == NUMBER => Some(Symbol::Number),
         None if name == NULL => Some(Symbol::Null),
@@ -50,7 +50,7 @@ pub(crate) fn converted(
     ensures { IfOk result (λ made. converted_to (symbol_of symbol) (view value) ≡ Some (view made)) }
 {
     match (symbol, value) {
-        (Symbol::Set(kind), value) => set_of(alloc, kind, value),
+        (Symbol::Set(kind), value) => kind.set_of(alloc, value),
         (Symbol::Number, AttributeValue::S(text)) => Ok(AttributeValue::N(text)),
         (Symbol::Number, _) => Err(fault(ErrorImpl::ExpectedString)),
         (Symbol::Null, AttributeValue::Bool(b)) => Ok(AttributeValue::Null(b)),

@@ -6,8 +6,8 @@ ghost use Rattle.dynamo_serde.specs.Laid.{Token as Laid, Takes, TakesText, IsLai
 ghost use Rattle.dynamo_serde.specs.Tape.{token_of, row, ahead, place, Lays};
 
 use crate::fault::{LEVELS, fault, too_deep};
-use crate::set::SetKind;
 use dynamo_value::{AttributeValue, ErrorImpl, Result};
+use dynamo_write::SetKind;
 use std::alloc::Global;
 use std::collections::HashMap;
 

@@ -12,4 +12,5 @@ pub mod Collect
 pub mod Held
 pub mod Memory
 pub mod Set
+pub mod SetKind
 pub mod Written

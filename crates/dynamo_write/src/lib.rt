@@ -22,6 +22,7 @@ pub use serializer_seq::SerializerSeq;
 pub use serializer_struct::SerializerStruct;
 pub use serializer_struct_variant::SerializerStructVariant;
 pub use serializer_tuple_variant::SerializerTupleVariant;
+pub use set::SetKind;
 use std::alloc::Global;
 
 /// Writes a value as an attribute value.

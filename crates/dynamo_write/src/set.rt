@@ -1,26 +1,68 @@
-ghost use Rattle.std.specs.Prelude.{◌≡◌};
+ghost use Rattle.std.specs.Prelude.{◌≡◌, option_map};
 ghost use Rattle.dynamo_value.specs.View.{view};
 ghost use Rattle.dynamo_write.specs.Answers.{AnswersWithin};
 ghost use Rattle.dynamo_ser.specs.Symbols as symbols;
 ghost use Rattle.dynamo_write.specs.Set as set;
 ghost use Rattle.dynamo_write.specs.Set.{as_set, set_kind};
+ghost use Rattle.dynamo_write.specs.SetKind.{kind_of};
 
 use dynamo_value::{AttributeValue, Error, ErrorImpl, Result};
 use std::alloc::Global;
+
+/// The kinds of DynamoDB's sets.
+#[derive(Clone, Copy, Debug)]
+pub enum SetKind {
+    /// Sets of strings.
+    Strings,
+
+    /// Sets of numbers.
+    Numbers,
+
+    /// Sets of byte strings.
+    Blobs,
+}
+
+impl SetKind {
+    /// The kind of sets whose symbol this name is, if it is one.
+    pub fn of_symbol(name: &str) -> Option<SetKind>
+        ensures { option_map kind_of result ≡ set_kind name.now }
+    {
+        if name == "\u{37e}STRINGSET\u{37e}" {
+            Some(SetKind::Strings)
+        } else if name == "\u{37e}NUMBERSET\u{37e}" {
+            Some(SetKind::Numbers)
+        } else if name == "\u{37e}BYTESSET\u{37e}" {
+            Some(SetKind::Blobs)
+        } else {
+            None
+        }
+    }
+
+    /// The set of a list's elements.
+    ///
+    /// # Errors
+    ///
+    /// `NotSetlike` where the value is no list, and `StringSetExpectedType`, `NumberSetExpectedType` or `BinarySetExpectedType`
+    /// where an element is of another kind; want of memory.
+    pub fn set_of(self, alloc: Global, value: AttributeValue) -> Result<AttributeValue>
+        ensures { AnswersWithin (as_set (kind_of self) (view value)) result }
+    {
+        match self {
+            SetKind::Strings => string_set(alloc, value),
+            SetKind::Numbers => number_set(alloc, value),
+            SetKind::Blobs => binary_set(alloc, value),
+        }
+    }
+}
 
 /// What is written for a newtype struct of this name over a content: the set of the content's elements where the name is
 /// the symbol of a kind of sets, else the content.
 pub fn named(alloc: Global, name: &str, value: AttributeValue) -> Result<AttributeValue>
     ensures { AnswersWithin (set.named (set_kind name.now) (view value)) result }
 {
-    if name == "\u{37e}STRINGSET\u{37e}" {
-        string_set(alloc, value)
-    } else if name == "\u{37e}NUMBERSET\u{37e}" {
-        number_set(alloc, value)
-    } else if name == "\u{37e}BYTESSET\u{37e}" {
-        binary_set(alloc, value)
-    } else {
-        Ok(value)
+    match SetKind::of_symbol(name) {
+        Some(kind) => kind.set_of(alloc, value),
+        None => Ok(value),
     }
 }
 
