@@ -16,6 +16,9 @@ pub enum StoreError {
     /// The database failed.
     Database(Error),
 
+    /// Lists and maps nest in the item to more than the 32 levels that DynamoDB keeps.
+    TooDeep,
+
     /// The text that is kept of an item, or of a table, doesn't read.
     Unreadable,
 
@@ -73,6 +76,7 @@ impl fmt::Display for StoreError {
         match self {
             StoreError::Key(error) => write!(f, "{error}"),
             StoreError::Database(error) => write!(f, "{error}"),
+            StoreError::TooDeep => f.write_str("the item nests deeper than 32 levels"),
             StoreError::Unreadable => f.write_str("what the database keeps does not read"),
             StoreError::NoTable => f.write_str("the database has no table of this name"),
             StoreError::OtherSchema => f.write_str("the table is there with other keys"),

@@ -1,6 +1,7 @@
 //! A DynamoDB table in a SQLite database: the calls of the table in memory, on a file that stays.
 #![tactic(auto)]
 
+mod depth;
 mod open;
 mod store;
 

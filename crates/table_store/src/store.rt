@@ -2,6 +2,7 @@ ghost use Rattle.std.specs.Prelude.{◌≡◌};
 ghost use Rattle.table_key.specs.KeyOf.{ReadsKey};
 ghost use Rattle.table_store.specs.Content.{NeedsKey, schema_of};
 
+use crate::depth::is_kept;
 use dynamo_value::Item;
 use key_bytes::{Bounds, KeyBytes, bytes_of};
 use sqlite::{Alter, Connection};
@@ -106,7 +107,8 @@ impl<S: Alter + Drop> TableStore<S> {
     ///
     /// # Errors
     ///
-    /// `Key` with the errors of [`KeySchema::key_of`], and those of [`TableStore::get`].
+    /// `Key` with the errors of [`KeySchema::key_of`], `TooDeep` where lists and maps nest in the item to more than 32 levels, and
+    /// those of [`TableStore::get`].
     pub fn put(&mut self, item: &Item) -> Result<Option<Item>, StoreError>
         ensures needs { NeedsKey (schema_of self.old) item.now result }
         ensures schema { schema_of self.new ≡ schema_of self.old }
@@ -129,7 +131,7 @@ impl<S: Alter + Drop> TableStore<S> {
         if !condition.holds(before.is_some()) {
             return Err(StoreError::Key(TableError::ConditionFailed));
         }
-        table_rows::put(self.alloc, &mut self.conn, self.table.id, &key, item)?;
+        self.put_at(&key, item)?;
         Ok(before)
     }
 
@@ -166,7 +168,8 @@ impl<S: Alter + Drop> TableStore<S> {
     /// # Errors
     ///
     /// `Key` with `NoItem` where the key has no item, with the error of `change`, with those of [`KeySchema::key_of`] of the
-    /// changed item, and with `KeyChanged` where that has another key; and those of [`TableStore::get`].
+    /// changed item, and with `KeyChanged` where that has another key; `TooDeep` as [`TableStore::put`]; and those of
+    /// [`TableStore::get`].
     pub fn update<F: FnOnce(&Item) -> Result<Item, TableError>>(
         &mut self,
         key: &Key,
@@ -184,7 +187,7 @@ impl<S: Alter + Drop> TableStore<S> {
             return Err(StoreError::Key(TableError::KeyChanged));
         }
         let key = KeyBytes::of(self.alloc, key)?;
-        table_rows::put(self.alloc, &mut self.conn, self.table.id, &key, &changed)
+        self.put_at(&key, &changed)
     }
 
     /// The items that a query finds.
@@ -241,13 +244,23 @@ impl<S: Alter + Drop> TableStore<S> {
         }
     }
 
+    // Puts an item under a key, where DynamoDB keeps it: its text reads again then.
+    fn put_at(&mut self, key: &KeyBytes, item: &Item) -> Result<(), StoreError>
+        ensures schema { schema_of self.new ≡ schema_of self.old }
+    {
+        if !is_kept(item) {
+            return Err(StoreError::TooDeep);
+        }
+        table_rows::put(self.alloc, &mut self.conn, self.table.id, key, item)
+    }
+
     fn put_each(&mut self, items: &[Item]) -> Result<(), StoreError>
         ensures schema { schema_of self.new ≡ schema_of self.old }
     {
         for item in items {
             let key = self.table.schema.key_of(item)?;
             let key = KeyBytes::of(self.alloc, &key)?;
-            table_rows::put(self.alloc, &mut self.conn, self.table.id, &key, item)?;
+            self.put_at(&key, item)?;
         }
         Ok(())
     }
