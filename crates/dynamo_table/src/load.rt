@@ -26,8 +26,8 @@ impl<S: Alter + Drop> Loading<'_, '_, S> {
     // Takes in the item of a line, which waits for a transaction of some hundred, or tells why there is none.
     fn take(&mut self, line: Result<Line, LineFault>) -> anyhow::Result<()> {
         match line {
-            Ok(Line { number, item }) => match self.store.key_of(&item) {
-                Ok(_) => self.waiting.push(item)?,
+            Ok(Line { number, item }) => match self.store.check(&item) {
+                Ok(()) => self.waiting.push(item)?,
                 Err(error) => self.tell(format_args!("line {number}: {error}")),
             },
             Err(fault) => self.tell(fault),

@@ -80,6 +80,22 @@ impl<S: Alter + Drop> TableStore<S> {
         self.table.schema.key_of(item)
     }
 
+    /// Looks at an item as [`TableStore::put`] does before it asks the database.
+    ///
+    /// # Errors
+    ///
+    /// `Key` with the errors of [`KeySchema::key_of`], and `TooDeep` where lists and maps nest in the item to more than 32 levels.
+    pub fn check(&self, item: &Item) -> Result<(), StoreError>
+        ensures needs { NeedsKey (schema_of self.now) item.now result }
+    {
+        self.table.schema.key_of(item)?;
+        if is_kept(item) {
+            Ok(())
+        } else {
+            Err(StoreError::TooDeep)
+        }
+    }
+
     /// How many items there are.
     ///
     /// # Errors
