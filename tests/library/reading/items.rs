@@ -1,12 +1,12 @@
 //! Items and lists of items are read as maps and lists of maps, at a type and at its shape.
 use crate::fixtures::answers::{answers, item, items};
 use crate::fixtures::notation;
-use user_types::at_shapes::{item_at_shape, items_at_shape, value_at_shape};
-use user_types::forms::Point;
-use user_types::station::Station;
 use serde_dynamo::samples::User;
 use serde_dynamo::{Item, Items, from_item, from_items, to_item};
 use std::test::Fail;
+use user_types::at_shapes::{item_at_shape, items_at_shape, value_at_shape};
+use user_types::forms::Point;
+use user_types::station::Station;
 
 #[test]
 fn an_item_reads_as_its_map(rt: HostRuntime) -> Result<(), Fail> {
