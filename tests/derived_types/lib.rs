@@ -4,6 +4,7 @@
 mod attributes;
 mod conversions;
 mod depth;
+mod described_twins;
 mod enums;
 mod keys;
 mod order_rows;
@@ -13,3 +14,4 @@ mod scalars;
 mod twins;
 mod values;
 mod wide;
+mod wide_twins;

@@ -24,6 +24,15 @@ impl Random {
         (self.next() % 256) as u8
     }
 
+    // A number of 8 bits with a sign.
+    pub(crate) fn signed(&mut self) -> i8 {
+        (i16::from(self.byte()) - 128) as i8
+    }
+
+    pub(crate) fn flag(&mut self) -> bool {
+        self.next() % 2 == 1
+    }
+
     // A few.
     pub(crate) fn count(&mut self) -> u64 {
         self.next() % 5
@@ -44,6 +53,14 @@ impl Random {
             texts.push(self.text(alloc)?)?;
         }
         Ok(texts)
+    }
+
+    pub(crate) fn maybe_text(&mut self, alloc: Global) -> Result<Option<String>> {
+        if self.flag() {
+            Ok(Some(self.text(alloc)?))
+        } else {
+            Ok(None)
+        }
     }
 
     pub(crate) fn numbers(&mut self, alloc: Global) -> Result<Vec<u64>> {

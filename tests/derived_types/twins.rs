@@ -41,7 +41,7 @@ struct Station {
 }
 
 // Both write the same, and what each reads of what the other wrote is written so again.
-fn agree<D, O>(
+pub(crate) fn agree<D, O>(
     rt: &impl Abort,
     alloc: Global,
     derived: &D,
@@ -61,6 +61,21 @@ where
     let own_again = serde_dynamo::to_attribute_value(alloc, own_read)?;
     assert!(rt; again == own_again);
     Ok(())
+}
+
+// The twin of a described value is read of what that was written as, and they agree.
+pub(crate) fn reads_as_twin<D, O>(
+    rt: &impl Abort,
+    alloc: Global,
+    own: &O,
+) -> std::result::Result<(), Fail>
+where
+    D: Serialize + DeserializeOwned,
+    O: serde_dynamo::ser::Serialize + serde_dynamo::de::Deserialize,
+{
+    let written = serde_dynamo::to_attribute_value(alloc, own)?;
+    let derived: D = dynamo_serde::from_attribute_value(alloc, written)?;
+    agree(rt, alloc, &derived, own)
 }
 
 fn user_pair(alloc: Global, random: &mut Random) -> Result<(User, samples::User)> {
