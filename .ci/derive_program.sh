@@ -7,7 +7,7 @@ trap 'rm -rf "$made"' EXIT
 
 # A source that is newer than the program, if there is one.
 newer() {
-  find ../crates.txt dynamo_derive -name out -prune -o -newer "$program" \( -name '*.rt' -o -name '*.antt' -o -name crates.txt \) -print -quit
+  find ../crates.txt declarations code_layout impl_printer dynamo_derive -name out -prune -o -newer "$program" \( -name '*.rt' -o -name '*.antt' -o -name crates.txt \) -print -quit
 }
 
 # Without declarations it prints nothing.

@@ -84,7 +84,7 @@ struct Shelf {
     articles: BTreeMap<Code, u8>,
 }
 
-fn address(alloc: Global, random: &mut Random) -> Result<own::Address> {
+fn random_address(alloc: Global, random: &mut Random) -> Result<own::Address> {
     let city = random.text(alloc)?;
     let zip = if random.flag() {
         Some((random.next() % 4294967296) as u32)
@@ -94,7 +94,7 @@ fn address(alloc: Global, random: &mut Random) -> Result<own::Address> {
     Ok(own::Address { city, zip })
 }
 
-fn order(alloc: Global, random: &mut Random) -> Result<own::Order> {
+fn random_order(alloc: Global, random: &mut Random) -> Result<own::Order> {
     let mut stock = HashMap::new(alloc);
     for _ in 0..random.count() {
         stock.insert(random.text(alloc)?, random.next())?;
@@ -105,14 +105,14 @@ fn order(alloc: Global, random: &mut Random) -> Result<own::Order> {
         note: random.maybe_text(alloc)?,
         tags: random.texts(alloc)?,
         stock,
-        home: address(alloc, random)?,
+        home: random_address(alloc, random)?,
     })
 }
 
-fn page(alloc: Global, random: &mut Random) -> Result<own::Page<own::Order>> {
+fn random_page(alloc: Global, random: &mut Random) -> Result<own::Page<own::Order>> {
     let mut items = Vec::new(alloc);
     for _ in 0..random.count() {
-        items.push(order(alloc, random)?)?;
+        items.push(random_order(alloc, random)?)?;
     }
     Ok(own::Page {
         items,
@@ -120,11 +120,11 @@ fn page(alloc: Global, random: &mut Random) -> Result<own::Page<own::Order>> {
     })
 }
 
-fn reading(alloc: Global, random: &mut Random) -> Result<own::Reading> {
+fn random_reading(alloc: Global, random: &mut Random) -> Result<own::Reading> {
     Ok(own::Reading(random.next(), random.maybe_text(alloc)?, random.bytes(alloc)?))
 }
 
-fn sensor(alloc: Global, random: &mut Random) -> Result<own::Sensor> {
+fn random_sensor(alloc: Global, random: &mut Random) -> Result<own::Sensor> {
     Ok(own::Sensor {
         name: random.text(alloc)?,
         labels: random.texts(alloc)?,
@@ -132,26 +132,26 @@ fn sensor(alloc: Global, random: &mut Random) -> Result<own::Sensor> {
     })
 }
 
-fn parcel(random: &mut Random) -> own::Parcel {
+fn random_parcel(random: &mut Random) -> own::Parcel {
     own::Parcel {
         seal: own::Sealed,
         weight: own::Weight(random.next()),
     }
 }
 
-fn shipment(alloc: Global, random: &mut Random) -> Result<own::Shipment> {
+fn random_shipment(alloc: Global, random: &mut Random) -> Result<own::Shipment> {
     Ok(match random.next() % 4 {
         0 => own::Shipment::Waiting,
         1 => own::Shipment::Tracked(random.text(alloc)?),
         2 => own::Shipment::Between(random.byte(), random.byte()),
         _ => own::Shipment::Delivered {
             at: random.next(),
-            to: address(alloc, random)?,
+            to: random_address(alloc, random)?,
         },
     })
 }
 
-fn lots(alloc: Global, random: &mut Random) -> Result<own::Lots> {
+fn random_lots(alloc: Global, random: &mut Random) -> Result<own::Lots> {
     let mut hashed = HashMap::new(alloc);
     let mut sorted = BTreeMap::new(alloc);
     if random.flag() {
@@ -165,7 +165,7 @@ fn lots(alloc: Global, random: &mut Random) -> Result<own::Lots> {
     Ok(own::Lots { hashed, sorted })
 }
 
-fn shelf(alloc: Global, random: &mut Random) -> Result<own::Shelf> {
+fn random_shelf(alloc: Global, random: &mut Random) -> Result<own::Shelf> {
     let mut articles = BTreeMap::new(alloc);
     for _ in 0..random.count() {
         articles.insert(own::Code(random.text(alloc)?), random.byte())?;
@@ -181,12 +181,12 @@ fn a_thousand_structs_of_each(rt: HostRuntime) -> std::result::Result<(), Fail> 
     let alloc = rt.alloc();
     let mut random = Random::new();
     for _ in 0..1000 {
-        reads_as_twin::<Address, _>(&rt, alloc, &address(alloc, &mut random)?)?;
-        reads_as_twin::<Order, _>(&rt, alloc, &order(alloc, &mut random)?)?;
-        reads_as_twin::<Page<Order>, _>(&rt, alloc, &page(alloc, &mut random)?)?;
-        reads_as_twin::<Reading, _>(&rt, alloc, &reading(alloc, &mut random)?)?;
-        reads_as_twin::<Sensor, _>(&rt, alloc, &sensor(alloc, &mut random)?)?;
-        reads_as_twin::<Parcel, _>(&rt, alloc, &parcel(&mut random))?;
+        reads_as_twin::<Address, _>(&rt, alloc, &random_address(alloc, &mut random)?)?;
+        reads_as_twin::<Order, _>(&rt, alloc, &random_order(alloc, &mut random)?)?;
+        reads_as_twin::<Page<Order>, _>(&rt, alloc, &random_page(alloc, &mut random)?)?;
+        reads_as_twin::<Reading, _>(&rt, alloc, &random_reading(alloc, &mut random)?)?;
+        reads_as_twin::<Sensor, _>(&rt, alloc, &random_sensor(alloc, &mut random)?)?;
+        reads_as_twin::<Parcel, _>(&rt, alloc, &random_parcel(&mut random))?;
     }
     Ok(())
 }
@@ -196,9 +196,9 @@ fn a_thousand_enums_and_maps_of_each(rt: HostRuntime) -> std::result::Result<(),
     let alloc = rt.alloc();
     let mut random = Random::new();
     for _ in 0..1000 {
-        reads_as_twin::<Shipment, _>(&rt, alloc, &shipment(alloc, &mut random)?)?;
-        reads_as_twin::<Lots, _>(&rt, alloc, &lots(alloc, &mut random)?)?;
-        reads_as_twin::<Shelf, _>(&rt, alloc, &shelf(alloc, &mut random)?)?;
+        reads_as_twin::<Shipment, _>(&rt, alloc, &random_shipment(alloc, &mut random)?)?;
+        reads_as_twin::<Lots, _>(&rt, alloc, &random_lots(alloc, &mut random)?)?;
+        reads_as_twin::<Shelf, _>(&rt, alloc, &random_shelf(alloc, &mut random)?)?;
     }
     Ok(())
 }

@@ -41,7 +41,7 @@ struct Station {
 }
 
 // Both write the same, and what each reads of what the other wrote is written so again.
-pub(crate) fn agree<D, O>(
+fn agree<D, O>(
     rt: &impl Abort,
     alloc: Global,
     derived: &D,
@@ -52,18 +52,11 @@ where
     O: serde_dynamo::ser::Serialize + serde_dynamo::de::Deserialize,
 {
     let written = dynamo_serde::to_attribute_value(alloc, derived)?;
-    let own_written = serde_dynamo::to_attribute_value(alloc, own)?;
-    assert!(rt; written == own_written);
-    let read: D = dynamo_serde::from_attribute_value(alloc, own_written)?;
-    let again = dynamo_serde::to_attribute_value(alloc, &read)?;
-    assert!(rt; written == again);
-    let own_read: O = serde_dynamo::from_attribute_value(alloc, written)?;
-    let own_again = serde_dynamo::to_attribute_value(alloc, own_read)?;
-    assert!(rt; again == own_again);
-    Ok(())
+    assert!(rt; written == serde_dynamo::to_attribute_value(alloc, own)?);
+    reads_as_twin::<D, O>(rt, alloc, own)
 }
 
-// The twin of a described value is read of what that was written as, and they agree.
+// The twin of a described value is read of what that was written as, and each writes again what the other wrote.
 pub(crate) fn reads_as_twin<D, O>(
     rt: &impl Abort,
     alloc: Global,
@@ -74,8 +67,12 @@ where
     O: serde_dynamo::ser::Serialize + serde_dynamo::de::Deserialize,
 {
     let written = serde_dynamo::to_attribute_value(alloc, own)?;
-    let derived: D = dynamo_serde::from_attribute_value(alloc, written)?;
-    agree(rt, alloc, &derived, own)
+    let derived: D = dynamo_serde::read_attribute_value(alloc, &written)?;
+    let again = dynamo_serde::to_attribute_value(alloc, &derived)?;
+    assert!(rt; written == again);
+    let own_read: O = serde_dynamo::from_attribute_value(alloc, again)?;
+    assert!(rt; written == serde_dynamo::to_attribute_value(alloc, own_read)?);
+    Ok(())
 }
 
 fn user_pair(alloc: Global, random: &mut Random) -> Result<(User, samples::User)> {

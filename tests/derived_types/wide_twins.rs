@@ -75,7 +75,7 @@ struct Wide40 {
     points: u32,
 }
 
-fn wide_20(alloc: Global, random: &mut Random) -> Result<own::Wide20> {
+fn random_wide_20(alloc: Global, random: &mut Random) -> Result<own::Wide20> {
     Ok(own::Wide20 {
         id: random.text(alloc)?,
         version: random.byte(),
@@ -100,7 +100,7 @@ fn wide_20(alloc: Global, random: &mut Random) -> Result<own::Wide20> {
     })
 }
 
-fn wide_40(alloc: Global, random: &mut Random) -> Result<own::Wide40> {
+fn random_wide_40(alloc: Global, random: &mut Random) -> Result<own::Wide40> {
     Ok(own::Wide40 {
         id: random.text(alloc)?,
         version: random.byte(),
@@ -150,8 +150,8 @@ fn a_thousand_wide_values(rt: HostRuntime) -> std::result::Result<(), Fail> {
     let alloc = rt.alloc();
     let mut random = Random::new();
     for _ in 0..1000 {
-        reads_as_twin::<Wide20, _>(&rt, alloc, &wide_20(alloc, &mut random)?)?;
-        reads_as_twin::<Wide40, _>(&rt, alloc, &wide_40(alloc, &mut random)?)?;
+        reads_as_twin::<Wide20, _>(&rt, alloc, &random_wide_20(alloc, &mut random)?)?;
+        reads_as_twin::<Wide40, _>(&rt, alloc, &random_wide_40(alloc, &mut random)?)?;
     }
     Ok(())
 }

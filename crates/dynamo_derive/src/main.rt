@@ -1,27 +1,9 @@
 //! Reads structs and enums from standard input, and prints the impls by which `dynamo_record` describes them.
 #![tactic(auto)]
 
-mod attributes;
-mod branch;
-mod case;
-mod code;
-mod declaration;
-mod derive;
-mod failure;
-mod imports;
-mod layout;
-mod lexer;
-mod module_path;
-mod parser;
-mod parts;
-mod printer;
-mod rename;
-mod token;
-mod tree;
-mod variants;
-
-use failure::Failure;
-use module_path::ModulePath;
+use declarations::{Failure, read_declarations};
+use impl_printer::{ModulePath, impls_of};
+use std::alloc::Global;
 use std::process::ExitCode;
 use std::{env, io};
 
@@ -37,6 +19,12 @@ fn given_path(rt: &HostRuntime) -> io::Result<Option<ModulePath>> {
     }
 }
 
+// The impls of the declarations in the text.
+fn derive(alloc: Global, path: &ModulePath, text: &str) -> Result<String, Failure> {
+    let declarations = read_declarations(alloc, text)?;
+    Ok(impls_of(alloc, path, declarations.as_slice())?)
+}
+
 // Prints the impls, or the failure, and answers the status that the program ends with.
 fn run(rt: &HostRuntime) -> io::Result<u8> {
     let Some(path) = given_path(rt)? else {
@@ -44,7 +32,7 @@ fn run(rt: &HostRuntime) -> io::Result<u8> {
         return Ok(2);
     };
     let text = io::read_to_string(rt.alloc(), rt.reader())?;
-    match derive::derive(rt.alloc(), &path, text.as_str()) {
+    match derive(rt.alloc(), &path, text.as_str()) {
         Ok(impls) => {
             print!(rt; "{impls}")?;
             Ok(0)

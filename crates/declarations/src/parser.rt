@@ -1,6 +1,7 @@
 use crate::attributes::{Attributes, read_attributes};
 use crate::declaration::{Body, Declaration, Field, Form, Parameter};
 use crate::failure::{Failure, Reason};
+use crate::lexer::tokens;
 use crate::parts::{after_visibility, attributed, bracketed, line_of, parts, type_text};
 use crate::rename::RenameRule;
 use crate::token::Token;
@@ -10,17 +11,34 @@ use std::alloc::Global;
 // Fields that have no names are called by the letters.
 const LETTERS: usize = 26;
 
-/// The declarations that the tokens write.
+/// The declarations of the structs and enums in a text, in its order.
 ///
 /// # Errors
 ///
 /// Refuses what is not described, with its line; fails for want of memory.
-pub fn read_declarations(alloc: Global, tokens: &[Token]) -> Result<Vec<Declaration>, Failure> {
+pub fn read_declarations(alloc: Global, text: &str) -> Result<Vec<Declaration>, Failure> {
+    let tokens = tokens(alloc, text)?;
     let mut found = Vec::new(alloc);
     for item in tokens.split_inclusive(ends_item) {
         found.push(read_declaration(alloc, item)?)?;
     }
+    refuse_equal_lists(alloc, found.as_slice())?;
     Ok(found)
+}
+
+// Refuses two lists of fields that would be declared by one name.
+fn refuse_equal_lists(alloc: Global, declarations: &[Declaration]) -> Result<(), Failure> {
+    let mut names: Vec<&str> = Vec::new(alloc);
+    for declaration in declarations {
+        for name in declaration.lists(alloc)? {
+            if names.iter().any(|other| *other == name) {
+                let reason = Reason::SameList(String::from_str(alloc, name)?);
+                return Err(Failure::Refused(declaration.line, reason));
+            }
+            names.push(name)?;
+        }
+    }
+    Ok(())
 }
 
 fn ends_item(token: &Token) -> bool {

@@ -1,10 +1,9 @@
-use super::shared::{
+use crate::shared::{
     Heading, codes, expecting_function, name_function, names_function, print_deserialize,
     print_key, print_serialize, print_shaped, variant_names,
 };
-use crate::code::{Code, ListKind};
-use crate::declaration::Variant;
-use crate::layout::statement;
+use code_layout::{Code, ListKind, statement};
+use declarations::Variant;
 use std::alloc::{AllocError, Global};
 use std::fmt::Write;
 

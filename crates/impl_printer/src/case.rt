@@ -1,6 +1,6 @@
-use crate::code::{Code, ListKind};
-use crate::declaration::{Contents, Field, Variant};
 use crate::tree::{leaf_refs, letters, names, tree, wrapped};
+use code_layout::{Code, ListKind};
+use declarations::{Contents, Field, Variant};
 use std::alloc::{AllocError, Global};
 
 /// A variant, by what stands for it in the impls of its enum.

@@ -1,9 +1,9 @@
-use super::fields::{conform_call, ghost_parts, make_function, print_field_list, write_call};
-use super::shared::{
+use crate::fields::{conform_call, ghost_parts, make_function, print_field_list, write_call};
+use crate::shared::{
     Heading, expecting_function, name_function, print_deserialize, print_serialize, print_shaped,
 };
-use crate::code::ListKind;
 use crate::tree::{letters, places, wrapped};
+use code_layout::ListKind;
 use std::alloc::{AllocError, Global};
 use std::fmt::Write;
 

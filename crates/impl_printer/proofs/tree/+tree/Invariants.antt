@@ -1,5 +1,5 @@
 use Rattle.std.proofs.Common.{length, ◌≤◌, ◌<◌}
-use Rattle.dynamo_derive.proofs.tree.+tree.Given as goal
+use Rattle.impl_printer.proofs.tree.+tree.Given as goal
 
 abbrev pub decreases-tree : goal.decreases-tree
 decreases-tree l = length l.leaves.now

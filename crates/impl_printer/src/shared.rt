@@ -1,6 +1,5 @@
-use crate::code::{Code, ListKind};
-use crate::declaration::{Declaration, Parameter, Variant};
-use crate::layout::{fits, joined, quoted, signature, statement};
+use code_layout::{Code, ListKind, fits, joined, quoted, signature, statement};
+use declarations::{Declaration, Parameter, Variant};
 use std::alloc::{AllocError, Global};
 use std::fmt::Write;
 

@@ -1,14 +1,6 @@
-pub mod choices;
-pub mod fields;
-pub mod newtype;
-pub mod record;
-pub mod shared;
-pub mod tuple_struct;
-pub mod unit_enum;
-pub mod unit_struct;
-
-use crate::declaration::{Body, Declaration};
-use shared::heading_of;
+use crate::shared::heading_of;
+use crate::{choices, newtype, record, tuple_struct, unit_enum, unit_struct};
+use declarations::{Body, Declaration};
 use std::alloc::{AllocError, Global};
 
 /// Prints the impls of a declaration. The imports name the variants of an enum by the alias.

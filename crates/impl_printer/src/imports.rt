@@ -1,6 +1,6 @@
 // The imports that the printed impls need.
-use crate::declaration::{Body, Contents, Declaration, Field, Form, SetKind, Variant};
-use crate::layout::{filled, joined};
+use code_layout::{filled, joined};
+use declarations::{Body, Contents, Declaration, Field, Form, SetKind, Variant};
 use std::alloc::{AllocError, Global};
 use std::fmt::Write;
 

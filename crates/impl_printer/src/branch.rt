@@ -1,6 +1,6 @@
 // The tree of an enum's variants: the halves of a list are the sides of a choice, the left the larger.
 use crate::case::Case;
-use crate::code::{Code, ListKind};
+use code_layout::{Code, ListKind};
 use std::alloc::{AllocError, Global};
 
 #[derive(Clone, Copy)]

@@ -1,7 +1,7 @@
 ghost use Rattle.std.specs.Prelude.{◌≤◌, ◌<◌};
 
-use crate::code::{Code, ListKind};
-use crate::declaration::{Field, Form, SetKind};
+use code_layout::{Code, ListKind};
+use declarations::{Field, Form, SetKind};
 use std::alloc::{AllocError, Global};
 
 /// The list of these fields, as `dynamo_record` groups them: one stands alone, and more are a pair, four or eight groups, of which

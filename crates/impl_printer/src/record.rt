@@ -1,11 +1,11 @@
-use super::fields::{conform_call, ghost_parts, make_function, print_field_list, write_call};
-use super::shared::{
+use crate::fields::{conform_call, ghost_parts, make_function, print_field_list, write_call};
+use crate::shared::{
     Heading, codes, expecting_function, name_function, names_function, print_deserialize,
     print_serialize, print_shaped,
 };
-use crate::code::ListKind;
-use crate::declaration::Field;
 use crate::tree::{leaf_refs, leaf_types, names, shown_names};
+use code_layout::ListKind;
+use declarations::Field;
 use std::alloc::{AllocError, Global};
 use std::fmt::Write;
 

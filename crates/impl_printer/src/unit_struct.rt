@@ -1,4 +1,4 @@
-use super::shared::{Heading, print_deserialize, print_serialize, print_shaped};
+use crate::shared::{Heading, print_deserialize, print_serialize, print_shaped};
 use std::alloc::{AllocError, Global};
 
 /// Prints the impls of a unit struct.

@@ -1,8 +1,7 @@
 // What the impls of all structs with fields have, whether these have names or not.
-use super::shared::Heading;
-use crate::code::{Code, ListKind};
-use crate::layout::{binding, signature, statement};
+use crate::shared::Heading;
 use crate::tree::{tree, wrapped};
+use code_layout::{Code, ListKind, binding, signature, statement};
 use std::alloc::{AllocError, Global};
 use std::fmt::Write;
 

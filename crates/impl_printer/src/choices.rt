@@ -1,13 +1,12 @@
-use super::shared::{
+use crate::branch::{choice_type, ghost_branch, pattern_branch};
+use crate::case::{Case, cases};
+use crate::shared::{
     Heading, codes, expecting_function, name_function, names_function, print_deserialize,
     print_serialize, print_shaped, variant_names,
 };
-use crate::branch::{choice_type, ghost_branch, pattern_branch};
-use crate::case::{Case, cases};
-use crate::code::ListKind;
-use crate::declaration::{Contents, Field, Variant};
-use crate::layout::{arm, signature};
 use crate::tree::{leaf_types, shown_names, tree};
+use code_layout::{ListKind, arm, signature};
+use declarations::{Contents, Field, Variant};
 use std::alloc::{AllocError, Global};
 use std::fmt::Write;
 

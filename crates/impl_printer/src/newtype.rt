@@ -1,5 +1,5 @@
-use super::shared::{Heading, letter, print_deserialize, print_key, print_serialize, print_shaped};
-use crate::layout::fits;
+use crate::shared::{Heading, letter, print_deserialize, print_key, print_serialize, print_shaped};
+use code_layout::fits;
 use std::alloc::{AllocError, Global};
 
 /// Prints the impls of a newtype, by the text of its field's type.

@@ -1,42 +1,16 @@
-use crate::declaration::{Body, Declaration};
-use crate::failure::{Failure, Reason};
+use crate::impls::print_impls;
 use crate::imports::{mentioned, print_ghost_imports, print_imports};
-use crate::lexer::tokens;
 use crate::module_path::ModulePath;
-use crate::parser::read_declarations;
-use crate::printer::print_impls;
-use crate::rename::RenameRule;
+use declarations::{Body, Declaration, RenameRule};
 use std::alloc::{AllocError, Global};
 use std::fmt::Write;
 
-/// The imports and the impls of the declarations in the text, which stand in this module.
+/// The imports and the impls of the declarations, which stand in this module.
 ///
 /// # Errors
 ///
-/// Refuses what is not described, with its line; fails for want of memory.
-pub fn derive(alloc: Global, path: &ModulePath, text: &str) -> Result<String, Failure> {
-    let tokens = tokens(alloc, text)?;
-    let declarations = read_declarations(alloc, tokens.as_slice())?;
-    refuse_equal_lists(alloc, declarations.as_slice())?;
-    Ok(printed(alloc, path, declarations.as_slice())?)
-}
-
-// Refuses two lists of fields that would be declared by one name.
-fn refuse_equal_lists(alloc: Global, declarations: &[Declaration]) -> Result<(), Failure> {
-    let mut names: Vec<&str> = Vec::new(alloc);
-    for declaration in declarations {
-        for name in declaration.lists(alloc)? {
-            if names.iter().any(|other| *other == name) {
-                let reason = Reason::SameList(String::from_str(alloc, name)?);
-                return Err(Failure::Refused(declaration.line, reason));
-            }
-            names.push(name)?;
-        }
-    }
-    Ok(())
-}
-
-fn printed(
+/// Want of memory.
+pub fn impls_of(
     alloc: Global,
     path: &ModulePath,
     declarations: &[Declaration],

@@ -1,0 +1,8 @@
+//! Pieces of code, laid out as `rt fmt` lays them out.
+#![tactic(auto)]
+
+mod code;
+mod layout;
+
+pub use code::{Code, ListKind};
+pub use layout::{BODY, arm, binding, filled, fits, joined, quoted, signature, statement};

@@ -1,0 +1,21 @@
+//! Prints the impls by which `dynamo_record` describes structs and enums, with their imports, laid out as by `rt fmt`.
+#![tactic(auto)]
+
+mod branch;
+mod case;
+mod choices;
+mod fields;
+mod file;
+mod impls;
+mod imports;
+mod module_path;
+mod newtype;
+mod record;
+mod shared;
+mod tree;
+mod tuple_struct;
+mod unit_enum;
+mod unit_struct;
+
+pub use file::impls_of;
+pub use module_path::ModulePath;
