@@ -1,20 +1,10 @@
 //! Writes and reads DynamoDB values from the command line.
 #![tactic(auto)]
 
-mod check;
-mod commands;
-mod convert;
-mod failure;
-mod input;
-mod json;
-mod output;
-mod read_to_end;
-mod run;
-mod user;
-
 use std::alloc::AllocError;
 use std::process::ExitCode;
 use std::{env, io};
+use tool_commands::run::{lack_memory, run};
 
 // The words after the program's name; none where one of them is no text. It fails for want of memory alone.
 fn words(rt: &HostRuntime) -> Result<Vec<String>, AllocError> {
@@ -35,7 +25,7 @@ fn words(rt: &HostRuntime) -> Result<Vec<String>, AllocError> {
 fn main(rt: HostRuntime) -> ExitCode {
     let mut writer = io::writer(&rt);
     ExitCode::from(match words(&rt) {
-        Ok(words) => run::run(rt.alloc(), words.as_slice(), &mut rt.reader(), &mut writer),
-        Err(_) => run::lack_memory(&mut writer),
+        Ok(words) => run(rt.alloc(), words.as_slice(), &mut rt.reader(), &mut writer),
+        Err(_) => lack_memory(&mut writer),
     })
 }

@@ -1,0 +1,50 @@
+ghost use Rattle.std.specs.Prelude.{◌≡◌};
+ghost use Rattle.tool_commands.specs.Failed.{no_memory, reason, reason_text};
+
+use serde_dynamo::{Error, ErrorImpl};
+use std::alloc::{AllocError, AllocFailed};
+use std::fmt;
+
+/// Why a command has nothing to print.
+#[derive(Drop)]
+pub enum Failure {
+    /// The reader failed, or its end didn't come.
+    Read,
+
+    /// What was read is no JSON text.
+    NotJson,
+
+    /// What was read has a fault, or there is no memory.
+    Fault(Error),
+}
+
+impl From<Error> for Failure {
+    ghost use Rattle.tool_commands.specs.declared.failure.Failure.{Failure};
+
+    ghost from_gives = { λ error failure. failure ≡ Failure.Fault error };
+
+    fn from(error: Error) -> Failure {
+        Failure::Fault(error)
+    }
+}
+
+/// Want of memory is a fault.
+impl From<AllocError> for Failure {
+    ghost from_gives = { λ _ failure. reason failure ≡ no_memory };
+
+    fn from(_: AllocError) -> Failure {
+        Failure::Fault(Error::from(ErrorImpl::OutOfMemory))
+    }
+}
+
+impl fmt::Display for Failure {
+    ghost output = { λ failure. reason_text (reason failure) };
+
+    fn fmt<W: fmt::Write>(&self, f: &mut fmt::Formatter<W>) -> fmt::Result {
+        match self {
+            Failure::Read => f.write_str("read failed"),
+            Failure::NotJson => f.write_str("input is not JSON"),
+            Failure::Fault(error) => fmt::Display::fmt(error, f),
+        }
+    }
+}

@@ -1,0 +1,61 @@
+ghost use Rattle.std.specs.Prelude.{◌≡◌, ℕ, List, Result, IfOk, MatchResult, false, string_bytes};
+ghost use Rattle.std.specs.Result.{result_map_both};
+ghost use Rattle.serde_json.specs.View.{view};
+ghost use Rattle.serde_json.specs.Written.{has_float};
+ghost use Rattle.dynamo_value.specs.Fault.{out_of_memory};
+ghost use Rattle.dynamo_value.specs.Kind.{fault_of};
+ghost use Rattle.dynamo_value.specs.View as av;
+ghost use Rattle.dynamo_json.specs.Json.{json_of};
+ghost use Rattle.tool_commands.specs.Failed.{Failed, reason};
+ghost use Rattle.tool_commands.specs.JsonText as text;
+ghost use Rattle.tool_commands.specs.JsonText.{ReadsJson};
+ghost use Rattle.tool_commands.specs.Reading.{Reads, calls};
+
+use crate::failure::Failure;
+use crate::input::Input;
+use crate::read_to_end::read_to_end;
+use serde_dynamo::{AttributeValue, DynamoJson};
+use serde_json::Value;
+use std::alloc::{AllocError, Global};
+
+/// Reads the input to its end, as one JSON text.
+///
+/// # Errors
+///
+/// Those of reading; `NotJson` where the bytes are no text by UTF-8, or no JSON; want of memory for the value.
+pub fn read_json<R: Input>(alloc: Global, reader: &mut R) -> Result<Value, Failure>
+    ensures { (input : Result (List ℕ) Failed) × Reads R.read_gives calls reader.old input reader.new
+        × ReadsJson input (result_map_both view reason result) }
+{
+    let bytes = read_to_end(alloc, reader)?;
+    parse(alloc, bytes.as_slice())
+}
+
+fn parse(alloc: Global, bytes: &[u8]) -> Result<Value, Failure>
+    ensures { ReadsJson (Ok bytes.now) (result_map_both view reason result) }
+{
+    match Value::from_slice(alloc, bytes) {
+        Ok(json) => Ok(json),
+        Err(error) if error.is_memory() => Err(Failure::from(AllocError)),
+        Err(_) => Err(Failure::NotJson),
+    }
+}
+
+/// The line that a JSON value without floats is printed as: its compact text.
+pub fn json_line(alloc: Global, json: &Value) -> Result<String, AllocError>
+    ensures { IfOk result (λ line. has_float (view json.now) ≡ false
+        → string_bytes line ≡ text.json_line (view json.now)) }
+{
+    let mut line = json.to_string(alloc)?;
+    line.push('\n')?;
+    Ok(line)
+}
+
+/// The line that an attribute value is printed as: the text of its DynamoDB JSON. It fails for want of memory alone.
+pub fn dynamo_line(alloc: Global, value: &AttributeValue) -> serde_dynamo::Result<String>
+    ensures { MatchResult result (λ line. string_bytes line ≡ text.json_line (json_of (av.view value.now))) (λ e. fault_of e ≡ out_of_memory) }
+{
+    let mut line = value.to_json_text(alloc)?;
+    line.push('\n')?;
+    Ok(line)
+}

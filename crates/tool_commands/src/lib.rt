@@ -1,0 +1,16 @@
+//! What the words of the program `dynamo_tool` do, over any reader and writer.
+#![tactic(auto)]
+
+mod check;
+mod commands;
+mod convert;
+mod failure;
+mod input;
+mod json;
+mod output;
+mod read_to_end;
+pub mod run;
+mod user;
+
+pub use input::Input;
+pub use output::Output;

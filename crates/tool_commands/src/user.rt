@@ -1,0 +1,45 @@
+ghost use Rattle.std.specs.Prelude.{◌≡◌, ◌++◌, MatchResult, option_map, string_bytes};
+ghost use Rattle.std.specs.Result.{result_map_both};
+ghost use Rattle.std.specs.HashMap.{get_by_text};
+ghost use Rattle.dynamo_value.specs.Item.{map_of};
+ghost use Rattle.dynamo_value.specs.View.{view};
+ghost use Rattle.tool_commands.specs.Failed.{reason};
+ghost use Rattle.tool_commands.specs.Lines.{line_at};
+ghost use Rattle.tool_commands.specs.Runs.{AnswersUser};
+
+use crate::failure::Failure;
+use serde_dynamo::samples::User;
+use serde_dynamo::{AttributeValue, Item, to_item};
+use std::alloc::{AllocError, Global};
+use std::fmt::Write;
+
+/// The lines of a user's item, by the names of the fields. It fails for want of memory alone.
+pub fn user_lines(alloc: Global, id: &str, name: &str, age: u8) -> Result<String, Failure>
+    ensures { AnswersUser id.now name.now age (result_map_both string_bytes reason result) }
+{
+    let user = User {
+        id: String::from_str(alloc, id)?,
+        name: String::from_str(alloc, name)?,
+        age,
+    };
+    let item = to_item(alloc, user)?;
+    let mut lines = String::new(alloc);
+    push_line(&mut lines, &item, "age")?;
+    push_line(&mut lines, &item, "id")?;
+    push_line(&mut lines, &item, "name")?;
+    Ok(lines)
+}
+
+// The line of a field: its name, its kind and its text.
+fn push_line(text: &mut String, item: &Item, name: &str) -> Result<(), AllocError>
+    ensures { MatchResult result
+        (λ _. string_bytes text.new ≡ string_bytes text.old ++ line_at name.now (option_map view (get_by_text (map_of item.now) name.now)))
+        (λ _. Unit {0}) }
+{
+    match item.get(name) {
+        Some(AttributeValue::N(n)) => writeln!(text, "{name} N {n}")?,
+        Some(AttributeValue::S(s)) => writeln!(text, "{name} S {s}")?,
+        _ => {}
+    }
+    Ok(())
+}
