@@ -21,6 +21,7 @@ use std::collections::HashMap;
 pub(crate) type Shown = Showing<Deserializer, Elements, Entries, Choice>;
 
 // What an attribute value shows at each request.
+#[inline(always)]
 pub(crate) fn attribute_value(
     alloc: Global,
     request: Request,
@@ -79,6 +80,7 @@ fn any(alloc: Global, value: AttributeValue) -> Result<Shown>
 }
 
 // An integer of the kind that is asked for.
+#[inline(always)]
 fn number(alloc: Global, request: Request, value: AttributeValue) -> Result<Shown>
     ensures { (kind : IntegerKind) → asked request ≡ Some kind → IsShown (num_shown kind (view value)) result }
 {
@@ -89,6 +91,7 @@ fn number(alloc: Global, request: Request, value: AttributeValue) -> Result<Show
 }
 
 // A boolean.
+#[inline(always)]
 fn boolean(value: AttributeValue) -> Result<Shown>
     ensures { IsShown (bool_shown (view value)) result }
 {
@@ -99,6 +102,7 @@ fn boolean(value: AttributeValue) -> Result<Shown>
 }
 
 // The one character of a string.
+#[inline(always)]
 fn character(value: AttributeValue) -> Result<Shown>
     ensures { IsShown (char_shown (view value)) result }
 {
@@ -124,6 +128,7 @@ fn only_char(text: &str) -> Result<Shown>
 }
 
 // A string.
+#[inline(always)]
 fn text(value: AttributeValue) -> Result<Shown>
     ensures { IsShown (text_shown (view value)) result }
 {
@@ -134,6 +139,7 @@ fn text(value: AttributeValue) -> Result<Shown>
 }
 
 // A byte string.
+#[inline(always)]
 fn bytes(value: AttributeValue) -> Result<Shown>
     ensures { IsShown (bytes_shown (view value)) result }
 {
@@ -144,6 +150,7 @@ fn bytes(value: AttributeValue) -> Result<Shown>
 }
 
 // An option: none where `NULL` is true, and else the same value as its content, also where `NULL` is false.
+#[inline(always)]
 fn option(alloc: Global, value: AttributeValue) -> Result<Shown>
     ensures { IsShown (option_shown (view value)) result }
 {
@@ -154,6 +161,7 @@ fn option(alloc: Global, value: AttributeValue) -> Result<Shown>
 }
 
 // Null, or the fault.
+#[inline(always)]
 fn null(otherwise: ErrorImpl, value: AttributeValue) -> Result<Shown>
     ensures { IsShown (null_shown (fault_of otherwise) (view value)) result }
 {
@@ -181,6 +189,7 @@ fn sequence(alloc: Global, value: AttributeValue) -> Result<Shown>
 }
 
 // A map.
+#[inline(always)]
 fn map(alloc: Global, value: AttributeValue) -> Result<Shown>
     ensures { IsShown (map_shown (view value)) result }
 {
@@ -191,6 +200,7 @@ fn map(alloc: Global, value: AttributeValue) -> Result<Shown>
 }
 
 // A map, or a list with the fields in order; no set.
+#[inline(always)]
 fn structure(alloc: Global, value: AttributeValue) -> Result<Shown>
     ensures shown { IsShown (struct_shown (view value)) result }
     ensures counted { IfElements (Counted (attribute (view value))) result }
@@ -202,6 +212,7 @@ fn structure(alloc: Global, value: AttributeValue) -> Result<Shown>
 }
 
 // A variant, by its name alone or by a map of its name to its content.
+#[inline(always)]
 fn enumeration(alloc: Global, value: AttributeValue) -> Result<Shown>
     ensures { IsShown (enum_shown (view value)) result }
 {
@@ -220,6 +231,7 @@ pub(crate) fn number_text(alloc: Global, request: Request, text: String) -> Resu
 }
 
 // What the key of a map shows.
+#[inline(always)]
 pub(crate) fn key_text(alloc: Global, request: Request, text: String) -> Result<Shown>
     ensures { IsShown (key_shown request (string_bytes text)) result }
 {
@@ -227,6 +239,7 @@ pub(crate) fn key_text(alloc: Global, request: Request, text: String) -> Result<
 }
 
 // What a plain text shows.
+#[inline(always)]
 pub(crate) fn plain_text(alloc: Global, request: Request, text: String) -> Result<Shown>
     ensures { IsShown (plain_text_shown request (string_bytes text)) result }
 {
@@ -234,6 +247,7 @@ pub(crate) fn plain_text(alloc: Global, request: Request, text: String) -> Resul
 }
 
 // What a single text shows, with readers round what lies inside.
+#[inline(always)]
 fn of_leaf(alloc: Global, leaf: Leaf) -> Shown
     ensures { seen source_of elements_left entries_left chosen_of result ≡ leaf_sight leaf }
 {
