@@ -49,8 +49,7 @@ pub fn read_attribute_value<T: DeserializeOwned>(
     alloc: Global,
     value: &AttributeValue,
 ) -> Result<T> {
-    let mut tape = Tape::new(alloc, value)?;
-    T::deserialize_owned(alloc, &mut Deserializer::new(&[], &mut tape))
+    read_tape(alloc, Tape::new(alloc, value)?)
 }
 
 /// Reads a value from an attribute value, as [`read_attribute_value`].
@@ -61,17 +60,14 @@ pub fn from_attribute_value<T: DeserializeOwned>(
     read_attribute_value(alloc, &value)
 }
 
-fn read_map<T: DeserializeOwned>(
-    alloc: Global,
-    map: &HashMap<String, AttributeValue>,
-) -> Result<T> {
-    let mut tape = Tape::of_map(alloc, map)?;
+// Reads a value from a tape.
+fn read_tape<T: DeserializeOwned>(alloc: Global, mut tape: Tape<'_>) -> Result<T> {
     T::deserialize_owned(alloc, &mut Deserializer::new(&[], &mut tape))
 }
 
 /// Reads a value from an item, as [`read_attribute_value`] from the map of its attributes.
 pub fn from_item<T: DeserializeOwned>(alloc: Global, item: Item) -> Result<T> {
-    read_map(alloc, item.inner())
+    read_tape(alloc, Tape::of_map(alloc, item.inner())?)
 }
 
 /// Reads the values of items, in order: the first item's fault is the fault.
@@ -79,7 +75,7 @@ pub fn from_items<T: DeserializeOwned>(alloc: Global, items: Items) -> Result<Ve
     let maps: Vec<HashMap<String, AttributeValue>> = items.into();
     let mut values = Vec::with_capacity(alloc, maps.len())?;
     for map in &maps {
-        values.push(read_map(alloc, map)?)?;
+        values.push(read_tape(alloc, Tape::of_map(alloc, map)?)?)?;
     }
     Ok(values)
 }
