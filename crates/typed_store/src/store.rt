@@ -1,4 +1,4 @@
-ghost use Rattle.std.specs.Prelude.{IfOk, IfSome};
+ghost use Rattle.std.specs.Prelude.{All, IfOk, IfSome};
 ghost use Rattle.typed_store.specs.Stored.{IsKeyOf, WasRead, schema_of};
 
 use crate::TypedError;
@@ -76,17 +76,21 @@ impl<T: Keyed, S: Alter + Drop> TypedStore<T, S> {
         Ok(self.store.delete(key)?.is_some())
     }
 
-    /// The values that a query finds, in its order.
+    /// The values that a query finds, in its order: what each item that the database gives reads as.
     ///
     /// # Errors
     ///
     /// `Value` with what reading one of the items permits, and `Store` with the errors of [`TableStore::query`].
-    pub fn query(&mut self, query: &Query<'_>) -> Result<Vec<T>, TypedError> {
+    pub fn query(&mut self, query: &Query<'_>) -> Result<Vec<T>, TypedError>
+        ensures { IfOk result (λ values. All (WasRead T.reads) values.items) }
+    {
         let found = self.store.query(query)?;
         self.values_of(found.as_slice())
     }
 
-    fn values_of(&self, found: &[Item]) -> Result<Vec<T>, TypedError> {
+    fn values_of(&self, found: &[Item]) -> Result<Vec<T>, TypedError>
+        ensures { IfOk result (λ values. All (WasRead T.reads) values.items) }
+    {
         let mut values = Vec::with_capacity(self.alloc, found.len())?;
         for item in found {
             values.push(value_of(self.alloc, item)?)?;
