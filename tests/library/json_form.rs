@@ -5,10 +5,11 @@ mod items;
 mod json_text;
 mod kinds;
 mod refusals;
+mod texts;
 mod vectors;
 
-use dynamo_json::DynamoJson;
-use dynamo_value::{AttributeValue, ErrorImpl};
+use dynamo_json::{DynamoJson, TextError};
+use dynamo_value::{AttributeValue, Error, ErrorImpl};
 use serde_json::Value;
 use std::alloc::Global;
 use std::process::Abort;
@@ -26,9 +27,14 @@ fn has_text<T: DynamoJson>(
     Ok(())
 }
 
-// The value or item that a text of DynamoDB JSON stands for.
-fn read<T: DynamoJson>(alloc: Global, text: &str) -> Result<T, Fail> {
-    Ok(T::from_json(alloc, &Value::from_str(alloc, text)?)?)
+// The value or item that a text of DynamoDB JSON stands for: by its JSON value, and straight from the text.
+fn read<T: DynamoJson + PartialEq>(alloc: Global, text: &str) -> Result<T, Fail> {
+    let value = T::from_json(alloc, &Value::from_str(alloc, text)?)?;
+    if T::from_json_text(alloc, text)? == value {
+        Ok(value)
+    } else {
+        Err(Fail::from("the text and its JSON value read differently"))
+    }
 }
 
 // What is written reads back as the value. That it does is proved; a test shows that memory is found for it.
@@ -62,17 +68,31 @@ enum Wanted {
     Anything,
 }
 
-// The text is refused by such a message.
+// The text is refused by such a message, by its JSON value and straight from the text.
 fn refused<T: DynamoJson>(
     rt: &impl Abort,
     alloc: Global,
     text: &str,
     wanted: Wanted,
 ) -> Result<(), Fail> {
-    let refusal = match T::from_json(alloc, &Value::from_str(alloc, text)?) {
+    let by_json = match T::from_json(alloc, &Value::from_str(alloc, text)?) {
         Ok(_) => None,
         Err(error) => Some(error),
     };
+    let by_text = match T::from_json_text(alloc, text) {
+        Err(TextError::Fault(fault)) => Some(fault),
+        _ => None,
+    };
+    meets(rt, text, by_json, wanted)?;
+    meets(rt, text, by_text, wanted)
+}
+
+fn meets(
+    rt: &impl Abort,
+    text: &str,
+    refusal: Option<Error>,
+    wanted: Wanted,
+) -> Result<(), Fail> {
     let refusal = refusal.ok_or("not refused")?;
     let met = match (refusal.kind(), wanted) {
         (ErrorImpl::Message(message), Wanted::Is(whole)) => message.as_str() == whole,

@@ -8,6 +8,7 @@ pub mod Differ
 pub mod Each
 pub mod EveryValue
 pub mod Floats
+mod InText
 mod InTurn
 pub mod JsonBack
 pub mod Messages

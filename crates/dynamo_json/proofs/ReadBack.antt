@@ -66,7 +66,7 @@ stands_for_one_item ms ns h k e = the_same (sym (members_back ms h) ∙ ap parse
 
 -- ---- nothing else is read
 
-among : (ps : List Prefix) (text : List ℕ) (p : Prefix) → prefix_among ps text ≡ Some p → text ≡ prefix_text p
+pub among : (ps : List Prefix) (text : List ℕ) (p : Prefix) → prefix_among ps text ≡ Some p → text ≡ prefix_text p
 among [] text p h = absurd (none-some p h)
 among (q ∷ qs) text p h =
     elim (bytes_eq text (prefix_text q)) as (λ x. bytes_eq text (prefix_text q) ≡ x → cond x (Some q) (prefix_among qs text) ≡ Some p → text ≡ prefix_text p) [

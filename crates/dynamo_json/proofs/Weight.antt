@@ -1,5 +1,5 @@
 -- How much there is to write of an attribute value: what is inside weighs less.
-use Rattle.std.proofs.Common.{◌≡◌, ℕ, zero, suc, ◌+◌, ◌<◌, List, [], ◌∷◌, length, get_or, arith}
+use Rattle.std.proofs.Common.{ℕ, zero, suc, ◌+◌, ◌<◌, List, [], ◌∷◌, length, get_or, arith}
 use Rattle.dynamo_value.specs.Av as av
 use Rattle.dynamo_value.specs.Av.{Av}
 use Rattle.dynamo_value.specs.View.{view, elements_view}

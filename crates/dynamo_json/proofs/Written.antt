@@ -54,7 +54,7 @@ by_order_have_bytes Less a b c h k l = h
 by_order_have_bytes Equal a b c h k l = k
 by_order_have_bytes Greater a b c h k l = l
 
-put_has_bytes : (k : List ℕ) (a : Av) (es : List (List ℕ × Av)) → HasBytes a → MembersHaveBytes (members_of es) → MembersHaveBytes (members_of (put text_cmp k a es))
+pub put_has_bytes : (k : List ℕ) (a : Av) (es : List (List ℕ × Av)) → HasBytes a → MembersHaveBytes (members_of es) → MembersHaveBytes (members_of (put text_cmp k a es))
 put_has_bytes k a [] h all = (h, tt)
 put_has_bytes k a (e ∷ es) h all = by_order_have_bytes (text_cmp k e.0) _ _ _ (h, all) (h, all.1) (all.0, put_has_bytes k a es h all.1)
 

@@ -6,6 +6,7 @@ pub mod JsonBack
 pub mod KeyOrder
 pub mod KeysDiffer
 pub mod Laws
+pub mod OfText
 pub mod Parsed
 pub mod Plain
 pub mod PlainAnswers

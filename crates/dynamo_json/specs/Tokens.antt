@@ -1,5 +1,5 @@
 -- The tokens of a JSON text, and the entries of a map that are lent.
-use Rattle.std.specs.Prelude.{ℕ, List, [], ◌∷◌, map, String, string_bytes}
+use Rattle.std.specs.Prelude.{List, [], ◌∷◌, map, String, string_bytes}
 use Rattle.std.specs.Borrow.{Bor}
 use Rattle.std.specs.declared.alloc.Global.{Global}
 use Rattle.json.specs.Token.{Token, begin_object, end_object, key}

@@ -1,5 +1,6 @@
-ghost use Rattle.std.specs.Prelude.{◌≡◌, ◌++◌, Option, Ok, IfOk, IfErr, OnOk, MatchResult, string_bytes};
+ghost use Rattle.std.specs.Prelude.{◌≡◌, ◌++◌, Option, Some, None, Ok, IfOk, IfErr, OnOk, MatchResult, string_bytes};
 ghost use Rattle.serde_json.specs.Data.{Data};
+ghost use Rattle.serde_json.specs.Read.{read};
 ghost use Rattle.serde_json.specs.View as sj;
 ghost use Rattle.serde_json.specs.Written.{compact_text};
 ghost use Rattle.dynamo_value.specs.Fault.{out_of_memory};
@@ -10,12 +11,14 @@ ghost use Rattle.dynamo_value.specs.Refusal.{Refusal, Refused, refusal_in};
 ghost use Rattle.dynamo_value.specs.View as av;
 ghost use Rattle.dynamo_json.specs.Json.{json_of, item_json};
 ghost use Rattle.dynamo_json.specs.KeysDiffer.{KeysDiffer, ItemKeysDiffer};
+ghost use Rattle.dynamo_json.specs.OfText.{RefusedText, fault_in};
 ghost use Rattle.dynamo_json.specs.Parsed.{parsed, parsed_item};
 
-use crate::{from_json, json_text, to_json};
+use crate::from_text::Stop;
+use crate::{TextError, from_json, from_text, json_text, to_json};
 use dynamo_value::{AttributeValue, Item, Result, refusal};
 use serde_json::Value;
-use std::alloc::Global;
+use std::alloc::{AllocError, Global};
 
 /// What has a form in DynamoDB JSON, the JSON of DynamoDB's low-level API: attribute values and items.
 ///
@@ -80,6 +83,28 @@ pub trait DynamoJson: Sized + Drop {
     fn from_json(alloc: Global, json: &Value) -> Result<Self>
         ensures ok { IfOk result (λ value. sj.view json.now ≡ json_value value) }
         ensures err { IfErr result (λ e. Refused (refusal (sj.view json.now)) (fault_of e)) };
+
+    /// The value that a JSON text stands for: what `serde_json::Value::from_str` and then `from_json` give. The JSON value is made
+    /// only of a text that isn't written as DynamoDB JSON is, to say what is wrong with it.
+    ///
+    /// # Errors
+    ///
+    /// `NotJson` where the text is no JSON; a `Fault` where `from_json` refuses its JSON value, or memory is refused.
+    fn from_json_text(alloc: Global, text: &str) -> Result<Self, TextError>
+        ensures ok { IfOk result (λ value. read text.now ≡ Some (json_value value)) }
+        ensures err { IfErr result (λ e. RefusedText refusal text.now (fault_in e)) };
+}
+
+// The JSON value of a text.
+fn json_of_text(alloc: Global, text: &str) -> Result<Value, TextError>
+    ensures ok { IfOk result (λ json. read text.now ≡ Some (sj.view json)) }
+    ensures err { IfErr result (λ e. RefusedText (λ _. None) text.now (fault_in e)) }
+{
+    match Value::from_str(alloc, text) {
+        Ok(json) => Ok(json),
+        Err(error) if error.is_memory() => Err(TextError::from(AllocError)),
+        Err(error) => Err(TextError::NotJson(error)),
+    }
 }
 
 /// A JSON value stands for at most one attribute value, and is read as it.
@@ -109,6 +134,19 @@ impl DynamoJson for AttributeValue {
         ensures read { IfOk result (λ value. parsed (sj.view json.now) ≡ Ok (av.view value)) }
     {
         from_json::value(alloc, json)
+    }
+
+    /// The attribute value of a JSON text: what the definition of reading gives for its JSON value.
+    fn from_json_text(alloc: Global, text: &str) -> Result<Self, TextError>
+        ensures ok { IfOk result (λ value. read text.now ≡ Some (json_of (av.view value))) }
+        ensures err { IfErr result (λ e. RefusedText (λ json. refusal_in (parsed json)) text.now (fault_in e)) }
+        ensures read { IfOk result (λ value. parsed (json_of (av.view value)) ≡ Ok (av.view value)) }
+    {
+        match from_text::attribute_value(alloc, text) {
+            Ok(value) => Ok(value),
+            Err(Stop::OutOfMemory) => Err(TextError::from(AllocError)),
+            Err(Stop::Unlike) => Ok(Self::from_json(alloc, &json_of_text(alloc, text)?)?),
+        }
     }
 }
 
@@ -142,5 +180,18 @@ impl DynamoJson for Item {
             return Err(refusal::message(alloc, "invalid type: expected an object of attributes"));
         };
         Ok(Item::from(from_json::members(alloc, object)?))
+    }
+
+    /// The item of a JSON text: what the definition of reading gives for its JSON value.
+    fn from_json_text(alloc: Global, text: &str) -> Result<Self, TextError>
+        ensures ok { IfOk result (λ item. read text.now ≡ Some (item_json (item_view item))) }
+        ensures err { IfErr result (λ e. RefusedText (λ json. refusal_in (parsed_item json)) text.now (fault_in e)) }
+        ensures read { IfOk result (λ item. parsed_item (item_json (item_view item)) ≡ Ok (item_view item)) }
+    {
+        match from_text::attributes(alloc, text) {
+            Ok(map) => Ok(Item::from(map)),
+            Err(Stop::OutOfMemory) => Err(TextError::from(AllocError)),
+            Err(Stop::Unlike) => Ok(Self::from_json(alloc, &json_of_text(alloc, text)?)?),
+        }
     }
 }

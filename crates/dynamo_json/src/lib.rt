@@ -3,13 +3,16 @@
 
 mod dynamo;
 mod from_json;
+mod from_text;
 mod json_text;
 mod plain;
+mod text_error;
 mod to_json;
 mod via_json;
 mod without_floats;
 
 pub use dynamo::DynamoJson;
 pub use plain::to_json_value;
+pub use text_error::TextError;
 pub use via_json::to_attribute_value_via_json;
 pub use without_floats::is_without_floats;

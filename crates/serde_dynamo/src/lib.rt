@@ -11,7 +11,9 @@ pub mod samples;
 pub mod ser;
 pub mod string_set;
 
-pub use dynamo_json::{DynamoJson, is_without_floats, to_attribute_value_via_json, to_json_value};
+pub use dynamo_json::{
+    DynamoJson, TextError, is_without_floats, to_attribute_value_via_json, to_json_value,
+};
 pub use dynamo_leaf::{
     DeserializerBytes, DeserializerMapKey, DeserializerNumber, DeserializerSeqBytes,
     DeserializerSeqNumbers, DeserializerSeqStrings, StringDeserializer, is_float_text,

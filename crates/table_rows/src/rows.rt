@@ -1,11 +1,11 @@
 use crate::StoreError;
-use dynamo_json::DynamoJson;
+use dynamo_json::{DynamoJson, TextError};
 use dynamo_value::{ErrorImpl, Item};
 use key_bytes::KeyBytes;
-use serde_json::Value;
 use sqlite::types::ValueRef;
 use sqlite::{Alter, Connection, Row, params};
 use std::alloc::Global;
+use std::str;
 
 const GET: &str =
     "SELECT item FROM dynamo_item WHERE table_id = ?1 AND partition_key = ?2 AND sort_key = ?3";
@@ -20,17 +20,12 @@ const COUNT: &str = "SELECT count(*) FROM dynamo_item WHERE table_id = ?1";
 
 // The item of a text of DynamoDB JSON.
 fn item_of(alloc: Global, text: &[u8]) -> Result<Item, StoreError> {
-    match Value::from_slice(alloc, text) {
-        Ok(json) => item_of_json(alloc, &json),
-        Err(error) if error.is_memory() => Err(StoreError::OutOfMemory),
-        Err(_) => Err(StoreError::Unreadable),
-    }
-}
-
-fn item_of_json(alloc: Global, json: &Value) -> Result<Item, StoreError> {
-    match Item::from_json(alloc, json) {
+    let Ok(text) = str::from_utf8(text) else {
+        return Err(StoreError::Unreadable);
+    };
+    match Item::from_json_text(alloc, text) {
         Ok(item) => Ok(item),
-        Err(error) if matches!(error.kind(), ErrorImpl::OutOfMemory) => {
+        Err(TextError::Fault(fault)) if matches!(fault.kind(), ErrorImpl::OutOfMemory) => {
             Err(StoreError::OutOfMemory)
         }
         Err(_) => Err(StoreError::Unreadable),

@@ -4,4 +4,5 @@ mod Floats
 mod Known
 mod Leads
 mod Rows
+mod StoredValues
 mod UserItem

@@ -22,6 +22,13 @@ ToDynamo (Ok json) (Err (faulty fault)) = (fault ≡ out_of_memory) ⊎ (written
 ToDynamo (Ok json) (Err not_json) = ⊥
 ToDynamo (Ok json) (Err read_failed) = ⊥
 
+-- The line of the JSON value that an attribute value is read as, or a fault that reading it as a JSON value meets.
+abbrev pub ReadsPlain : Av → Result (List ℕ) Failed → Type 0
+ReadsPlain a (Ok text) = (plain : Data) × (read_value a ≡ value plain) × (text ≡ json_line plain)
+ReadsPlain a (Err (faulty fault)) = (fault ≡ out_of_memory) ⊎ After {V = Data} (read_value a) (λ _ _. ⊥) (Err fault)
+ReadsPlain a (Err not_json) = ⊥
+ReadsPlain a (Err read_failed) = ⊥
+
 -- `plain`: the JSON value that the attribute value is read as; or a fault that the refusal of DynamoDB JSON names, or that reading
 -- the attribute value as a JSON value meets.
 abbrev pub ToPlain : Result Data Failed → Result (List ℕ) Failed → Type 0

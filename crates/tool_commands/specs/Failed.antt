@@ -1,5 +1,5 @@
 -- Why a command has nothing to print, and the text that says so.
-use Rattle.std.specs.Prelude.{ℕ, List, Option, Some, codes}
+use Rattle.std.specs.Prelude.{ℕ, List, Option, Some, None, codes}
 use Rattle.dynamo_value.specs.Fault.{Fault, out_of_memory, printed}
 use Rattle.dynamo_value.specs.Kind.{fault_of}
 use Rattle.tool_commands.specs.declared.failure.Failure.{Failure}
@@ -17,6 +17,11 @@ abbrev pub reason : Failure → Failed
 reason Failure.Read = read_failed
 reason Failure.NotJson = not_json
 reason (Failure.Fault error) = faulty (fault_of error)
+
+-- what a text is refused by: it is no JSON, or there is this fault in it
+abbrev pub failed_by : Option Fault → Failed
+failed_by None = not_json
+failed_by (Some fault) = faulty fault
 
 -- the text, but where a fault's own text isn't promised
 abbrev pub reason_text : Failed → Option (List ℕ)

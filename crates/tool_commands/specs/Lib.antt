@@ -8,4 +8,5 @@ pub mod Lines
 pub mod Printed
 pub mod Reading
 pub mod Runs
+pub mod StoredValue
 pub mod Words

@@ -1,7 +1,7 @@
 ghost use Rattle.std.specs.Prelude.{◌≡◌};
 ghost use Rattle.tool_commands.specs.Failed.{no_memory, reason, reason_text};
 
-use serde_dynamo::{Error, ErrorImpl};
+use serde_dynamo::{Error, ErrorImpl, TextError};
 use std::alloc::{AllocError, AllocFailed};
 use std::fmt;
 
@@ -34,6 +34,21 @@ impl From<AllocError> for Failure {
 
     fn from(_: AllocError) -> Failure {
         Failure::Fault(Error::from(ErrorImpl::OutOfMemory))
+    }
+}
+
+/// What is no JSON, or JSON of a fault.
+impl From<TextError> for Failure {
+    ghost use Rattle.dynamo_json.specs.OfText.{fault_in};
+    ghost use Rattle.tool_commands.specs.Failed.{failed_by};
+
+    ghost from_gives = { λ error failure. reason failure ≡ failed_by (fault_in error) };
+
+    fn from(error: TextError) -> Failure {
+        match error {
+            TextError::NotJson(_) => Failure::NotJson,
+            TextError::Fault(fault) => Failure::Fault(fault),
+        }
     }
 }
 

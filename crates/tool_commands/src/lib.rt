@@ -10,6 +10,7 @@ mod json;
 mod output;
 mod read_to_end;
 pub mod run;
+mod stored;
 mod user;
 
 pub use input::Input;

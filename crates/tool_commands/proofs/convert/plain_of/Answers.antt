@@ -9,8 +9,8 @@ use Rattle.tool_commands.proofs.convert.plain_of.Goals as goal
 
 pub returns : goal.returns
 returns c =
-    let a = av.view c.in_ok-value.value in
+    let a = av.view c.args.value in
     let plain = view c.in_ok-plain.plain in
     let read : read_value a ≡ value plain = given (read_value a) c.in_ok-plain.plain c.in_ok-plain.ensures in
     let printed : string_bytes c.in_ok-line.line ≡ json_line plain = c.in_ok-line.ensures (reads_no_float a plain read) in
-    (a, plain, c.in_ok-value.ensures.read, read, printed)
+    (plain, read, printed)

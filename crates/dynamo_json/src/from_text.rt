@@ -1,0 +1,256 @@
+//! Reading attribute values from the text of DynamoDB JSON, a token at a time: no JSON value is made of it.
+//!
+//! Only what reads as an attribute value is followed. At anything else this stops, and the JSON value of the text decides, which
+//! says what is wrong with it.
+
+ghost use Rattle.std.specs.List.{AllByRecursion};
+ghost use Rattle.std.specs.Prelude.{◌≡◌, ◌<◌, ℕ, [], ◌∷◌, length, map, Some, IfOk, OnOk, string_bytes};
+ghost use Rattle.base64.specs.GeneralPurpose.{IsBytes};
+ghost use Rattle.json.specs.Token as token;
+ghost use Rattle.serde_json.specs.Read.{read};
+ghost use Rattle.dynamo_value.specs.Base64.{base64_text};
+ghost use Rattle.dynamo_value.specs.HasBytes.{HasBytes, ElementsHaveBytes, MembersHaveBytes};
+ghost use Rattle.dynamo_value.specs.PrefixView.{prefix_view};
+ghost use Rattle.dynamo_value.specs.View.{view, elements_view, members_view};
+ghost use Rattle.dynamo_json.specs.Json.{json_of, item_json, elements_json, members_json};
+ghost use Rattle.dynamo_json.specs.OfText.{Stands, ContentStands, ItemsStand, MembersStand, texts_json};
+
+use dynamo_value::{AttributeValue, Error, ErrorImpl, Prefix, base64_text};
+use json::{Invalid, Reader, Scratch, Token};
+use std::alloc::{AllocError, AllocFailed, Global};
+use std::collections::HashMap;
+
+// How deep the arrays and objects of a JSON text nest at most, as `Value::from_str` reads them.
+const MAX_DEPTH: usize = 127;
+
+/// Why the tokens weren't followed to their end.
+#[derive(Clone, Copy, Debug, Drop)]
+pub(crate) enum Stop {
+    /// They aren't those of an attribute value.
+    Unlike,
+
+    /// Memory is refused.
+    OutOfMemory,
+}
+
+impl From<Invalid> for Stop {
+    fn from(_: Invalid) -> Stop {
+        Stop::Unlike
+    }
+}
+
+impl From<AllocError> for Stop {
+    fn from(_: AllocError) -> Stop {
+        Stop::OutOfMemory
+    }
+}
+
+impl<T: Drop> From<AllocFailed<T>> for Stop {
+    fn from(_: AllocFailed<T>) -> Stop {
+        Stop::OutOfMemory
+    }
+}
+
+impl From<Error> for Stop {
+    fn from(error: Error) -> Stop {
+        match error.kind() {
+            ErrorImpl::OutOfMemory => Stop::OutOfMemory,
+            _ => Stop::Unlike,
+        }
+    }
+}
+
+/// The attribute value of a text.
+pub(crate) fn attribute_value(alloc: Global, text: &str) -> Result<AttributeValue, Stop>
+    ensures value { IfOk result (λ a. read text.now ≡ Some (json_of (view a))) }
+    ensures bytes { IfOk result (λ a. HasBytes (view a)) }
+{
+    let mut scratch = Scratch::new(alloc);
+    let mut reader = Reader::new(text, &mut scratch)?;
+    let value = value(alloc, &mut reader, MAX_DEPTH)?;
+    at_end(&mut reader)?;
+    Ok(value)
+}
+
+/// The attributes of a text, which is an object of them.
+pub(crate) fn attributes(alloc: Global, text: &str) -> Result<HashMap<String, AttributeValue>, Stop>
+    ensures members { IfOk result (λ m. read text.now ≡ Some (item_json (members_view m.entries))) }
+    ensures bytes { IfOk result (λ m. MembersHaveBytes (members_view m.entries)) }
+{
+    let mut scratch = Scratch::new(alloc);
+    let mut reader = Reader::new(text, &mut scratch)?;
+    begin_object(&mut reader)?;
+    let map = members(alloc, &mut reader, MAX_DEPTH - 1)?;
+    at_end(&mut reader)?;
+    Ok(map)
+}
+
+// The attribute value that stands next: an object of one member.
+#[cycle(follow)]
+fn value(alloc: Global, reader: &mut Reader<'_>, depth: usize) -> Result<AttributeValue, Stop>
+    ensures value { IfOk result (λ a. Stands depth reader.old (json_of (view a)) reader.new) }
+    ensures bytes { IfOk result (λ a. HasBytes (view a)) }
+    ensures shorter { OnOk result (length reader.new < length reader.old) }
+{
+    if depth == 0 {
+        return Err(Stop::Unlike);
+    }
+    begin_object(reader)?;
+    let Some(key) = reader.next_key()? else {
+        return Err(Stop::Unlike);
+    };
+    let Some(prefix) = Prefix::named(key) else {
+        return Err(Stop::Unlike);
+    };
+    let value = content(alloc, reader, prefix, depth - 1)?;
+    end_object(reader)?;
+    Ok(value)
+}
+
+// The attribute value of the content that stands next, under a prefix.
+#[cycle(follow)]
+fn content(
+    alloc: Global,
+    reader: &mut Reader<'_>,
+    prefix: Prefix,
+    depth: usize,
+) -> Result<AttributeValue, Stop>
+    ensures value { IfOk result (λ a. ContentStands depth reader.old (prefix_view prefix) (view a) reader.new) }
+    ensures bytes { IfOk result (λ a. HasBytes (view a)) }
+    ensures shorter { OnOk result (length reader.new < length reader.old) }
+{
+    match (prefix, reader.next().ok_or(Stop::Unlike)?) {
+        (Prefix::N, Token::String(text)) => {
+            Ok(AttributeValue::N(String::from_str(alloc, text)?))
+        }
+        (Prefix::S, Token::String(text)) => {
+            Ok(AttributeValue::S(String::from_str(alloc, text)?))
+        }
+        (Prefix::Bool, Token::Bool(flag)) => Ok(AttributeValue::Bool(flag)),
+        (Prefix::B, Token::String(text)) => {
+            Ok(AttributeValue::B(base64_text::decode(alloc, text)?))
+        }
+        (Prefix::Null, Token::Bool(flag)) => Ok(AttributeValue::Null(flag)),
+        (Prefix::M, Token::BeginObject) if depth > 0 => {
+            Ok(AttributeValue::M(members(alloc, reader, depth - 1)?))
+        }
+        (Prefix::L, Token::BeginArray) if depth > 0 => {
+            Ok(AttributeValue::L(elements(alloc, reader, depth - 1)?))
+        }
+        (Prefix::Ss, Token::BeginArray) if depth > 0 => {
+            Ok(AttributeValue::Ss(strings(alloc, reader)?))
+        }
+        (Prefix::Ns, Token::BeginArray) if depth > 0 => {
+            Ok(AttributeValue::Ns(strings(alloc, reader)?))
+        }
+        (Prefix::Bs, Token::BeginArray) if depth > 0 => {
+            Ok(AttributeValue::Bs(blobs(alloc, reader)?))
+        }
+        _ => Err(Stop::Unlike),
+    }
+}
+
+// The map of the members that stand next, to the end of their object. The last value of a key stays.
+#[cycle(follow)]
+fn members(
+    alloc: Global,
+    reader: &mut Reader<'_>,
+    depth: usize,
+) -> Result<HashMap<String, AttributeValue>, Stop>
+    ensures members { IfOk result (λ m. MembersStand depth reader.old (members_json (members_view m.entries)) reader.new) }
+    ensures bytes { IfOk result (λ m. MembersHaveBytes (members_view m.entries)) }
+    ensures shorter { OnOk result (length reader.new < length reader.old) }
+{
+    let mut map = HashMap::new(alloc);
+    'members: while let Some(key) = reader.next_key()? {
+        let name = String::from_str(alloc, key)?;
+        let value = value(alloc, reader, depth)?;
+        drop(map.insert(name, value)?);
+    }
+    Ok(map)
+}
+
+// The values that stand next, to the end of their array.
+#[cycle(follow)]
+fn elements(
+    alloc: Global,
+    reader: &mut Reader<'_>,
+    depth: usize,
+) -> Result<Vec<AttributeValue>, Stop>
+    ensures elements { IfOk result (λ v. ItemsStand depth reader.old (elements_json (elements_view v.items)) reader.new) }
+    ensures bytes { IfOk result (λ v. ElementsHaveBytes (elements_view v.items)) }
+    ensures shorter { OnOk result (length reader.new < length reader.old) }
+{
+    let mut elements = Vec::new(alloc);
+    'elements: while !reader.take_end_array() {
+        let value = value(alloc, reader, depth)?;
+        elements.push(value)?;
+    }
+    Ok(elements)
+}
+
+// The strings that stand next, to the end of their array.
+fn strings(alloc: Global, reader: &mut Reader<'_>) -> Result<Vec<String>, Stop>
+    ensures strings { IfOk result (λ v. (depth : ℕ) → ItemsStand depth reader.old (texts_json (map string_bytes v.items)) reader.new) }
+    ensures shorter { OnOk result (length reader.new < length reader.old) }
+{
+    let mut strings = Vec::new(alloc);
+    'strings: while !reader.take_end_array() {
+        let text = string(reader)?;
+        strings.push(String::from_str(alloc, text)?)?;
+    }
+    Ok(strings)
+}
+
+// The byte strings whose base64 texts stand next, to the end of their array.
+fn blobs(alloc: Global, reader: &mut Reader<'_>) -> Result<Vec<Vec<u8>>, Stop>
+    ensures blobs { IfOk result (λ v. (depth : ℕ) → ItemsStand depth reader.old (texts_json (map base64_text (map (λ b. b.items) v.items))) reader.new) }
+    ensures bytes { IfOk result (λ v. AllByRecursion IsBytes (map (λ b. b.items) v.items)) }
+    ensures shorter { OnOk result (length reader.new < length reader.old) }
+{
+    let mut blobs = Vec::new(alloc);
+    'blobs: while !reader.take_end_array() {
+        let text = string(reader)?;
+        blobs.push(base64_text::decode(alloc, text)?)?;
+    }
+    Ok(blobs)
+}
+
+// ---- a token
+
+fn string<'a>(reader: &mut Reader<'a>) -> Result<&'a str, Stop>
+    ensures { IfOk result (λ text. reader.old ≡ token.string text.now ∷ reader.new) }
+{
+    match reader.next() {
+        Some(Token::String(text)) => Ok(text),
+        _ => Err(Stop::Unlike),
+    }
+}
+
+fn begin_object(reader: &mut Reader<'_>) -> Result<(), Stop>
+    ensures { OnOk result (reader.old ≡ token.begin_object ∷ reader.new) }
+{
+    match reader.next() {
+        Some(Token::BeginObject) => Ok(()),
+        _ => Err(Stop::Unlike),
+    }
+}
+
+fn end_object(reader: &mut Reader<'_>) -> Result<(), Stop>
+    ensures { OnOk result (reader.old ≡ token.end_object ∷ reader.new) }
+{
+    match reader.next() {
+        Some(Token::EndObject) => Ok(()),
+        _ => Err(Stop::Unlike),
+    }
+}
+
+// That no token follows.
+fn at_end(reader: &mut Reader<'_>) -> Result<(), Stop>
+    ensures { OnOk result (reader.old ≡ []) }
+{
+    match reader.next() {
+        None => Ok(()),
+        Some(_) => Err(Stop::Unlike),
+    }
+}

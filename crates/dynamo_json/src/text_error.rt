@@ -1,0 +1,50 @@
+//! Why a text of DynamoDB JSON isn't read.
+
+ghost use Rattle.std.specs.Prelude.{◌≡◌};
+ghost use Rattle.dynamo_value.specs.Fault.{out_of_memory};
+ghost use Rattle.dynamo_json.specs.OfText.{fault_in};
+
+use dynamo_value::{Error, ErrorImpl};
+use std::alloc::AllocError;
+use std::fmt;
+
+/// Why a text of DynamoDB JSON is read as no value.
+#[derive(Debug, Drop)]
+pub enum TextError {
+    /// The text is no JSON, for this reason at this line and column. JSON that nests deeper than 127 levels is refused as well,
+    /// as a number outside of every float is.
+    NotJson(serde_json::Error),
+
+    /// The text is JSON of no such value, or memory is refused.
+    Fault(Error),
+}
+
+impl From<Error> for TextError {
+    ghost use Rattle.dynamo_json.specs.declared.text_error.TextError.{TextError};
+
+    ghost from_gives = { λ fault error. error ≡ TextError.Fault fault };
+
+    fn from(fault: Error) -> TextError {
+        TextError::Fault(fault)
+    }
+}
+
+/// Want of memory is a fault.
+impl From<AllocError> for TextError {
+    ghost use Rattle.std.specs.Prelude.{Some};
+
+    ghost from_gives = { λ _ error. fault_in error ≡ Some out_of_memory };
+
+    fn from(_: AllocError) -> TextError {
+        TextError::Fault(Error::from(ErrorImpl::OutOfMemory))
+    }
+}
+
+impl fmt::Display for TextError {
+    fn fmt<W: fmt::Write>(&self, f: &mut fmt::Formatter<W>) -> fmt::Result {
+        match self {
+            TextError::NotJson(error) => fmt::Display::fmt(error, f),
+            TextError::Fault(fault) => fmt::Display::fmt(fault, f),
+        }
+    }
+}
