@@ -2,7 +2,6 @@ pub mod Agree
 mod Appended
 pub mod AttributeBack
 mod AttributeRows
-pub mod Builders
 pub mod Bytes
 pub mod Differ
 pub mod Each

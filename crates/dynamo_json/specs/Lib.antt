@@ -1,6 +1,5 @@
 pub mod AttributeBack
 pub mod AttributeTells
-pub mod Entries
 pub mod Json
 pub mod JsonBack
 pub mod KeyOrder
@@ -11,6 +10,7 @@ pub mod Parsed
 pub mod Plain
 pub mod PlainAnswers
 pub mod PlainMemory
+pub mod PlainValues
 pub mod Square
 pub mod Texts
 pub mod Tokens

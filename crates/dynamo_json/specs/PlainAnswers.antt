@@ -1,12 +1,9 @@
--- What the serializer of plain JSON and its builders answer.
-use Rattle.std.specs.Prelude.{◌≡◌, ◌⊎◌, ℕ, List, ◌++◌, Result, Ok, Err, MatchResult}
+-- What the serializer of plain JSON answers.
+use Rattle.std.specs.Prelude.{◌≡◌, ◌⊎◌, ℕ, List, Result, Err, MatchResult}
 use Rattle.std.proofs.Common.{inl, sym, ap}
-use Rattle.serde_json.specs.Data as json
-use Rattle.serde_json.specs.Data.{Data}
 use Rattle.serde_json.specs.View.{view}
 use Rattle.serde_json.specs.declared.value.Value.{Value}
-use Rattle.dynamo_value.specs.Fault.{Fault, message}
-use Rattle.dynamo_value.specs.Steps.{◌>>=◌}
+use Rattle.dynamo_value.specs.Fault.{message}
 use Rattle.dynamo_value.specs.Kind.{fault_of}
 use Rattle.dynamo_value.specs.View as av
 use Rattle.dynamo_value.specs.declared.attribute_value.AttributeValue.{AttributeValue}
@@ -14,20 +11,15 @@ use Rattle.dynamo_value.specs.declared.error.Error.{Error}
 use Rattle.dynamo_ser.specs.Datum as datum
 use Rattle.dynamo_ser.specs.Datum.{Datum}
 use Rattle.dynamo_ser.specs.JsonValue.{json_datum}
-use Rattle.dynamo_de.specs.JsonItems.{items_before}
 use Rattle.dynamo_write.specs.Answers.{Answers}
 use Rattle.dynamo_write.specs.Memory.{MayTakeMemory}
-use Rattle.dynamo_json.specs.Plain.{plain, plain_elements, plain_pairs, plain_fields, object_of_entries}
+use Rattle.dynamo_json.specs.Plain.{plain}
 use Rattle.dynamo_json.specs.PlainMemory.{TakesMemory}
 use Rattle.dynamo_json.specs.ViaJson.{via_json}
 
 -- the plain JSON value of the datum, or its fault
 abbrev pub AnswersPlain : Datum → Result Value Error → Type 0
 AnswersPlain d r = Answers view (TakesMemory d) (plain d) r
-
--- inside an array or an object, where want of memory may always be answered
-abbrev pub AnswersPart : Result Data Fault → Result Value Error → Type 0
-AnswersPart x r = Answers view (Unit {0}) x r
 
 -- an implementation's own refusal is handed on
 pub refused : (text : List ℕ) (e : Error) → fault_of e ≡ message text → AnswersPlain (datum.refuse text) (Err e)
@@ -37,17 +29,3 @@ refused text e is = inl (ap Err (sym is))
 -- one of the two steps takes it.
 abbrev pub AnswersViaJson : Type 0 → Datum → Result AttributeValue Error → Type 0
 AnswersViaJson wants d r = Answers av.view (wants ⊎ TakesMemory d ⊎ MatchResult (plain d) (λ j. MayTakeMemory (json_datum j)) (λ _. ⊥)) (via_json d) r
-
--- ---- builders
-
--- what is answered where these values stand and the elements follow
-abbrev pub GivesArray : List Value → (json.Items → Data) → datum.Elements → Result Value Error → Type 0
-GivesArray values whole ds r = AnswersPart (plain_elements ds >>= λ rest. Ok (whole (items_before values rest))) r
-
--- what is answered where these entries stand and the pairs follow
-abbrev pub GivesObject : List (List ℕ × Data) → datum.Pairs → Result Value Error → Type 0
-GivesObject entries ps r = AnswersPart (plain_pairs ps >>= λ rest. Ok (object_of_entries (entries ++ rest))) r
-
--- what is answered where these entries stand and the fields follow
-abbrev pub GivesFields : List (List ℕ × Data) → (Data → Data) → datum.Fields → Result Value Error → Type 0
-GivesFields entries whole fs r = AnswersPart (plain_fields fs >>= λ rest. Ok (whole (object_of_entries (entries ++ rest)))) r

@@ -2,14 +2,9 @@ ghost use Rattle.dynamo_value.specs.Kind.{fault_of};
 ghost use Rattle.dynamo_ser.specs.Writes.{Writes};
 ghost use Rattle.dynamo_json.specs.PlainAnswers.{AnswersPlain};
 
+mod builders;
 mod numbers;
-mod objects;
 mod serializer;
-mod serializer_map;
-mod serializer_seq;
-mod serializer_struct;
-mod serializer_struct_variant;
-mod serializer_tuple_variant;
 
 use dynamo_ser::Serialize;
 use dynamo_value::Result;

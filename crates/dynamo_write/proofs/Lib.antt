@@ -1,5 +1,7 @@
-pub mod Builders
 pub mod Collected
+mod Items
+mod Listed
+pub mod Orders
+mod Pushed
 mod Rows
 pub mod Sets
-pub mod Orders

@@ -1,10 +1,8 @@
 -- What the serializer and its builders answer.
-use Rattle.std.specs.Prelude.{◌≡◌, ℕ, List, [], ◌∷◌, ◌++◌, Result, Ok, Err, MatchResult, ◌⊎◌}
+use Rattle.std.specs.Prelude.{◌≡◌, ℕ, List, Result, Ok, Err, MatchResult, ◌⊎◌}
 use Rattle.std.proofs.Common.{inl, sym, ap}
-use Rattle.dynamo_value.specs.Av as av
 use Rattle.dynamo_value.specs.Av.{Av}
 use Rattle.dynamo_value.specs.Fault.{Fault, message, out_of_memory}
-use Rattle.dynamo_value.specs.Steps.{◌>>=◌}
 use Rattle.dynamo_value.specs.Item.{map_of}
 use Rattle.dynamo_value.specs.Kind.{fault_of}
 use Rattle.dynamo_value.specs.View.{view, members_view}
@@ -14,7 +12,7 @@ use Rattle.dynamo_value.specs.declared.item.Item.{Item}
 use Rattle.dynamo_ser.specs.Datum as datum
 use Rattle.dynamo_ser.specs.Datum.{Datum}
 use Rattle.dynamo_write.specs.Memory.{MayTakeMemory}
-use Rattle.dynamo_write.specs.Written.{written, written_elements, written_pairs, written_fields, map_of_entries, item_written}
+use Rattle.dynamo_write.specs.Written.{written, item_written}
 
 -- r is this value or this fault; where `wants`, it may also be a refusal for want of memory
 abbrev pub Answers : {A V : Type 0} → (V → A) → Type 0 → Result A Fault → Result V Error → Type 0
@@ -35,22 +33,3 @@ AnswersWithin x r = Answers view (Unit {0}) x r
 -- an implementation's own refusal is handed on
 pub refused : (text : List ℕ) (e : Error) → fault_of e ≡ message text → AnswersDatum (datum.refuse text) (Err e)
 refused text e is = inl (ap Err (sym is))
-
--- ---- builders
-
--- the values that were written so far, before those that follow
-abbrev pub elements_before : List AttributeValue → av.Elements → av.Elements
-elements_before [] rest = rest
-elements_before (v ∷ vs) rest = av.element (view v) (elements_before vs rest)
-
--- what is answered where these values stand and the elements follow
-abbrev pub GivesList : List AttributeValue → (av.Elements → Av) → datum.Elements → Result AttributeValue Error → Type 0
-GivesList values whole ds r = AnswersWithin (written_elements ds >>= λ rest. Ok (whole (elements_before values rest))) r
-
--- what is answered where these entries stand and the pairs follow
-abbrev pub GivesMap : List (List ℕ × Av) → datum.Pairs → Result AttributeValue Error → Type 0
-GivesMap entries ps r = AnswersWithin (written_pairs ps >>= λ rest. Ok (map_of_entries (entries ++ rest))) r
-
--- what is answered where these entries stand and the fields follow
-abbrev pub GivesStruct : List (List ℕ × Av) → (Av → Av) → datum.Fields → Result AttributeValue Error → Type 0
-GivesStruct entries whole fs r = AnswersWithin (written_fields fs >>= λ rest. Ok (whole (map_of_entries (entries ++ rest)))) r

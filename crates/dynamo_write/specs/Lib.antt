@@ -8,9 +8,11 @@ pub use Rattle.dynamo_ser.specs.Key
 pub use Rattle.dynamo_ser.specs.Symbols
 pub use Rattle.dynamo_ser.specs.Writes
 pub mod Answers
+pub mod AttributeValues
 pub mod Collect
 pub mod Held
 pub mod Memory
 pub mod Set
 pub mod SetKind
+pub mod Target
 pub mod Written

@@ -1,29 +1,36 @@
 //! The writer: a [`Serializer`] whose answers are attribute values.
+//!
+//! Its builders are those of any [`Target`], so a serializer of other values takes them too.
 #![tactic(auto)]
 
 ghost use Rattle.dynamo_value.specs.Kind.{fault_of};
 ghost use Rattle.dynamo_ser.specs.Writes.{Writes};
 ghost use Rattle.dynamo_write.specs.Answers.{AnswersDatum, AnswersItem};
 
-mod hashed;
+mod builders;
+mod list_of;
+mod map_of;
 mod serializer;
-mod serializer_map;
-mod serializer_seq;
-mod serializer_struct;
-mod serializer_struct_variant;
-mod serializer_tuple_variant;
 mod set;
+mod struct_of;
+mod struct_variant_of;
+mod target;
+mod tuple_variant_of;
 
+pub use builders::{
+    SerializerMap, SerializerSeq, SerializerStruct, SerializerStructVariant, SerializerTupleVariant,
+};
 use dynamo_ser::Serialize;
 use dynamo_value::{AttributeValue, Error, ErrorImpl, Item, Result};
+pub use list_of::ListOf;
+pub use map_of::MapOf;
 pub use serializer::Serializer;
-pub use serializer_map::SerializerMap;
-pub use serializer_seq::SerializerSeq;
-pub use serializer_struct::SerializerStruct;
-pub use serializer_struct_variant::SerializerStructVariant;
-pub use serializer_tuple_variant::SerializerTupleVariant;
 pub use set::SetKind;
 use std::alloc::Global;
+pub use struct_of::StructOf;
+pub use struct_variant_of::StructVariantOf;
+pub use target::Target;
+pub use tuple_variant_of::TupleVariantOf;
 
 /// Writes a value as an attribute value.
 ///

@@ -8,7 +8,7 @@ ghost use Rattle.dynamo_write.specs.Held.{allocator_of};
 
 use crate::{
     SerializerMap, SerializerSeq, SerializerStruct, SerializerStructVariant,
-    SerializerTupleVariant, hashed, set,
+    SerializerTupleVariant, Target, set,
 };
 use dynamo_ser::{Outcomes, Wrapper};
 use dynamo_value::{AttributeValue, Error, Result};
@@ -76,7 +76,7 @@ impl dynamo_ser::Serializer for Serializer {
             Wrapper::Option => Ok(written),
             Wrapper::NewtypeStruct(name) => set::named(self.alloc, name, written),
             Wrapper::NewtypeVariant(_, _, variant) => {
-                hashed::single(self.alloc, variant, written)
+                Serializer::one_member(self.alloc, variant, written)
             }
         }
     }

@@ -36,10 +36,12 @@ pub use Rattle.dynamo_de.specs.Source
 pub use Rattle.dynamo_de.specs.Takes
 pub use Rattle.dynamo_de.specs.Visitors
 pub use Rattle.dynamo_write.specs.Answers
+pub use Rattle.dynamo_write.specs.AttributeValues
 pub use Rattle.dynamo_write.specs.Collect
 pub use Rattle.dynamo_write.specs.Held
 pub use Rattle.dynamo_write.specs.Memory
 pub use Rattle.dynamo_write.specs.Set
+pub use Rattle.dynamo_write.specs.Target
 pub use Rattle.dynamo_write.specs.Written
 pub use Rattle.dynamo_json.specs.AttributeBack
 pub use Rattle.dynamo_json.specs.AttributeTells

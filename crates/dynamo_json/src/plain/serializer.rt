@@ -6,14 +6,13 @@ ghost use Rattle.dynamo_value.specs.Kind.{fault_of};
 ghost use Rattle.dynamo_json.specs.Plain.{byte_number};
 ghost use Rattle.dynamo_json.specs.PlainAnswers.{AnswersPlain, refused};
 
-use super::serializer_map::SerializerMap;
-use super::serializer_seq::SerializerSeq;
-use super::serializer_struct::SerializerStruct;
-use super::serializer_struct_variant::SerializerStructVariant;
-use super::serializer_tuple_variant::SerializerTupleVariant;
-use super::{numbers, objects};
+use super::builders::{
+    SerializerMap, SerializerSeq, SerializerStruct, SerializerStructVariant, SerializerTupleVariant,
+};
+use super::numbers;
 use dynamo_ser::{Outcomes, Wrapper};
 use dynamo_value::{Error, Result};
+use dynamo_write::Target;
 use serde_json::Value;
 use std::alloc::Global;
 
@@ -88,7 +87,7 @@ impl dynamo_ser::Serializer for Serializer {
             Wrapper::Option => Ok(written),
             Wrapper::NewtypeStruct(_) => Ok(written),
             Wrapper::NewtypeVariant(_, _, variant) => {
-                objects::single(self.alloc, variant, written)
+                Serializer::one_member(self.alloc, variant, written)
             }
         }
     }
@@ -170,16 +169,16 @@ impl dynamo_ser::Serializer for Serializer {
         self.string(variant)
     }
 
-    fn serialize_seq(self, _len: Option<usize>) -> Result<SerializerSeq> {
-        Ok(SerializerSeq::new(self.alloc))
+    fn serialize_seq(self, len: Option<usize>) -> Result<SerializerSeq> {
+        Ok(SerializerSeq::new(self.alloc, len))
     }
 
-    fn serialize_tuple(self, _len: usize) -> Result<SerializerSeq> {
-        Ok(SerializerSeq::new(self.alloc))
+    fn serialize_tuple(self, len: usize) -> Result<SerializerSeq> {
+        Ok(SerializerSeq::new(self.alloc, Some(len)))
     }
 
-    fn serialize_tuple_struct(self, _name: &'static str, _len: usize) -> Result<SerializerSeq> {
-        Ok(SerializerSeq::new(self.alloc))
+    fn serialize_tuple_struct(self, _name: &'static str, len: usize) -> Result<SerializerSeq> {
+        Ok(SerializerSeq::new(self.alloc, Some(len)))
     }
 
     fn serialize_tuple_variant(
@@ -187,17 +186,17 @@ impl dynamo_ser::Serializer for Serializer {
         _name: &'static str,
         _index: u32,
         variant: &'static str,
-        _len: usize,
+        len: usize,
     ) -> Result<SerializerTupleVariant<'static>> {
-        Ok(SerializerTupleVariant::new(self.alloc, variant))
+        Ok(SerializerTupleVariant::new(self.alloc, variant, len))
     }
 
-    fn serialize_map(self, _len: Option<usize>) -> Result<SerializerMap> {
-        Ok(SerializerMap::new(self.alloc))
+    fn serialize_map(self, len: Option<usize>) -> Result<SerializerMap> {
+        Ok(SerializerMap::new(self.alloc, len))
     }
 
-    fn serialize_struct(self, _name: &'static str, _len: usize) -> Result<SerializerStruct> {
-        Ok(SerializerStruct::new(self.alloc))
+    fn serialize_struct(self, _name: &'static str, len: usize) -> Result<SerializerStruct> {
+        Ok(SerializerStruct::new(self.alloc, len))
     }
 
     fn serialize_struct_variant(
@@ -205,8 +204,8 @@ impl dynamo_ser::Serializer for Serializer {
         _name: &'static str,
         _index: u32,
         variant: &'static str,
-        _len: usize,
+        len: usize,
     ) -> Result<SerializerStructVariant<'static>> {
-        Ok(SerializerStructVariant::new(self.alloc, variant))
+        Ok(SerializerStructVariant::new(self.alloc, variant, len))
     }
 }

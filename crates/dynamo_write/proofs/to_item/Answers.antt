@@ -1,6 +1,6 @@
 use Rattle.std.proofs.Common.{Ok, ap, sym, ◌∙◌, inl, inr}
 use Rattle.dynamo_value.specs.View.{members_view}
-use Rattle.dynamo_write.proofs.Builders.{item_of_map}
+use Rattle.dynamo_write.proofs.Items.{item_of_map}
 use Rattle.dynamo_write.proofs.to_item.Goals as goal
 
 pub returns-in-M : goal.returns-in-M

@@ -1,5 +1,0 @@
-use Rattle.dynamo_json.proofs.Objects.{object_view}
-use Rattle.dynamo_json.proofs.plain.objects.object.Goals as goal
-
-pub returns : goal.returns
-returns c = object_view c.args.members

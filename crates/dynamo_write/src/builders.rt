@@ -1,0 +1,68 @@
+ghost use Rattle.std.specs.Prelude.{◌≡◌};
+ghost use Rattle.dynamo_value.specs.Av as av;
+ghost use Rattle.dynamo_value.specs.View.{view, entries_view};
+ghost use Rattle.dynamo_write.specs.AttributeValues.{attribute_values, answers, refuses};
+ghost use Rattle.dynamo_write.specs.Target.{parts_before};
+
+use crate::{ListOf, MapOf, Serializer, StructOf, StructVariantOf, Target, TupleVariantOf};
+use dynamo_value::{AttributeValue, Error, Result};
+use std::alloc::Global;
+use std::collections::HashMap;
+
+/// The builder of an `L`, for sequences, tuples and tuple structs.
+pub type SerializerSeq = ListOf<Serializer>;
+
+/// The builder of an `M`.
+pub type SerializerMap = MapOf<Serializer>;
+
+/// The builder of a struct's `M`.
+pub type SerializerStruct = StructOf<Serializer>;
+
+/// The builder of a tuple variant: an `M` of one member, the variant's name, over an `L`.
+pub type SerializerTupleVariant<'a> = TupleVariantOf<'a, Serializer>;
+
+/// The builder of a struct variant: an `M` of one member, the variant's name, over the `M` of its fields.
+pub type SerializerStructVariant<'a> = StructVariantOf<'a, Serializer>;
+
+impl Target for Serializer {
+    type Map = HashMap<String, AttributeValue>;
+
+    ghost about = { attribute_values };
+
+    ghost members = { λ m. entries_view m.entries };
+
+    ghost over = { λ alloc. record { alloc = alloc } };
+
+    ghost answers = { λ s d v is. answers d v is };
+
+    ghost refuses = { λ s d e is. refuses d e is };
+
+    fn over(alloc: Global) -> Serializer {
+        Serializer::new(alloc)
+    }
+
+    fn list(values: Vec<AttributeValue>) -> AttributeValue
+        ensures { view result ≡ av.L (parts_before attribute_values values.items av.no_elements) }
+    {
+        AttributeValue::L(values)
+    }
+
+    fn no_members(alloc: Global) -> HashMap<String, AttributeValue> {
+        HashMap::new(alloc)
+    }
+
+    fn insert(
+        map: &mut HashMap<String, AttributeValue>,
+        key: String,
+        value: AttributeValue,
+    ) -> Result<()> {
+        match map.insert(key, value) {
+            Ok(_) => Ok(()),
+            Err(error) => Err(Error::from(error)),
+        }
+    }
+
+    fn map(map: HashMap<String, AttributeValue>) -> AttributeValue {
+        AttributeValue::M(map)
+    }
+}

@@ -1,0 +1,93 @@
+ghost use Rattle.std.specs.Prelude.{◌≡◌, ◌⊎◌, ℕ, List, [], Ok, Err, MatchResult, OnOk, string_bytes};
+ghost use Rattle.std.specs.FinMap.Entries.{put};
+ghost use Rattle.dynamo_value.specs.Fault.{out_of_memory};
+ghost use Rattle.dynamo_value.specs.Kind.{fault_of};
+ghost use Rattle.dynamo_value.specs.View.{text_cmp};
+ghost use Rattle.dynamo_ser.specs.Datum.{Datum};
+ghost use Rattle.dynamo_write.specs.Held.{held_entries, fields_of};
+ghost use Rattle.dynamo_write.specs.Target.{AboutTarget, map_of, one_member, parts_before};
+
+use dynamo_ser::Outcomes;
+use dynamo_value::{Error, Result};
+use std::alloc::Global;
+
+/// A serializer whose answers are values: how it makes a list of its elements and a map of its members.
+///
+/// Who writes such a serializer gives these small calls and has its builders: [`ListOf`](crate::ListOf) for sequences, tuples and
+/// tuple structs, [`MapOf`](crate::MapOf) and [`StructOf`](crate::StructOf); [`TupleVariantOf`](crate::TupleVariantOf) and
+/// [`StructVariantOf`](crate::StructVariantOf) make the map of one member, the variant's name, over its content.
+pub trait Target: Outcomes<Error = Error> {
+    ghost use Rattle.std.specs.declared.alloc.Global.{Global};
+    ghost use Rattle.dynamo_value.specs.declared.error.Error.{Error};
+
+    /// A map whose members are put one by one.
+    type Map: Drop;
+
+    // How contracts see the values, and what data are written as.
+    ghost about: { AboutTarget Self.Ok };
+
+    // The members of a map, in the order of their keys.
+    ghost members: { Self.Map → List (List ℕ × about.Seen) };
+
+    // The serializer over an allocator.
+    ghost over: { Global → Self };
+
+    /// The serializer whose values take their memory here.
+    fn over(alloc: Global) -> Self
+        ensures { result ≡ over alloc };
+
+    /// The list of these values.
+    fn list(values: Vec<Self::Ok>) -> Self::Ok
+        ensures { about.seen result ≡ about.list (parts_before about values.items about.no_parts) };
+
+    /// The map without members. It takes no memory.
+    fn no_members(alloc: Global) -> Self::Map
+        ensures { members result ≡ [] };
+
+    /// Puts one member; the value of an equal key is replaced.
+    fn insert(map: &mut Self::Map, key: String, value: Self::Ok) -> Result<()>
+        ensures ok { OnOk result (members map.new ≡ put text_cmp (string_bytes key) (about.seen value) (members map.old)) }
+        ensures err { MatchResult result (λ _. Unit {0}) (λ e. fault_of e ≡ out_of_memory) };
+
+    /// The value that is this map.
+    fn map(map: Self::Map) -> Self::Ok
+        ensures { about.seen result ≡ about.map (members map) };
+
+    /// The map of these entries, in the order in which they were written; of equal keys the last value stays.
+    final fn map_of_entries(alloc: Global, entries: Vec<(String, Self::Ok)>) -> Result<Self::Ok>
+        ensures { MatchResult result (λ v. Self.about.seen v ≡ map_of Self.about (held_entries Self.about.seen entries.items)) (λ e. fault_of e ≡ out_of_memory) }
+    {
+        let mut map = Self::no_members(alloc);
+        for (key, value) in entries {
+            Self::insert(&mut map, key, value)?;
+        }
+        Ok(Self::map(map))
+    }
+
+    /// The same of a struct's fields.
+    final fn map_of_fields(alloc: Global, fields: Vec<(&'static str, Self::Ok)>) -> Result<Self::Ok>
+        ensures { MatchResult result (λ v. Self.about.seen v ≡ map_of Self.about (fields_of Self.about.seen fields.entry.items)) (λ e. fault_of e ≡ out_of_memory) }
+    {
+        let mut map = Self::no_members(alloc);
+        for (name, value) in fields {
+            let key = String::from_str(alloc, name)?;
+            Self::insert(&mut map, key, value)?;
+        }
+        Ok(Self::map(map))
+    }
+
+    /// The map of one member.
+    final fn one_member(alloc: Global, name: &str, value: Self::Ok) -> Result<Self::Ok>
+        ensures { MatchResult result (λ v. Self.about.seen v ≡ one_member Self.about name.now (Self.about.seen value)) (λ e. fault_of e ≡ out_of_memory) }
+    {
+        let mut map = Self::no_members(alloc);
+        let key = String::from_str(alloc, name)?;
+        Self::insert(&mut map, key, value)?;
+        Ok(Self::map(map))
+    }
+
+    // What is answered for a datum is what it is written as, or want of memory.
+    ghost answers: { (s : Self) (d : Datum) (v : Self.Ok) → Self.outcome s d (Ok v) → about.written d ≡ Ok (about.seen v) };
+
+    ghost refuses: { (s : Self) (d : Datum) (e : Error) → Self.outcome s d (Err e) → (about.written d ≡ Err (fault_of e)) ⊎ (fault_of e ≡ out_of_memory) };
+}
