@@ -6,8 +6,9 @@
 //! - `writing`, `reading`, `rereading`: values of a type that are written, read, or both.
 //! - `json`, `json_form`, `plain`: values by way of JSON, DynamoDB's form of it, and plain JSON.
 //! - `tables`: each request to each source, and each call on what stands inside of it.
-//! - `described`: types that are described by their fields.
+//! - `described`: types that are described by their fields; `derived`: types that derive serde's traits, and twins that are described.
 
+mod derived;
 mod described;
 mod fixtures;
 mod json;

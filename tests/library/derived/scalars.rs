@@ -1,5 +1,5 @@
 // Numbers, texts, byte strings, sets, options and lists.
-use crate::rows::{reads, text, value, writes};
+use crate::derived::rows::{reads, text, value, writes};
 use dynamo_serde::from_attribute_value;
 use dynamo_value::ByteBuf;
 use serde::{Deserialize, DeserializeOwned, Deserializer, Format, Serialize};

@@ -1,5 +1,5 @@
 // Types that are read and written by another.
-use crate::rows::reads;
+use crate::derived::rows::reads;
 use serde::{Deserialize, Serialize};
 use std::alloc::AllocError;
 use std::test::Fail;

@@ -1,6 +1,6 @@
 // Derived twins of types that are described: they write the same, read what the other wrote, and refuse alike.
-use crate::random::Random;
-use crate::rows::value;
+use crate::derived::random::Random;
+use crate::derived::rows::value;
 use dynamo_value::{AttributeValue, ByteBuf, Error, ErrorImpl, Result};
 use serde::{Deserialize, DeserializeOwned, Serialize};
 use serde_dynamo::samples;

@@ -1,5 +1,5 @@
 // Fields of attribute values and of items: each is written as what it is, and read back the same.
-use crate::rows::{reads, value, writes};
+use crate::derived::rows::{reads, value, writes};
 use dynamo_serde::{from_attribute_value, to_attribute_value};
 use dynamo_value::{AttributeValue, Item, Result};
 use serde::{Deserialize, Serialize};

@@ -1,5 +1,5 @@
 // The keys of maps.
-use crate::rows::{reads, writes};
+use crate::derived::rows::{reads, writes};
 use serde::{Deserialize, Serialize};
 use std::collections::{BTreeMap, HashMap};
 use std::test::Fail;

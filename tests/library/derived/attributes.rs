@@ -1,5 +1,5 @@
 // Attributes on types and on fields.
-use crate::rows::{reads, text, writes};
+use crate::derived::rows::{reads, text, writes};
 use serde::{Deserialize, Deserializer, Format, Serialize, Serializer};
 use std::alloc::Global;
 use std::collections::BTreeMap;

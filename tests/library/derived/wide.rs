@@ -1,5 +1,5 @@
 // A struct of forty fields.
-use crate::rows::reads;
+use crate::derived::rows::reads;
 use serde::{Deserialize, Serialize};
 use std::test::Fail;
 

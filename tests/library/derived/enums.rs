@@ -1,5 +1,5 @@
 // An enum in each of its representations.
-use crate::rows::reads;
+use crate::derived::rows::reads;
 use serde::{Deserialize, Serialize};
 use std::collections::BTreeMap;
 use std::test::Fail;

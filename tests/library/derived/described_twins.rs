@@ -1,6 +1,6 @@
 // Derived twins of the types of `described_types`, each of a kind of its own.
-use crate::random::Random;
-use crate::twins::reads_as_twin;
+use crate::derived::random::Random;
+use crate::derived::twins::reads_as_twin;
 use described_types as own;
 use dynamo_value::Result;
 use serde::{Deserialize, Serialize};
