@@ -1,4 +1,4 @@
-ghost use Rattle.std.specs.Prelude.{◌≡◌, IfOk};
+ghost use Rattle.std.specs.Prelude.{◌≡◌, ◌++◌, ◌∷◌, [], map, IfOk};
 ghost use Rattle.std.specs.Bool.{Decides};
 ghost use Rattle.std.specs.Cmp.{partial_equiv_from_equiv, on_equiv};
 ghost use Rattle.dynamo_value.specs.Av as av;
@@ -133,15 +133,15 @@ pub(crate) fn same_maps(
     true
 }
 
-// A value that is equal. The frame of this function stands once a level, so what is copied of each kind has functions of its own
-// that aren't inlined.
+// A value that is equal. What is copied of each kind has functions of its own that aren't inlined: a value that nests others is
+// copied with a small frame for each of its levels, in which no value lies.
 #[cycle(copy)]
 fn copy(value: &AttributeValue) -> Result<AttributeValue, AllocError>
     ensures { IfOk result (λ v. view v ≡ view value.now) }
 {
     match value {
-        AttributeValue::M(map) => copy_members(map),
-        AttributeValue::L(list) => copy_elements(list),
+        AttributeValue::M(map) => Ok(AttributeValue::M(copy_map(map)?)),
+        AttributeValue::L(list) => Ok(AttributeValue::L(copy_list(list)?)),
         other => copy_other(other),
     }
 }
@@ -161,46 +161,61 @@ fn copy_other(value: &AttributeValue) -> Result<AttributeValue, AllocError>
             bytes.as_slice(),
         )?)),
         AttributeValue::Null(b) => Ok(AttributeValue::Null(*b)),
-        AttributeValue::M(map) => copy_members(map),
-        AttributeValue::L(list) => copy_elements(list),
+        AttributeValue::M(map) => Ok(AttributeValue::M(copy_map(map)?)),
+        AttributeValue::L(list) => Ok(AttributeValue::L(copy_list(list)?)),
         AttributeValue::Ss(set) => Ok(AttributeValue::Ss(set.clone()?)),
         AttributeValue::Ns(set) => Ok(AttributeValue::Ns(set.clone()?)),
         AttributeValue::Bs(set) => Ok(AttributeValue::Bs(set.clone()?)),
     }
 }
 
-// A map of equal values.
-#[cycle(copy)]
-#[inline(never)]
-fn copy_members(map: &HashMap<String, AttributeValue>) -> Result<AttributeValue, AllocError>
-    ensures { IfOk result (λ v. view v ≡ av.M (members_view map.now.entries)) }
-{
-    Ok(AttributeValue::M(copy_map(map)?))
-}
-
-// The list of equal values.
-#[cycle(copy)]
-#[inline(never)]
-fn copy_elements(list: &Vec<AttributeValue>) -> Result<AttributeValue, AllocError>
-    ensures { IfOk result (λ v. view v ≡ av.L (elements_view list.now.items)) }
-{
-    Ok(AttributeValue::L(copy_list(list)?))
-}
-
 // Equal values, in order.
 #[cycle(copy)]
+#[inline(never)]
 fn copy_list(list: &Vec<AttributeValue>) -> Result<Vec<AttributeValue>, AllocError>
     ensures { IfOk result (λ v. elements_view v.items ≡ elements_view list.now.items) }
 {
     let mut copies = Vec::with_capacity(*list.allocator(), list.len())?;
     for value in list {
-        copies.push(copy(value)?)?;
+        push_copy(value, &mut copies)?;
     }
     Ok(copies)
 }
 
+// Puts a value that is equal behind others.
+#[cycle(copy)]
+#[inline(never)]
+fn push_copy(value: &AttributeValue, copies: &mut Vec<AttributeValue>) -> Result<(), AllocError>
+    ensures { IfOk result (λ _. map view copies.new.items ≡ map view copies.old.items ++ view value.now ∷ []) }
+{
+    match value {
+        AttributeValue::L(list) => push_list(copies, copy_list(list)?),
+        other => push_other(other, copies),
+    }
+}
+
+// Puts a list behind other values.
+#[inline(never)]
+fn push_list(copies: &mut Vec<AttributeValue>, list: Vec<AttributeValue>) -> Result<(), AllocError>
+    ensures { IfOk result (λ _. map view copies.new.items ≡ map view copies.old.items ++ av.L (elements_view list.items) ∷ []) }
+{
+    copies.push(AttributeValue::L(list))?;
+    Ok(())
+}
+
+// Puts a value that is equal behind others, as they come where it is no list.
+#[cycle(copy)]
+#[inline(never)]
+fn push_other(value: &AttributeValue, copies: &mut Vec<AttributeValue>) -> Result<(), AllocError>
+    ensures { IfOk result (λ _. map view copies.new.items ≡ map view copies.old.items ++ view value.now ∷ []) }
+{
+    copies.push(copy(value)?)?;
+    Ok(())
+}
+
 // A map with the same keys and equal values.
 #[cycle(copy)]
+#[inline(never)]
 pub(crate) fn copy_map(
     map: &HashMap<String, AttributeValue>,
 ) -> Result<HashMap<String, AttributeValue>, AllocError>
