@@ -1,5 +1,5 @@
 -- Reading an attribute value, one level at a time.
-use Rattle.std.proofs.Common.{◌≡◌, ◌⊎◌, ℕ, suc, ◌≤◌, Bool, true, false, List, [], ◌∷◌, ◌++◌, map, Option, Some, None, Result, Ok, Err, String, Vec, Global, string_bytes, refl, ap, sym, subst, ◌∙◌, inl, inr, arith}
+use Rattle.std.proofs.Common.{◌≡◌, ◌⊎◌, ℕ, suc, ◌≤◌, true, false, List, [], ◌∷◌, ◌++◌, map, Option, Some, None, Result, Ok, Err, String, Vec, Global, string_bytes, refl, ap, sym, subst, ◌∙◌, inl, inr, arith}
 use Rattle.std.specs.Prelude.{is_some, OnOk}
 use Rattle.std.specs.Result.{is_err}
 use Rattle.std.specs.FinMap.Entries.{put}
@@ -11,13 +11,15 @@ use Rattle.dynamo_value.specs.Base64.{bytes_of_base64}
 use Rattle.dynamo_value.specs.Fault.{Fault, out_of_memory}
 use Rattle.dynamo_value.specs.Prefix as prefix
 use Rattle.dynamo_value.specs.Prefix.{Prefix, prefix_of}
+use Rattle.dynamo_value.specs.PrefixView.{prefix_view}
+use Rattle.dynamo_value.specs.declared.prefix.Prefix as declared
 use Rattle.dynamo_value.specs.Refusal.{Refused, refusal_in}
 use Rattle.dynamo_value.specs.SingleKey.{several_keys, unknown_key, known}
 use Rattle.dynamo_de.specs.Answer.{Answer, Gives, After}
 use Rattle.dynamo_de.specs.Ignored.{source_height, sources_height, entries_height}
 use Rattle.dynamo_de.specs.Promises.{Reading, promised, refuse, Agrees}
 use Rattle.dynamo_value.specs.Steps.{◌>>=◌}
-use Rattle.dynamo_de.specs.ReadAttribute.{read_attribute, read_content, read_elements, read_members, read_none, own_refusals, own_refusals_in, refusals_of, attribute_from, attribute_in, item_from, content_from, read_each, read_entries, read_text, read_texts, read_blob, read_blobs, no_map, refusal_of}
+use Rattle.dynamo_de.specs.ReadAttribute.{read_attribute, read_content, read_elements, read_members, read_none, own_refusals, own_refusals_in, refusals_of, attribute_from, entry_in, entry_from, item_from, content_from, read_each, read_entries, read_text, read_texts, read_blob, read_blobs, no_map, refusal_of}
 use Rattle.dynamo_de.specs.Reading as reading
 use Rattle.dynamo_de.specs.Reading.{taken, read_string}
 use Rattle.dynamo_de.specs.Reads.{ReadsEach, ReadsList}
@@ -37,16 +39,6 @@ unknown_map t next = number_cases (λ x. refuse (refusal_of (taken claims_map ta
 own_same : (ms : av.Members) → own_refusals ms ≡ own_refusals_in (entries_of ms)
 own_same av.no_members = refl
 own_same (av.member key a ms) = ap (λ rs. refusals_of (promised (known key) >>= λ p. read_content p a) ++ rs) (own_same ms)
-
-pub attribute_as_entries : (s : Source) → attribute_from s ≡ (promised (reading.read_entries s) >>= attribute_in)
-attribute_as_entries (attribute (av.M av.no_members)) = refl
-attribute_as_entries (attribute (av.M (av.member key a av.no_members))) = refl
-attribute_as_entries (attribute (av.M (av.member key a (av.member other b ms)))) = ap (λ rs. Err (several_keys ∷ rs)) (own_same (av.member key a (av.member other b ms)))
-attribute_as_entries (attribute _) = refl
-attribute_as_entries (key_text t) = refl
-attribute_as_entries (number_text t) = unknown_map t attribute_in
-attribute_as_entries (plain_text t) = refl
-attribute_as_entries (byte_string bytes) = refl
 
 members_same : (so_far : List (List ℕ × Av)) (ms : av.Members) → read_members so_far ms ≡ read_entries so_far (entries_of ms)
 members_same so_far av.no_members = refl
@@ -108,6 +100,27 @@ content_same prefix.Ss a = refl
 content_same prefix.Ns a = refl
 content_same prefix.Bs a = refl
 
+in_two : {A B C : Type 0} (x : Reading A) (f : A → Reading B) (g : B → Reading C) → ((x >>= f) >>= g) ≡ (x >>= λ y. f y >>= g)
+in_two (Ok y) f g = refl
+in_two (Err rs) f g = refl
+
+abbrev entry_under : Source → Prefix → Reading (Prefix × Source)
+entry_under content p = Ok (p, content)
+
+pub attribute_as_entry : (s : Source) → attribute_from s ≡ (entry_from s >>= λ e. content_from e.0 e.1)
+attribute_as_entry (attribute (av.M av.no_members)) = refl
+attribute_as_entry (attribute (av.M (av.member key a av.no_members))) = one (known key)
+  where
+    one : (x : Answer Prefix) → (promised x >>= λ p. read_content p a) ≡ ((promised x >>= entry_under (attribute a)) >>= λ e. content_from e.0 e.1)
+    one (Ok p) = content_same p a
+    one (Err r) = refl
+attribute_as_entry (attribute (av.M (av.member key a (av.member other b ms)))) = ap (λ rs. Err (several_keys ∷ rs)) (own_same (av.member key a (av.member other b ms)))
+attribute_as_entry (attribute _) = refl
+attribute_as_entry (key_text t) = refl
+attribute_as_entry (number_text t) = unknown_map t (λ es. entry_in es >>= λ e. content_from e.0 e.1) ∙ sym (in_two (promised (reading.read_entries (number_text t))) entry_in (λ e. content_from e.0 e.1))
+attribute_as_entry (plain_text t) = refl
+attribute_as_entry (byte_string bytes) = refl
+
 -- ---- how deep it goes
 
 pub entries_lower : {M : Type 0} (entries : M → List Entry) (s : Source) (m : M) → Gives entries (reading.read_entries s) (Ok m) → suc (entries_height (entries m)) ≤ source_height s
@@ -137,6 +150,23 @@ elements_lower elements s l h = below s (value_answered elements (reading.read_e
     below (number_text t) e = absurd (number_cases (λ x. promised (taken claims_seq take_elements x) ≡ Ok (elements l) → ⊥) (λ z e. cc) (λ z e. cc) (λ t e. cc) (λ f e. cc) t e)
     below (plain_text t) e = cc
     below (byte_string bytes) e = cc
+
+-- what stands under the prefix nests less deep than the whole
+pub entry_lower : {V : Type 0} (seen : V → Prefix × Source) (s : Source) (v : V) → Agrees seen (entry_from s) (Ok v) → suc (source_height (seen v).1) ≤ source_height s
+entry_lower seen s v h = below (reading.read_entries s) (λ es is. entries_lower (λ es. es) s es (subst (λ x. Gives (λ es. es) x (Ok es)) (sym is) refl)) (value_read seen (entry_from s) v h)
+  where
+    alone : (es : List Entry) → entry_in es ≡ Ok (seen v) → suc (entries_height es) ≤ source_height s → suc (source_height (seen v).1) ≤ source_height s
+    alone [] is high = cc
+    alone (e ∷ []) is high = under (known e.0) is
+      where
+        under : (x : Answer Prefix) → (promised x >>= entry_under (attribute e.1)) ≡ Ok (seen v) → suc (source_height (seen v).1) ≤ source_height s
+        under (Ok p) is = let same : attribute e.1 ≡ (seen v).1 = cc in rw (← same) (omega (arith, high))
+        under (Err r) is = cc
+    alone (e ∷ f ∷ es) is high = cc
+
+    below : (x : Answer (List Entry)) → ((es : List Entry) → x ≡ Ok es → suc (entries_height es) ≤ source_height s) → (promised x >>= entry_in) ≡ Ok (seen v) → suc (source_height (seen v).1) ≤ source_height s
+    below (Ok es) high is = alone es is (high es refl)
+    below (Err r) high is = cc
 
 -- ---- texts
 
@@ -170,11 +200,23 @@ blobs_of elements s l is = rw (value_answered elements (reading.read_elements s)
 
 -- ---- entries that are taken in order
 
-pub attribute_of_entries : {M : Type 0} (entries : M → List Entry) (s : Source) (m : M) → Gives entries (reading.read_entries s) (Ok m) → attribute_from s ≡ attribute_in (entries m)
-attribute_of_entries entries s m is = attribute_as_entries s ∙ rw (value_answered entries (reading.read_entries s) m is) refl
+entry_of_entries : {M : Type 0} (entries : M → List Entry) (s : Source) (m : M) → Gives entries (reading.read_entries s) (Ok m) → entry_from s ≡ entry_in (entries m)
+entry_of_entries entries s m is = rw (value_answered entries (reading.read_entries s) m is) refl
 
-pub attribute_stops : {M : Type 0} (entries : M → List Entry) (s : Source) (f : Fault) → (f ≡ out_of_memory) ⊎ Gives entries (reading.read_entries s) (Err f) → (f ≡ out_of_memory) ⊎ Agrees view (attribute_from s) (Err f)
-attribute_stops entries s f h = subst (λ x. (f ≡ out_of_memory) ⊎ Agrees view x (Err f)) (sym (attribute_as_entries s)) (answer_stops entries view attribute_in (reading.read_entries s) f h)
+-- how the entry that is read is seen
+abbrev pub entry_seen : {D : Type 0} → (D → Source) → declared.Prefix × D → Prefix × Source
+entry_seen source e = (prefix_view e.0, source e.1)
+
+pub none_entered : {M V : Type 0} (entries : M → List Entry) (seen : V → Prefix × Source) (s : Source) (f : Fault) → (f ≡ out_of_memory) ⊎ Gives entries (reading.read_entries s) (Err f) → (f ≡ out_of_memory) ⊎ Agrees seen (entry_from s) (Err f)
+none_entered entries seen s f h = answer_stops entries seen entry_in (reading.read_entries s) f h
+
+-- the whole is what stands under the prefix
+pub entry_is : {V : Type 0} (seen : V → Prefix × Source) (s : Source) (v : V) → Agrees seen (entry_from s) (Ok v) → attribute_from s ≡ content_from (seen v).0 (seen v).1
+entry_is seen s v is = attribute_as_entry s ∙ ap (λ x. x >>= λ e. content_from e.0 e.1) (value_read seen (entry_from s) v is)
+
+pub entry_stops : {V : Type 0} (seen : V → Prefix × Source) (s : Source) (f : Fault) → (f ≡ out_of_memory) ⊎ Agrees seen (entry_from s) (Err f) → (f ≡ out_of_memory) ⊎ Agrees view (attribute_from s) (Err f)
+entry_stops seen s f (inl lacks) = inl lacks
+entry_stops seen s f (inr h) = inr (subst (λ x. Agrees view x (Err f)) (sym (attribute_as_entry s)) (stops seen view (λ e. content_from e.0 e.1) (entry_from s) f h))
 
 pub item_stops : {M W : Type 0} (entries : M → List Entry) (tells : W → av.Members) (s : Source) (f : Fault) → (f ≡ out_of_memory) ⊎ Gives entries (reading.read_entries s) (Err f) → (f ≡ out_of_memory) ⊎ Agrees tells (item_from s) (Err f)
 item_stops entries tells s f h = subst (λ x. (f ≡ out_of_memory) ⊎ Agrees tells x (Err f)) (sym (item_as_entries s)) (answer_stops entries tells (read_entries []) (reading.read_entries s) f h)
@@ -189,41 +231,41 @@ module _ {D M : Type 0} (source : D → Source) (entries : M → List Entry) whe
   -- the one entry of a map
   pub one_entry : (s : Source) (m : M) (new end : List Entry) (d : D × D) (name : String Global) (p : Prefix) → Gives entries (reading.read_entries s) (Ok m)
       → TakesEntry source (entries m) new (Some d) → TakesEntry source new end None → Gives string_bytes (read_string (source d.0)) (Ok name)
-      → prefix_of (string_bytes name) ≡ Some p → content_from p (source d.1) ≡ attribute_from s
-  one_entry s m new end d name p is first last given known = sym (attribute_of_entries entries s m is ∙ alone (entries m) new first last)
+      → prefix_of (string_bytes name) ≡ Some p → entry_from s ≡ Ok (p, source d.1)
+  one_entry s m new end d name p is first last given known = entry_of_entries entries s m is ∙ alone (entries m) new first last
     where
-      alone : (es new : List Entry) → TakesEntry source es new (Some d) → TakesEntry source new end None → attribute_in es ≡ content_from p (source d.1)
+      alone : (es new : List Entry) → TakesEntry source es new (Some d) → TakesEntry source new end None → entry_in es ≡ Ok (p, source d.1)
       alone [] new t l = cc
       alone (e ∷ es) (f ∷ fs) t l = absurd l
-      alone (e ∷ []) [] t l = rw (t.2, ← named e d name t.1 given, known) (content_same p e.1)
+      alone (e ∷ []) [] t l = rw (t.2, ← named e d name t.1 given, known) refl
       alone (e ∷ f ∷ es) [] t l = absurd (nil≢cons t.0)
         where
           nil≢cons : [] ≡ f ∷ es → ⊥
           nil≢cons h = cc
 
   -- the refusals of none that is alone, and of one under a key that is no prefix
-  pub several_refused : (s : Source) (m : M) (new end : List Entry) (d : D × D) (o : Option (D × D)) (f g : Fault) → Gives entries (reading.read_entries s) (Ok m)
+  pub several_refused : {V : Type 0} (seen : V → Prefix × Source) (s : Source) (m : M) (new end : List Entry) (d : D × D) (o : Option (D × D)) (f g : Fault) → Gives entries (reading.read_entries s) (Ok m)
       → TakesEntry source (entries m) new (Some d) → TakesEntry source new end o → is_some o ≡ true → Refused (Some several_keys) f → (g ≡ f) ⊎ (g ≡ out_of_memory)
-      → (g ≡ out_of_memory) ⊎ Agrees view (attribute_from s) (Err g)
-  several_refused s m new end d None f g is first second more refused says = cc
-  several_refused s m new end d (Some b) f g is first second more refused says =
-      subst (λ x. (g ≡ out_of_memory) ⊎ Agrees view x (Err g)) (sym (attribute_of_entries entries s m is)) (along (entries m) new first second (told (Some several_keys) f g says refused))
+      → (g ≡ out_of_memory) ⊎ Agrees seen (entry_from s) (Err g)
+  several_refused seen s m new end d None f g is first second more refused says = cc
+  several_refused seen s m new end d (Some b) f g is first second more refused says =
+      subst (λ x. (g ≡ out_of_memory) ⊎ Agrees seen x (Err g)) (sym (entry_of_entries entries s m is)) (along (entries m) new first second (told (Some several_keys) f g says refused))
     where
-      along : (es new : List Entry) → TakesEntry source es new (Some d) → TakesEntry source new end (Some b) → Refused (Some several_keys) g → (g ≡ out_of_memory) ⊎ Agrees view (attribute_in es) (Err g)
+      along : (es new : List Entry) → TakesEntry source es new (Some d) → TakesEntry source new end (Some b) → Refused (Some several_keys) g → (g ≡ out_of_memory) ⊎ Agrees seen (entry_in es) (Err g)
       along [] new t u h = cc
       along (e ∷ []) [] t u h = cc
       along (e ∷ []) (x ∷ xs) t u h = cc
       along (e ∷ x ∷ es) new t u (inl lacks) = inl lacks
       along (e ∷ x ∷ es) new t u (inr says) = inr (inl says)
 
-  pub unknown_refused : (s : Source) (m : M) (new end : List Entry) (d : D × D) (name : String Global) (f g : Fault) → Gives entries (reading.read_entries s) (Ok m)
+  pub unknown_refused : {V : Type 0} (seen : V → Prefix × Source) (s : Source) (m : M) (new end : List Entry) (d : D × D) (name : String Global) (f g : Fault) → Gives entries (reading.read_entries s) (Ok m)
       → TakesEntry source (entries m) new (Some d) → TakesEntry source new end None → Gives string_bytes (read_string (source d.0)) (Ok name) → prefix_of (string_bytes name) ≡ None
-      → Refused (Some (unknown_key (string_bytes name))) f → (g ≡ f) ⊎ (g ≡ out_of_memory) → (g ≡ out_of_memory) ⊎ Agrees view (attribute_from s) (Err g)
-  unknown_refused s m new end d name f g is first last given none refused says =
-      subst (λ x. (g ≡ out_of_memory) ⊎ Agrees view x (Err g)) (sym (attribute_of_entries entries s m is)) (along (entries m) new first last (told (Some (unknown_key (string_bytes name))) f g says refused))
+      → Refused (Some (unknown_key (string_bytes name))) f → (g ≡ f) ⊎ (g ≡ out_of_memory) → (g ≡ out_of_memory) ⊎ Agrees seen (entry_from s) (Err g)
+  unknown_refused seen s m new end d name f g is first last given none refused says =
+      subst (λ x. (g ≡ out_of_memory) ⊎ Agrees seen x (Err g)) (sym (entry_of_entries entries s m is)) (along (entries m) new first last (told (Some (unknown_key (string_bytes name))) f g says refused))
     where
       along : (es new : List Entry) → TakesEntry source es new (Some d) → TakesEntry source new end None → Refused (Some (unknown_key (string_bytes name))) g
-          → (g ≡ out_of_memory) ⊎ Agrees view (attribute_in es) (Err g)
+          → (g ≡ out_of_memory) ⊎ Agrees seen (entry_in es) (Err g)
       along [] new t l h = cc
       along (e ∷ es) (x ∷ xs) t l h = absurd l
       along (e ∷ []) [] t l (inl lacks) = inl lacks

@@ -129,10 +129,14 @@ abbrev pub own_refusals_in : List Entry → List Refusal
 own_refusals_in [] = []
 own_refusals_in (e ∷ es) = refusals_of (promised (known e.0) >>= λ p. read_content p e.1) ++ own_refusals_in es
 
-abbrev pub attribute_in : List Entry → Reading Av
-attribute_in [] = refuse no_key
-attribute_in (e ∷ []) = promised (known e.0) >>= λ p. read_content p e.1
-attribute_in es = Err (several_keys ∷ own_refusals_in es)
+-- the prefix and the content of the one entry
+abbrev pub entry_in : List Entry → Reading (Prefix × Source)
+entry_in [] = refuse no_key
+entry_in (e ∷ []) = promised (known e.0) >>= λ p. Ok (p, attribute e.1)
+entry_in es = Err (several_keys ∷ own_refusals_in es)
+
+abbrev pub entry_from : Source → Reading (Prefix × Source)
+entry_from s = promised (reading.read_entries s) >>= entry_in
 
 abbrev pub read_entries : List (List ℕ × Av) → List Entry → Reading av.Members
 read_entries so_far [] = Ok (members_of so_far)

@@ -10,7 +10,7 @@ ghost use Rattle.dynamo_de.specs.Answer.{Gives};
 ghost use Rattle.dynamo_de.specs.Reading as reading;
 ghost use Rattle.dynamo_de.specs.Meets.{Meets};
 ghost use Rattle.dynamo_de.specs.Promises.{Agrees};
-ghost use Rattle.dynamo_de.specs.ReadAttribute.{attribute_from, item_from, content_from, read_each, read_entries};
+ghost use Rattle.dynamo_de.specs.ReadAttribute.{attribute_from, entry_from, item_from, content_from, read_each, read_entries};
 ghost use Rattle.dynamo_de.specs.ReadAttribute.{read_texts, read_blob, read_blobs};
 
 use crate::visitor::refuse;
@@ -41,10 +41,20 @@ impl Deserialize for Item {
     }
 }
 
-/// Reads an attribute value by the reader's own calls: it holds itself, so no visitor could read it.
+/// Reads an attribute value by the reader's own calls: it holds itself, so no visitor could read it. What is done before the
+/// content is read has functions of its own that aren't inlined, so that none of its readers lies in a frame of each level.
 #[cycle(read)]
 fn read<R: Reader>(alloc: Global, reader: R) -> Result<AttributeValue, R::Error>
     ensures { Meets R.Error.fault (Agrees view (attribute_from (R.source reader))) result }
+{
+    let (prefix, content) = read_entry(alloc, reader)?;
+    read_content(alloc, prefix, content)
+}
+
+// The prefix of an attribute value, and the reader of what stands under it.
+#[inline(never)]
+fn read_entry<R: Reader>(alloc: Global, reader: R) -> Result<(Prefix, R), R::Error>
+    ensures { Meets R.Error.fault (Agrees (λ e. (prefix_view e.0, R.source e.1)) (entry_from (R.source reader))) result }
 {
     let mut entries = entries_of(
         alloc,
@@ -58,10 +68,10 @@ fn read<R: Reader>(alloc: Global, reader: R) -> Result<AttributeValue, R::Error>
         return Err(told(alloc, refusal::several_keys(alloc)));
     }
     let key = String::deserialize(alloc, key)?;
-    let Some(prefix) = Prefix::named(&key) else {
-        return Err(told(alloc, refusal::unknown_key(alloc, &key)));
-    };
-    read_content(alloc, prefix, content)
+    match Prefix::named(&key) {
+        Some(prefix) => Ok((prefix, content)),
+        None => Err(told(alloc, refusal::unknown_key(alloc, &key))),
+    }
 }
 
 // Reads what stands under a prefix.
@@ -164,6 +174,7 @@ fn read_bytes<R: Reader>(alloc: Global, reader: R) -> Result<Vec<u8>, R::Error>
 }
 
 // The entries of a map that is asked for.
+#[inline(never)]
 fn entries_of<R: Reader>(alloc: Global, reader: R, expecting: &str) -> Result<R::Entries, R::Error>
     ensures { Meets R.Error.fault (Gives R.entries (reading.read_entries (R.source reader))) result }
 {
@@ -174,6 +185,7 @@ fn entries_of<R: Reader>(alloc: Global, reader: R, expecting: &str) -> Result<R:
 }
 
 // The elements of a sequence that is asked for.
+#[inline(never)]
 fn elements_of<R: Reader>(
     alloc: Global,
     reader: R,

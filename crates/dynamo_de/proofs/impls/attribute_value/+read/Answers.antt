@@ -1,9 +1,8 @@
-use Rattle.std.proofs.Common.{rules, ◌≡◌, ◌+◌, ◌*◌, ◌<◌, Some, None, Ok, [], ap, sym, subst, ◌∙◌, string_bytes, arith}
+use Rattle.std.proofs.Common.{rules, ◌+◌, ◌*◌, ◌<◌, Some, Ok, [], ap, sym, subst, ◌∙◌, string_bytes, arith}
 use Rattle.dynamo_value.specs.Av as av
 use Rattle.dynamo_value.specs.Av.{elements_of}
-use Rattle.dynamo_value.specs.Kind.{fault_of}
-use Rattle.dynamo_value.specs.Prefix.{prefix_of}
 use Rattle.dynamo_value.specs.PrefixView.{prefix_view}
+use Rattle.dynamo_value.specs.declared.prefix.Prefix.{Prefix}
 use Rattle.dynamo_value.specs.Table.{Table}
 use Rattle.dynamo_value.specs.Steps.{◌>>=◌}
 use Rattle.dynamo_value.specs.View.{view, entries_view, members_view}
@@ -16,38 +15,22 @@ use Rattle.dynamo_de.specs.ReadAttribute.{attribute_from, read_each, read_entrie
 use Rattle.dynamo_de.specs.Reading as reading
 use Rattle.dynamo_de.specs.Reading.{read_string}
 use Rattle.dynamo_de.specs.Shows.{TakesEntry}
-use Rattle.dynamo_de.proofs.Attributes.{attribute_stops, several_refused, unknown_refused, entries_lower, elements_lower, one_entry, member_more, member_stops, kept}
+use Rattle.dynamo_de.proofs.Attributes.{entry_seen, entry_stops, entry_lower, entry_is, entries_lower, elements_lower, member_more, member_stops, kept}
 use Rattle.dynamo_de.proofs.JsonSteps.{members_lower}
 use Rattle.dynamo_de.proofs.Promises.{answer_stops}
 use Rattle.dynamo_de.proofs.impls.attribute_value.+read.Goals as goal
 
-pub read-returns-in_err-entries : goal.read-returns-in_err-entries
-read-returns-in_err-entries g t c =
-    let stop = attribute_stops g.R.Reader.entries (g.R.Reader.source c.args.reader) (g.R.Error.Error.fault c.in_err-entries.field-0.0) c.in_err-entries.ensures in
+pub read-returns-in_err-prefix : goal.read-returns-in_err-prefix
+read-returns-in_err-prefix g t c =
+    let stop = entry_stops (λ (e : Prefix × g.row.R.Denot). (prefix_view e.0, g.R.Reader.source e.1)) (g.R.Reader.source c.args.reader) (g.R.Error.Error.fault c.in_err-prefix.field-0.0) c.in_err-prefix.ensures in
     search rules
-
-pub read-returns-then-is_some : goal.read-returns-then-is_some
-read-returns-then-is_some g t c =
-    let first : TakesEntry g.R.Reader.source (g.R.Reader.entries c.in_ok-entries.entries) (g.R.Reader.entries c.next_entry.new.rest) (Some (c.in-Some.key, c.in-Some.content)) = search rules in
-    several_refused g.R.Reader.source g.R.Reader.entries (g.R.Reader.source c.args.reader) c.in_ok-entries.entries _ _ (c.in-Some.key, c.in-Some.content) c.next_entry-2.result (fault_of c.several_keys.result) _
-    (search rules) first c.next_entry-2.ensures (search rules) c.several_keys.ensures c.told-then-is_some.ensures
-
-pub read-returns-in_default-named : goal.read-returns-in_default-named
-read-returns-in_default-named g t c =
-    let first : TakesEntry g.R.Reader.source (g.R.Reader.entries c.in_ok-entries.entries) (g.R.Reader.entries c.next_entry.new.rest) (Some (c.in-Some.key, c.in-Some.content)) = search rules in
-    let last : TakesEntry g.R.Reader.source (g.R.Reader.entries c.next_entry.new.rest) (g.R.Reader.entries c.next_entry-2.new.rest) None = search rules in
-    unknown_refused g.R.Reader.source g.R.Reader.entries (g.R.Reader.source c.args.reader) c.in_ok-entries.entries _ _ (c.in-Some.key, c.in-Some.content) c.in_ok-key.key (fault_of c.unknown_key.result) _
-    (search rules) first last (search rules) (search rules) (search rules) c.told-in_default-named.ensures
 
 pub read-read_content-requires : goal.read-read_content-requires
 read-read_content-requires g t c κs within =
     let s = g.R.Reader.source c.args.reader in
-    let left = g.R.Reader.entries c.in_ok-entries.entries in
-    let new = g.R.Reader.entries c.next_entry.new.rest in
-    let first : TakesEntry g.R.Reader.source left new (Some (c.in-Some.key, c.in-Some.content)) = search rules in
-    let whole = entries_lower g.R.Reader.entries s c.in_ok-entries.entries (search rules) in
-    let part = members_lower g.R.Reader.source left new (c.in-Some.key, c.in-Some.content) first in
-    let falls : 2 * source_height (g.R.Reader.source c.in-Some.content) < 2 * source_height s = omega (arith, whole, part.0) in
+    let content = g.R.Reader.source c.in_ok-prefix.content in
+    let lower = entry_lower (entry_seen g.R.Reader.source) s (c.in_ok-prefix.prefix, c.in_ok-prefix.content) (search rules) in
+    let falls : 2 * source_height content < 2 * source_height s = omega (arith, lower) in
     search rules
 
 pub read_content-returns-in_err-deserialize-in-N : goal.read_content-returns-in_err-deserialize-in-N
@@ -74,12 +57,8 @@ read_content-returns-in_err-elements-in-L g t c =
 
 pub read-returns : goal.read-returns
 read-returns g t c =
-    let first : TakesEntry g.R.Reader.source (g.R.Reader.entries c.in_ok-entries.entries) (g.R.Reader.entries c.next_entry.new.rest) (Some (c.in-Some.key, c.in-Some.content)) = search rules in
-    let last : TakesEntry g.R.Reader.source (g.R.Reader.entries c.next_entry.new.rest) (g.R.Reader.entries c.next_entry-2.new.rest) None = search rules in
-    let known : prefix_of (string_bytes c.in_ok-key.key) ≡ Some (prefix_view c.in-Some-named.prefix) = search rules in
-    let same = one_entry g.R.Reader.source g.R.Reader.entries (g.R.Reader.source c.args.reader) c.in_ok-entries.entries _ _ (c.in-Some.key, c.in-Some.content) c.in_ok-key.key
-    (prefix_view c.in-Some-named.prefix) (search rules) first last (search rules) known in
-    subst (λ x. Meets g.R.Error.Error.fault (Agrees view x) c.read_content.result) same c.read_content.ensures
+    let same = entry_is (entry_seen g.R.Reader.source) (g.R.Reader.source c.args.reader) (c.in_ok-prefix.prefix, c.in_ok-prefix.content) (search rules) in
+    subst (λ x. Meets g.R.Error.Error.fault (Agrees view x) c.read_content.result) (sym same) c.read_content.ensures
 
 pub read_content-read_members-requires : goal.read_content-read_members-requires
 read_content-read_members-requires g t c κs within =
