@@ -2,10 +2,12 @@
 //!
 //! `reads_json` and `rereads` take their input to the end, one JSON text. The other words take a number of repeats: they make
 //! 10,000 users and what the call takes, and then call so many times. So the time of a call is that of more repeats less that
-//! of fewer, in so many parts.
+//! of fewer, in so many parts. The words that begin with `depth_` take the depth of nested lists.
 #![tactic(auto)]
 
+mod by_hand;
 mod input;
+mod nested;
 mod repeated;
 mod users;
 
@@ -13,11 +15,15 @@ use std::{env, io};
 
 fn main(rt: HostRuntime) -> io::Result<()> {
     let mut words = env::args(&rt)?.skip(1);
-    let word = words.next();
-    let repeats = words.next();
-    match (&word, &repeats) {
-        (Some(word), None) => input::run(&rt, word.as_str()),
-        (Some(word), Some(repeats)) => repeated::run(&rt, word.as_str(), repeats.as_str()),
-        _ => println!(rt; "a word is wanted, and most words want a number of repeats"),
+    let Some(word) = words.next() else {
+        return println!(rt; "a word is wanted, and most words want a number");
+    };
+    let Some(number) = words.next() else {
+        return input::run(&rt, word.as_str());
+    };
+    match number.parse::<u32>() {
+        Err(_) => println!(rt; "no number: {number}"),
+        Ok(depth) if word.starts_with("depth_") => nested::run(&rt, word.as_str(), depth),
+        Ok(repeats) => repeated::run(&rt, word.as_str(), repeats),
     }
 }

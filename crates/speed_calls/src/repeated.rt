@@ -1,4 +1,5 @@
 //! Calls that are repeated.
+use crate::by_hand::{self, Maps};
 use crate::users::{items, users};
 use serde_dynamo::samples::User;
 use serde_dynamo::{
@@ -10,10 +11,7 @@ use std::collections::HashMap;
 use std::io;
 
 /// Repeats the call of this name, and prints how many users it saw.
-pub fn run(rt: &HostRuntime, word: &str, repeats: &str) -> io::Result<()> {
-    let Ok(repeats) = repeats.parse::<u32>() else {
-        return println!(rt; "no number of repeats: {repeats}");
-    };
+pub fn run(rt: &HostRuntime, word: &str, repeats: u32) -> io::Result<()> {
     match repeat(rt.alloc(), word, repeats) {
         Ok(seen) => println!(rt; "{seen}"),
         Err(error) => println!(rt; "{error}"),
@@ -24,6 +22,7 @@ pub fn run(rt: &HostRuntime, word: &str, repeats: &str) -> io::Result<()> {
 fn repeat(alloc: Global, word: &str, repeats: u32) -> Result<usize> {
     let users = users(alloc)?;
     let items = items(alloc, users.as_slice())?;
+    let maps = Maps::of(alloc, users.as_slice())?;
     let mut seen: usize = 0;
     for _ in 0..repeats {
         let count = match word {
@@ -33,6 +32,9 @@ fn repeat(alloc: Global, word: &str, repeats: u32) -> Result<usize> {
             "clone" => copied(&items)?,
             "from_item" => read(alloc, items.clone()?)?,
             "from_items" => read_all(alloc, items.clone()?)?,
+            "to_item_by_hand" => by_hand::written(alloc, users.as_slice())?,
+            "clone_by_hand" => by_hand::copied(&maps)?,
+            "from_item_by_hand" => by_hand::read(alloc, &maps)?,
             _nothing => 0,
         };
         seen = seen.wrapping_add(count);
