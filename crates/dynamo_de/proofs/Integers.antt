@@ -7,7 +7,7 @@ use Rattle.dynamo_value.specs.Av as av
 use Rattle.dynamo_value.specs.Fault.{Fault, failed_to_parse_int, expected_num}
 use Rattle.dynamo_value.specs.Integer.{IntegerKind, i8, i16, i32, i64, i128, u8, u16, u32, u64, u128}
 use Rattle.dynamo_de.specs.Answer as answer
-use Rattle.dynamo_de.specs.Answer.{Answer, After, Is, Gives, value_or}
+use Rattle.dynamo_de.specs.Answer.{Is, Gives, value_or}
 use Rattle.dynamo_de.specs.Meets.{Meets}
 use Rattle.dynamo_de.specs.Number.{parse, in_range, is_numeral, is_signed, fits}
 use Rattle.dynamo_de.specs.Reading.{read_integer}

@@ -2,7 +2,6 @@
 use Rattle.std.proofs.Common.{◌≡◌, ℕ, List, [], ◌∷◌, map, false, refl}
 use Rattle.serde_json.specs.Written.{has_float, items_have_float, members_have_float}
 use Rattle.dynamo_value.specs.Av as av
-use Rattle.dynamo_value.specs.Av.{Av}
 use Rattle.dynamo_value.specs.Base64.{base64_text}
 use Rattle.dynamo_json.specs.Json.{elements_json, members_json, strings}
 use Rattle.dynamo_json.specs.Laws.{WritesNoFloat, WritesItemsWithoutFloat}

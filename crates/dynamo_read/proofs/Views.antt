@@ -1,5 +1,5 @@
 -- What stands in a map or a list, and how much of it there is.
-use Rattle.std.proofs.Common.{◌≡◌, ℕ, List, [], ◌∷◌, length, map, Global, Vec, suc, refl, ap, ◌∙◌}
+use Rattle.std.proofs.Common.{◌≡◌, List, [], ◌∷◌, length, map, Global, Vec, suc, refl, ap, ◌∙◌}
 use Rattle.dynamo_value.proofs.Views.{view_list, view_map}
 use Rattle.dynamo_value.specs.Av as av
 use Rattle.dynamo_value.specs.Av.{members_of}
@@ -9,7 +9,7 @@ use Rattle.dynamo_value.specs.View.{view, elements_view}
 use Rattle.dynamo_value.specs.declared.attribute_value.AttributeValue.{AttributeValue, L, M}
 use Rattle.dynamo_de.specs.Answer as answer
 use Rattle.dynamo_de.specs.Reading.{read_elements}
-use Rattle.dynamo_de.specs.Source.{Source, Entry, attribute, entries_of, values_of}
+use Rattle.dynamo_de.specs.Source.{Entry, attribute, entries_of, values_of}
 
 -- the entries of the members that entries make
 pub entries_of_members : (es : List Entry) → entries_of (members_of es) ≡ es

@@ -4,7 +4,7 @@ use Rattle.std.specs.Prelude.{Bool, ◌&&◌, ◌||◌, not, bytes_eq, if◌then
 use Rattle.std.proofs.lemmas.Bool.{true≢false}
 use Rattle.dynamo_value.specs.Fault.{Fault}
 use Rattle.dynamo_ser.specs.Datum as datum
-use Rattle.dynamo_ser.specs.Datum.{Datum, Fields}
+use Rattle.dynamo_ser.specs.Datum.{Datum}
 use Rattle.dynamo_de.specs.Answer as answer
 use Rattle.dynamo_de.specs.Answer.{Answer, After, value_or}
 use Rattle.dynamo_value.specs.Steps.{◌>>=◌}

@@ -2,7 +2,7 @@
 use Rattle.std.proofs.Common.{[], Result, refl, sym, ap, subst}
 use Rattle.dynamo_value.specs.Fault.{Fault}
 use Rattle.dynamo_ser.specs.Datum as datum
-use Rattle.dynamo_ser.specs.Datum.{Datum, elements_of}
+use Rattle.dynamo_ser.specs.Datum.{elements_of}
 use Rattle.dynamo_de.specs.Answer.{After}
 use Rattle.dynamo_value.specs.Steps.{◌>>=◌}
 use Rattle.dynamo_de.specs.Reading.{read_elements}

@@ -3,7 +3,7 @@ use Rattle.std.proofs.Common.{[], Option, Some, None, Result, Ok, Err, refl, sym
 use Rattle.dynamo_value.specs.Av as av
 use Rattle.dynamo_value.specs.Fault.{Fault}
 use Rattle.dynamo_ser.specs.Datum as datum
-use Rattle.dynamo_ser.specs.Datum.{Datum, Fields, Variant}
+use Rattle.dynamo_ser.specs.Datum.{Fields, Variant}
 use Rattle.dynamo_de.specs.Access.{OfContent}
 use Rattle.dynamo_de.specs.Answer as answer
 use Rattle.dynamo_de.specs.Answer.{Answer, After}

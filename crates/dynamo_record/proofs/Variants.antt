@@ -11,7 +11,7 @@ use Rattle.dynamo_ser.specs.Datum as datum
 use Rattle.dynamo_ser.specs.Datum.{Datum}
 use Rattle.dynamo_de.specs.Access.{ReadsVariant}
 use Rattle.dynamo_de.specs.Answer as answer
-use Rattle.dynamo_de.specs.Answer.{Answer, After}
+use Rattle.dynamo_de.specs.Answer.{After}
 use Rattle.dynamo_de.specs.Reading.{read_variant, read_identifier}
 use Rattle.dynamo_de.specs.Meets.{Meets}
 use Rattle.dynamo_de.specs.Source.{Source, Text}

@@ -2,13 +2,12 @@
 use Rattle.std.specs.Prelude.{[], ◌∷◌, ⊤}
 use Rattle.std.proofs.Common.{refl, sym, ap, subst}
 use Rattle.dynamo_ser.specs.Datum as datum
-use Rattle.dynamo_ser.specs.Datum.{Datum, Fields, Elements, elements_of}
+use Rattle.dynamo_ser.specs.Datum.{Datum, Fields}
 use Rattle.dynamo_de.specs.Source.{Text}
 use Rattle.dynamo_shape.specs.Conforms.{conforms, conform_fields}
 use Rattle.dynamo_shape.specs.Laws.{IsToldByValue, ToldAlike}
 use Rattle.dynamo_shape.specs.Same.{Same, SameFields}
 use Rattle.dynamo_shape.specs.Shape as shape
-use Rattle.dynamo_shape.specs.Shape.{Shape, FieldShapes}
 use Rattle.dynamo_record.specs.Fields.{ConformEach, SameData, Defaults, other_defaults, field_shapes, named_fields}
 use Rattle.dynamo_record.specs.Listed.{Shapes, Data}
 use Rattle.dynamo_record.specs.Names.{Names, other_names}

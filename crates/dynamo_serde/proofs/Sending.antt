@@ -8,7 +8,7 @@ use Rattle.std.specs.String.{string_eq}
 use Rattle.serde.specs.Event.{Log, Logs, field_key, seq_begins, seq_ends, map_begins, map_ends}
 use Rattle.serde.specs.declared.name.Case.TheVariants.{AsIs}
 use Rattle.dynamo_value.specs.Av as av
-use Rattle.dynamo_value.specs.Av.{Av, Elements, elements_of, members_of}
+use Rattle.dynamo_value.specs.Av.{Av, elements_of, members_of}
 use Rattle.dynamo_value.specs.View.{view, text_cmp, elements_view, entries_view, members_view}
 use Rattle.dynamo_value.specs.declared.attribute_value.AttributeValue.{AttributeValue}
 use Rattle.dynamo_value.proofs.Members.{Entry, apart, entries-push}

@@ -1,10 +1,10 @@
 -- The events of serde's own impls: those of the datum that the library's own impl tells for the same value.
 use Rattle.std.proofs.Common.{◌≡◌, arith, List, [], ◌∷◌, ◌++◌, map, length, Option, Some, None, refl, sym, ap, ◌∙◌, subst, append_assoc, append-nil}
 use Rattle.serde.specs.Event as event
-use Rattle.serde.specs.Event.{Event, Log, WritesEach, WritesSeq, WritesOption, WritesEntry, WritesMap}
+use Rattle.serde.specs.Event.{Event, Log, WritesEach, WritesSeq, WritesOption}
 use Rattle.dynamo_value.specs.Av.{Av}
 use Rattle.dynamo_ser.specs.Datum as datum
-use Rattle.dynamo_ser.specs.Datum.{Datum, elements_of, pairs_of}
+use Rattle.dynamo_ser.specs.Datum.{Datum, elements_of}
 use Rattle.dynamo_write.specs.Written.{written}
 use Rattle.std.specs.Prelude.{Ok}
 use Rattle.dynamo_serde.specs.Sent.{IsValueOf}

@@ -7,7 +7,7 @@ use Rattle.serde.specs.Spelling.{spelled}
 use Rattle.serde.specs.declared.name.Case.TheVariants.{AsIs}
 use Rattle.serde.specs.declared.name.NameKind.TheVariants.{Field}
 use Rattle.dynamo_value.specs.Av as av
-use Rattle.dynamo_value.specs.Av.{Av, Members, Elements, elements_of, members_of}
+use Rattle.dynamo_value.specs.Av.{Av, Members, Elements, elements_of}
 use Rattle.dynamo_value.specs.Steps.{◌>>=◌}
 use Rattle.dynamo_value.specs.View.{text_cmp}
 use Rattle.dynamo_ser.specs.Symbols.{SetKind, strings, numbers, blobs}

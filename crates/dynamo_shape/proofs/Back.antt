@@ -13,7 +13,7 @@ use Rattle.dynamo_value.specs.Av as av
 use Rattle.dynamo_ser.specs.Datum as datum
 use Rattle.dynamo_de.specs.Answer.{Answer, value}
 use Rattle.dynamo_de.specs.Source.{attribute, Text, Source, values_of}
-use Rattle.dynamo_ser.specs.Datum.{Variant, Datum, Pairs, no_pairs, pair, Fields, no_fields, field}
+use Rattle.dynamo_ser.specs.Datum.{Variant, Datum, Fields}
 use Rattle.dynamo_shape.specs.Clear.{is_variant, NearlyClear, NearlyClearAll, NearlyClearFields, NearlyClearContent, NearlyClearVariants}
 use Rattle.dynamo_shape.specs.Conforms.{AllElements, conforms, conform_each, conform_fields, conforms_content, conforms_variant}
 use Rattle.dynamo_shape.specs.Kept.{is_null, kept, kept_elements}

@@ -5,7 +5,7 @@ use Rattle.dynamo_shape.proofs.Sets.{symbol_kind}
 use Rattle.dynamo_ser.specs.Datum as datum
 use Rattle.dynamo_write.specs.Set as sets
 use Rattle.dynamo_de.specs.Source.{Text}
-use Rattle.dynamo_ser.specs.Datum.{Datum, Pairs, no_pairs, pair, Fields, no_fields, field, Variant}
+use Rattle.dynamo_ser.specs.Datum.{Datum, Pairs, no_pairs, pair, Fields, field, Variant}
 use Rattle.dynamo_ser.specs.Symbols.{SetKind, strings, numbers, blobs, symbol}
 use Rattle.dynamo_shape.specs.Clear.{IsElement, NearlyClear, NearlyClearAll, NearlyClearFields, NearlyClearContent, NearlyClearVariants, NoneNested, NoneNestedAll, NoneNestedFields, NoneNestedContent, NoneNestedVariants, Nullable, Clear}
 use Rattle.dynamo_shape.specs.Conforms.{AllElements, AllPairs, conforms, conform_each, conform_fields, conforms_content, conforms_variant}

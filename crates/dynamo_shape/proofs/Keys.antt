@@ -9,7 +9,7 @@ use Rattle.dynamo_ser.specs.Datum as datum
 use Rattle.dynamo_de.specs.Answer.{value}
 use Rattle.dynamo_de.specs.Source as source
 use Rattle.dynamo_de.specs.Source.{Text}
-use Rattle.dynamo_ser.specs.Datum.{Variant, Datum}
+use Rattle.dynamo_ser.specs.Datum.{Datum}
 use Rattle.dynamo_ser.specs.Key.{key_text, bool_text}
 use Rattle.dynamo_shape.specs.Clear.{IsKey, AreUnits, is_variant}
 use Rattle.dynamo_shape.specs.Conforms.{conforms, conforms_variant}

@@ -6,10 +6,10 @@ use Rattle.dynamo_value.specs.Av as av
 use Rattle.dynamo_ser.specs.Datum as datum
 use Rattle.dynamo_de.specs.Answer.{value, fault, refused}
 use Rattle.dynamo_de.specs.Source.{Text, attribute}
-use Rattle.dynamo_ser.specs.Datum.{Variant, Datum, Pairs, no_pairs, pair, Fields, no_fields, field}
+use Rattle.dynamo_ser.specs.Datum.{Variant, Datum, no_pairs, pair, no_fields, field}
 use Rattle.dynamo_shape.specs.Read.{read}
 use Rattle.dynamo_shape.specs.Shape.{Shape, boolean, char, string, unit, integer, option, newtype, list, tuple, map, struct, enum, no_shapes, shape, no_field_shapes, field_shape, nothing, one, several, named, no_variants, variant}
-use Rattle.dynamo_value.specs.Av.{Av, N, S, B, Boolean, Null, Ss, Ns, Bs, L, M, Members, no_members, member}
+use Rattle.dynamo_value.specs.Av.{Av, N, S, Null, Ss, Ns, L, M, no_members, member}
 use Rattle.dynamo_value.specs.Fault.{failed_to_parse_int, failed_to_parse_float, expected_num, expected_map, expected_string, expected_unit, expected_enum, expected_char, expected_seq, expected_single_key}
 use Rattle.dynamo_value.specs.Integer.{i64, i128, u8, u64, u128}
 

@@ -20,7 +20,7 @@ use Rattle.dynamo_shape.specs.Read.{read_list, read}
 use Rattle.dynamo_shape.specs.ReadsBack.{ReadsBack}
 use Rattle.dynamo_shape.specs.Same.{Same, SameElements}
 use Rattle.dynamo_shape.specs.Shape.{Shape, char, string, bytes, integer, set, enum}
-use Rattle.dynamo_value.specs.Av.{Av, N, S, B, L}
+use Rattle.dynamo_value.specs.Av.{Av, N, S, B}
 use Rattle.dynamo_write.specs.Set.{set_kind, set_of, set_element, set_elements}
 use Rattle.dynamo_write.specs.Written.{written, written_elements}
 

@@ -11,7 +11,7 @@ use Rattle.dynamo_shape.proofs.Equivalence.{same_sym, same_trans}
 use Rattle.dynamo_shape.proofs.Same.{Distinct, WellKeyed, WellKeyedAll, WellKeyedPairs, WellKeyedFields, enc_flat, pairs_flat, same_enc}
 use Rattle.dynamo_ser.specs.Datum as datum
 use Rattle.dynamo_de.specs.Source.{Text, attribute}
-use Rattle.dynamo_ser.specs.Datum.{Datum, Pairs, no_pairs, pair, Fields, no_fields, field, Variant}
+use Rattle.dynamo_ser.specs.Datum.{Datum, Pairs, no_pairs, pair, Fields, Variant}
 use Rattle.dynamo_ser.specs.Symbols.{SetKind, strings, numbers, blobs}
 use Rattle.dynamo_shape.specs.Clear.{IsElement, AreUnits, NearlyClear, NearlyClearAll, NearlyClearFields, NearlyClearContent, NearlyClearVariants}
 use Rattle.dynamo_shape.specs.Conforms.{AllElements, AllPairs, conforms, conform_each, conform_fields, conforms_content, conforms_variant}

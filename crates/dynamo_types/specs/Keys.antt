@@ -1,6 +1,6 @@
 -- What is known of the values of a type that can be keys of maps, and of the maps.
-use Rattle.std.specs.Prelude.{◌≡◌, ℕ, ℤ, pos, Bool, true, false, List, map, Option, Result, nat_eq, String, string_bytes}
-use Rattle.std.proofs.Common.{refl, sym, ap, subst, ◌∙◌}
+use Rattle.std.specs.Prelude.{◌≡◌, ℕ, ℤ, Bool, true, false, List, map, Option, Result, nat_eq, String, string_bytes}
+use Rattle.std.proofs.Common.{refl, sym, subst}
 use Rattle.std.specs.declared.alloc.Global.{Global}
 use Rattle.std.specs.declared.cmp.Ordering.{Ordering}
 use Rattle.std.specs.Bool.{beq}

@@ -1,5 +1,5 @@
 -- What the keys of a table in a database are, and which items it refuses.
-use Rattle.std.specs.Prelude.{◌≡◌, ⊤, Result, Ok, Err, MatchResult}
+use Rattle.std.specs.Prelude.{◌≡◌, ⊤, Result, Err, MatchResult}
 use Rattle.dynamo_value.specs.declared.item.Item.{Item}
 use Rattle.table_key.specs.KeyOf.{ReadsKey}
 use Rattle.table_key.specs.declared.error.TableError.{TableError}

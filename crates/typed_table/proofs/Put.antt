@@ -1,5 +1,5 @@
 -- What a table has after an item was put.
-use Rattle.std.proofs.Common.{◌≡◌, ◌≢◌, ◌⊎◌, ◌∙◌, Option, Some, None, Result, Ok, Err, Ordering, Less, Equal, Greater, false, refl, sym, ap, subst, inl, inr, MatchResult}
+use Rattle.std.proofs.Common.{◌≡◌, ◌≢◌, ◌⊎◌, ◌∙◌, Option, Some, Result, Ok, Err, Ordering, Less, Equal, Greater, false, refl, sym, ap, subst, inl, inr, MatchResult}
 use Rattle.std.specs.Prelude.{cond, is_some}
 use Rattle.std.specs.BTreeMap.{get}
 use Rattle.std.specs.Bool.{MatchBool}

@@ -1,5 +1,5 @@
 -- What is read of the item of a value.
-use Rattle.std.proofs.Common.{◌≡◌, ◌∙◌, Result, Ok, Err, sym, ap, subst}
+use Rattle.std.proofs.Common.{◌≡◌, Result, Ok, Err, sym, ap, subst}
 use Rattle.dynamo_value.specs.Av as av
 use Rattle.dynamo_value.specs.Av.{Av, Members}
 use Rattle.dynamo_value.specs.Fault.{Fault}

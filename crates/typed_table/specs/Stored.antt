@@ -1,5 +1,5 @@
 -- What a table of one type holds: the items of its values, under their keys.
-use Rattle.std.specs.Prelude.{◌≡◌, ◌⊎◌, ⊤, List, [], ◌∷◌, Option, Some, None, Result, Ok, Err, MatchOption, MatchResult}
+use Rattle.std.specs.Prelude.{◌≡◌, ◌⊎◌, ⊤, List, [], ◌∷◌, Option, Some, None, Result, Ok, Err}
 use Rattle.std.specs.BTreeMap.{get}
 use Rattle.dynamo_value.specs.Av as av
 use Rattle.dynamo_value.specs.Fault.{Fault, out_of_memory}
@@ -8,7 +8,6 @@ use Rattle.dynamo_value.specs.Kind.{fault_of}
 use Rattle.dynamo_value.specs.declared.error.Error.{Error}
 use Rattle.dynamo_value.specs.declared.item.Item.{Item}
 use Rattle.dynamo_ser.specs.Datum.{Datum}
-use Rattle.dynamo_de.specs.Meets.{Meets}
 use Rattle.dynamo_de.specs.Source.{Source, attribute}
 use Rattle.dynamo_write.specs.Written.{item_written}
 use Rattle.dynamo_shape.specs.Conforms.{conforms}

@@ -1,6 +1,5 @@
-use Rattle.std.proofs.Common.{◌≡◌, ◌≢◌, Err, inl, inr}
+use Rattle.std.proofs.Common.{inl, inr}
 use Rattle.std.proofs.lemmas.Result.{err_from_is_err_and}
-use Rattle.memory_table.specs.Content.{schema_of}
 use Rattle.typed_table.proofs.Put.{put_elsewhere, put_refused, put_under}
 use Rattle.typed_table.proofs.table.TypedTable.put.Goals as goal
 
