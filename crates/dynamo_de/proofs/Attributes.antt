@@ -3,8 +3,9 @@ use Rattle.std.proofs.Common.{◌≡◌, ◌⊎◌, ℕ, suc, ◌≤◌, true, f
 use Rattle.std.specs.Prelude.{is_some, OnOk}
 use Rattle.std.specs.Result.{is_err}
 use Rattle.std.specs.FinMap.Entries.{put}
-use Rattle.dynamo_value.specs.View.{text_cmp, view}
-use Rattle.dynamo_value.specs.declared.attribute_value.AttributeValue.{AttributeValue}
+use Rattle.dynamo_value.specs.Table.{Table}
+use Rattle.dynamo_value.specs.View.{text_cmp, view, members_view}
+use Rattle.dynamo_value.specs.declared.attribute_value.AttributeValue.{AttributeValue, L, M}
 use Rattle.dynamo_value.specs.Av as av
 use Rattle.dynamo_value.specs.Av.{Av, elements_of}
 use Rattle.dynamo_value.specs.Base64.{bytes_of_base64}
@@ -15,13 +16,14 @@ use Rattle.dynamo_value.specs.PrefixView.{prefix_view}
 use Rattle.dynamo_value.specs.declared.prefix.Prefix as declared
 use Rattle.dynamo_value.specs.Refusal.{Refused, refusal_in}
 use Rattle.dynamo_value.specs.SingleKey.{several_keys, unknown_key, known}
+use Rattle.dynamo_value.proofs.Views.{view_list, view_map}
 use Rattle.dynamo_de.specs.Answer.{Answer, Gives, After}
 use Rattle.dynamo_de.specs.Ignored.{source_height, sources_height, entries_height}
 use Rattle.dynamo_de.specs.Promises.{Reading, promised, refuse, Agrees}
 use Rattle.dynamo_value.specs.Steps.{◌>>=◌}
-use Rattle.dynamo_de.specs.ReadAttribute.{read_attribute, read_content, read_elements, read_members, read_none, own_refusals, own_refusals_in, refusals_of, attribute_from, entry_in, entry_from, item_from, content_from, read_each, read_entries, read_text, read_texts, read_blob, read_blobs, no_map, refusal_of}
+use Rattle.dynamo_de.specs.ReadAttribute.{read_attribute, read_content, read_elements, read_members, read_none, own_refusals, own_refusals_in, refusals_of, Opened, whole, in_map, in_list, attribute_from, entry_in, entry_from, opened_from, content_opened, read_opened, item_from, read_each, read_entries, read_text, read_texts, read_blob, read_blobs, no_map, refusal_of}
 use Rattle.dynamo_de.specs.Reading as reading
-use Rattle.dynamo_de.specs.Reading.{taken, read_string}
+use Rattle.dynamo_de.specs.Reading.{taken, read_string, read_bool}
 use Rattle.dynamo_de.specs.Reads.{ReadsEach, ReadsList}
 use Rattle.dynamo_de.specs.Shows.{TakesEntry}
 use Rattle.dynamo_de.specs.Source.{Source, attribute, key_text, number_text, plain_text, byte_string, Entry, entries_of, values_of, each}
@@ -82,13 +84,22 @@ unfolding as_list as_elements
 listed (Ok values) = refl
 listed (Err rs) = refl
 
-pub content_same : (p : Prefix) (a : Av) → read_content p a ≡ content_from p (attribute a)
+in_two : {A B C : Type 0} (x : Reading A) (f : A → Reading B) (g : B → Reading C) → ((x >>= f) >>= g) ≡ (x >>= λ y. f y >>= g)
+in_two (Ok y) f g = refl
+in_two (Err rs) f g = refl
+
+-- what is opened whole is the value
+in_whole : {A : Type 0} (x : Reading A) (f : A → Av) → (x >>= λ y. Ok (f y)) ≡ ((x >>= λ y. Ok (whole (f y))) >>= read_opened)
+in_whole (Ok y) f = refl
+in_whole (Err rs) f = refl
+
+content_same : (p : Prefix) (a : Av) → read_content p a ≡ (content_opened p (attribute a) >>= read_opened)
 unfolding as_list
-content_same prefix.N a = refl
-content_same prefix.S a = refl
-content_same prefix.Bool a = refl
-content_same prefix.B a = refl
-content_same prefix.Null a = refl
+content_same prefix.N a = in_whole (read_text (attribute a)) av.N
+content_same prefix.S a = in_whole (read_text (attribute a)) av.S
+content_same prefix.Bool a = in_whole (promised (read_bool (attribute a))) av.Boolean
+content_same prefix.B a = in_whole (read_blob (attribute a)) av.B
+content_same prefix.Null a = in_whole (promised (read_bool (attribute a))) av.Null
 content_same prefix.M (av.M ms) = ap (λ x. x >>= λ members. Ok (av.M members)) (members_same [] ms)
 content_same prefix.M _ = refl
 content_same prefix.L (av.L as') = ap as_list (elements_same as') ∙ listed _
@@ -96,30 +107,34 @@ content_same prefix.L (av.Ss ts) = ap as_list (none_same plain_text (λ t. refl)
 content_same prefix.L (av.Ns ts) = ap as_list (none_same number_text (λ t. refl) ts) ∙ listed _
 content_same prefix.L (av.Bs ts) = ap as_list (none_same byte_string (λ t. refl) ts) ∙ listed _
 content_same prefix.L _ = refl
-content_same prefix.Ss a = refl
-content_same prefix.Ns a = refl
-content_same prefix.Bs a = refl
-
-in_two : {A B C : Type 0} (x : Reading A) (f : A → Reading B) (g : B → Reading C) → ((x >>= f) >>= g) ≡ (x >>= λ y. f y >>= g)
-in_two (Ok y) f g = refl
-in_two (Err rs) f g = refl
+content_same prefix.Ss a = in_whole (read_texts (attribute a)) av.Ss
+content_same prefix.Ns a = in_whole (read_texts (attribute a)) av.Ns
+content_same prefix.Bs a = in_whole (read_blobs (attribute a)) av.Bs
 
 abbrev entry_under : Source → Prefix → Reading (Prefix × Source)
 entry_under content p = Ok (p, content)
 
-pub attribute_as_entry : (s : Source) → attribute_from s ≡ (entry_from s >>= λ e. content_from e.0 e.1)
-attribute_as_entry (attribute (av.M av.no_members)) = refl
-attribute_as_entry (attribute (av.M (av.member key a av.no_members))) = one (known key)
+abbrev under_prefix : Prefix × Source → Reading Opened
+under_prefix e = content_opened e.0 e.1
+
+pub attribute_opened : (s : Source) → attribute_from s ≡ (opened_from s >>= read_opened)
+attribute_opened (attribute (av.M av.no_members)) = refl
+attribute_opened (attribute (av.M (av.member key a av.no_members))) = one (known key)
   where
-    one : (x : Answer Prefix) → (promised x >>= λ p. read_content p a) ≡ ((promised x >>= entry_under (attribute a)) >>= λ e. content_from e.0 e.1)
+    one : (x : Answer Prefix) → (promised x >>= λ p. read_content p a) ≡ (((promised x >>= entry_under (attribute a)) >>= under_prefix) >>= read_opened)
     one (Ok p) = content_same p a
     one (Err r) = refl
-attribute_as_entry (attribute (av.M (av.member key a (av.member other b ms)))) = ap (λ rs. Err (several_keys ∷ rs)) (own_same (av.member key a (av.member other b ms)))
-attribute_as_entry (attribute _) = refl
-attribute_as_entry (key_text t) = refl
-attribute_as_entry (number_text t) = unknown_map t (λ es. entry_in es >>= λ e. content_from e.0 e.1) ∙ sym (in_two (promised (reading.read_entries (number_text t))) entry_in (λ e. content_from e.0 e.1))
-attribute_as_entry (plain_text t) = refl
-attribute_as_entry (byte_string bytes) = refl
+attribute_opened (attribute (av.M (av.member key a (av.member other b ms)))) = ap (λ rs. Err (several_keys ∷ rs)) (own_same (av.member key a (av.member other b ms)))
+attribute_opened (attribute _) = refl
+attribute_opened (key_text t) = refl
+attribute_opened (number_text t) =
+    unknown_map t (λ es. (entry_in es >>= under_prefix) >>= read_opened) ∙ sym (in_three (promised (reading.read_entries (number_text t))))
+  where
+    in_three : (x : Reading (List Entry)) → (((x >>= entry_in) >>= under_prefix) >>= read_opened) ≡ (x >>= λ es. (entry_in es >>= under_prefix) >>= read_opened)
+    in_three (Ok es) = refl
+    in_three (Err rs) = refl
+attribute_opened (plain_text t) = refl
+attribute_opened (byte_string bytes) = refl
 
 -- ---- how deep it goes
 
@@ -151,20 +166,53 @@ elements_lower elements s l h = below s (value_answered elements (reading.read_e
     below (plain_text t) e = cc
     below (byte_string bytes) e = cc
 
--- what stands under the prefix nests less deep than the whole
-pub entry_lower : {V : Type 0} (seen : V → Prefix × Source) (s : Source) (v : V) → Agrees seen (entry_from s) (Ok v) → suc (source_height (seen v).1) ≤ source_height s
-entry_lower seen s v h = below (reading.read_entries s) (λ es is. entries_lower (λ es. es) s es (subst (λ x. Gives (λ es. es) x (Ok es)) (sym is) refl)) (value_read seen (entry_from s) v h)
+-- how deep what isn't read yet goes
+abbrev pub opened_height : Opened → ℕ
+opened_height (whole a) = 0
+opened_height (in_map es) = entries_height es
+opened_height (in_list ss) = sources_height ss
+
+-- it nests less deep than the whole
+pub opened_lower : {V : Type 0} (seen : V → Opened) (s : Source) (v : V) → Agrees seen (opened_from s) (Ok v) → suc (opened_height (seen v)) ≤ source_height s
+opened_lower seen s v h = below (reading.read_entries s) (λ es is. entries_lower (λ es. es) s es (subst (λ x. Gives (λ es. es) x (Ok es)) (sym is) refl)) (value_read seen (opened_from s) v h)
   where
-    alone : (es : List Entry) → entry_in es ≡ Ok (seen v) → suc (entries_height es) ≤ source_height s → suc (source_height (seen v).1) ≤ source_height s
+    flat_value : {A : Type 0} (x : Reading A) (f : A → Av) → (x >>= λ y. Ok (whole (f y))) ≡ Ok (seen v) → opened_height (seen v) ≡ 0
+    flat_value (Ok y) f is = let same : whole (f y) ≡ seen v = cc in ap opened_height (sym same)
+    flat_value (Err rs) f is = cc
+
+    flat_content : (c : Source) → opened_height (seen v) ≡ 0 → opened_height (seen v) ≤ source_height c
+    flat_content c none = rw none (omega arith)
+
+    content_lower : (p : Prefix) (c : Source) → content_opened p c ≡ Ok (seen v) → opened_height (seen v) ≤ source_height c
+    content_lower prefix.N c is = flat_content c (flat_value (read_text c) av.N is)
+    content_lower prefix.S c is = flat_content c (flat_value (read_text c) av.S is)
+    content_lower prefix.Bool c is = flat_content c (flat_value (promised (read_bool c)) av.Boolean is)
+    content_lower prefix.B c is = flat_content c (flat_value (read_blob c) av.B is)
+    content_lower prefix.Null c is = flat_content c (flat_value (promised (read_bool c)) av.Null is)
+    content_lower prefix.M c is = of_map (reading.read_entries c) (λ es same. entries_lower (λ es. es) c es (subst (λ x. Gives (λ es. es) x (Ok es)) (sym same) refl)) is
+      where
+        of_map : (x : Answer (List Entry)) → ((es : List Entry) → x ≡ Ok es → suc (entries_height es) ≤ source_height c) → (promised x >>= λ es. Ok (in_map es)) ≡ Ok (seen v) → opened_height (seen v) ≤ source_height c
+        of_map (Ok es) high is = let same : in_map es ≡ seen v = cc in rw (← same) (omega (arith, high es refl))
+        of_map (Err r) high is = cc
+    content_lower prefix.L c is = of_list (reading.read_elements c) (λ ss same. elements_lower (λ ss. ss) c ss (subst (λ x. Gives (λ ss. ss) x (Ok ss)) (sym same) refl)) is
+      where
+        of_list : (x : Answer (List Source)) → ((ss : List Source) → x ≡ Ok ss → suc (sources_height ss) ≤ source_height c) → (promised x >>= λ ss. Ok (in_list ss)) ≡ Ok (seen v) → opened_height (seen v) ≤ source_height c
+        of_list (Ok ss) high is = let same : in_list ss ≡ seen v = cc in rw (← same) (omega (arith, high ss refl))
+        of_list (Err r) high is = cc
+    content_lower prefix.Ss c is = flat_content c (flat_value (read_texts c) av.Ss is)
+    content_lower prefix.Ns c is = flat_content c (flat_value (read_texts c) av.Ns is)
+    content_lower prefix.Bs c is = flat_content c (flat_value (read_blobs c) av.Bs is)
+
+    alone : (es : List Entry) → (entry_in es >>= under_prefix) ≡ Ok (seen v) → suc (entries_height es) ≤ source_height s → suc (opened_height (seen v)) ≤ source_height s
     alone [] is high = cc
     alone (e ∷ []) is high = under (known e.0) is
       where
-        under : (x : Answer Prefix) → (promised x >>= entry_under (attribute e.1)) ≡ Ok (seen v) → suc (source_height (seen v).1) ≤ source_height s
-        under (Ok p) is = let same : attribute e.1 ≡ (seen v).1 = cc in rw (← same) (omega (arith, high))
+        under : (x : Answer Prefix) → ((promised x >>= entry_under (attribute e.1)) >>= under_prefix) ≡ Ok (seen v) → suc (opened_height (seen v)) ≤ source_height s
+        under (Ok p) is = omega (arith, high, content_lower p (attribute e.1) is)
         under (Err r) is = cc
     alone (e ∷ f ∷ es) is high = cc
 
-    below : (x : Answer (List Entry)) → ((es : List Entry) → x ≡ Ok es → suc (entries_height es) ≤ source_height s) → (promised x >>= entry_in) ≡ Ok (seen v) → suc (source_height (seen v).1) ≤ source_height s
+    below : (x : Answer (List Entry)) → ((es : List Entry) → x ≡ Ok es → suc (entries_height es) ≤ source_height s) → ((promised x >>= entry_in) >>= under_prefix) ≡ Ok (seen v) → suc (opened_height (seen v)) ≤ source_height s
     below (Ok es) high is = alone es is (high es refl)
     below (Err r) high is = cc
 
@@ -210,13 +258,47 @@ entry_seen source e = (prefix_view e.0, source e.1)
 pub none_entered : {M V : Type 0} (entries : M → List Entry) (seen : V → Prefix × Source) (s : Source) (f : Fault) → (f ≡ out_of_memory) ⊎ Gives entries (reading.read_entries s) (Err f) → (f ≡ out_of_memory) ⊎ Agrees seen (entry_from s) (Err f)
 none_entered entries seen s f h = answer_stops entries seen entry_in (reading.read_entries s) f h
 
--- the whole is what stands under the prefix
-pub entry_is : {V : Type 0} (seen : V → Prefix × Source) (s : Source) (v : V) → Agrees seen (entry_from s) (Ok v) → attribute_from s ≡ content_from (seen v).0 (seen v).1
-entry_is seen s v is = attribute_as_entry s ∙ ap (λ x. x >>= λ e. content_from e.0 e.1) (value_read seen (entry_from s) v is)
+-- what the prefix opens is what the whole opens
+pub entry_opens : {V : Type 0} (seen : V → Prefix × Source) (s : Source) (v : V) → Agrees seen (entry_from s) (Ok v) → opened_from s ≡ content_opened (seen v).0 (seen v).1
+entry_opens seen s v is = ap (λ x. x >>= under_prefix) (value_read seen (entry_from s) v is)
 
-pub entry_stops : {V : Type 0} (seen : V → Prefix × Source) (s : Source) (f : Fault) → (f ≡ out_of_memory) ⊎ Agrees seen (entry_from s) (Err f) → (f ≡ out_of_memory) ⊎ Agrees view (attribute_from s) (Err f)
-entry_stops seen s f (inl lacks) = inl lacks
-entry_stops seen s f (inr h) = inr (subst (λ x. Agrees view x (Err f)) (sym (attribute_as_entry s)) (stops seen view (λ e. content_from e.0 e.1) (entry_from s) f h))
+pub entry_stops : {V W : Type 0} (seen : V → Prefix × Source) (then : W → Opened) (s : Source) (f : Fault) → (f ≡ out_of_memory) ⊎ Agrees seen (entry_from s) (Err f) → (f ≡ out_of_memory) ⊎ Agrees then (opened_from s) (Err f)
+entry_stops seen then s f (inl lacks) = inl lacks
+entry_stops seen then s f (inr h) = inr (stops seen then under_prefix (entry_from s) f h)
+
+-- what is read of it is what is read of the whole
+pub opened_is : {V : Type 0} (seen : V → Opened) (s : Source) (v : V) → Agrees seen (opened_from s) (Ok v) → attribute_from s ≡ read_opened (seen v)
+opened_is seen s v is = attribute_opened s ∙ ap (λ x. x >>= read_opened) (value_read seen (opened_from s) v is)
+
+pub opened_stops : {V : Type 0} (seen : V → Opened) (s : Source) (f : Fault) → (f ≡ out_of_memory) ⊎ Agrees seen (opened_from s) (Err f) → (f ≡ out_of_memory) ⊎ Agrees view (attribute_from s) (Err f)
+opened_stops seen s f (inl lacks) = inl lacks
+opened_stops seen s f (inr h) = inr (subst (λ x. Agrees view x (Err f)) (sym (attribute_opened s)) (stops seen view read_opened (opened_from s) f h))
+
+pub value_opened : {V : Type 0} (seen : V → Opened) (s : Source) (v : V) (value : AttributeValue) → Agrees seen (opened_from s) (Ok v) → seen v ≡ whole (view value) → Agrees view (attribute_from s) (Ok value)
+value_opened seen s v value is same = value_agrees view (attribute_from s) value (opened_is seen s v is ∙ ap read_opened same)
+
+pub list_opened : {V : Type 0} (seen : V → Opened) (s : Source) (v : V) (ss : List Source) → Agrees seen (opened_from s) (Ok v) → seen v ≡ in_list ss
+    → attribute_from s ≡ (read_each attribute_from ss >>= λ values. Ok (av.L (elements_of values)))
+list_opened seen s v ss is same = opened_is seen s v is ∙ ap read_opened same
+
+pub map_opened : {V : Type 0} (seen : V → Opened) (s : Source) (v : V) (es : List Entry) → Agrees seen (opened_from s) (Ok v) → seen v ≡ in_map es
+    → attribute_from s ≡ (read_entries [] es >>= λ members. Ok (av.M members))
+map_opened seen s v es is same = opened_is seen s v is ∙ ap read_opened same
+
+pub list_given : (ss : List Source) (values : Vec AttributeValue Global) → Agrees (λ (v : Vec AttributeValue Global). map view v.items) (read_each attribute_from ss) (Ok values)
+    → Agrees view (read_each attribute_from ss >>= λ values. Ok (av.L (elements_of values))) (Ok (L values))
+list_given ss values h =
+    value_agrees view _ (L values) (ap (λ x. x >>= λ values. Ok (av.L (elements_of values))) (value_read (λ (v : Vec AttributeValue Global). map view v.items) (read_each attribute_from ss) values h) ∙ ap Ok (sym (view_list values)))
+
+pub map_given : (es : List Entry) (m : Table) → Agrees (λ (m : Table). members_view m.entries) (read_entries [] es) (Ok m)
+    → Agrees view (read_entries [] es >>= λ members. Ok (av.M members)) (Ok (M m))
+map_given es m h =
+    value_agrees view _ (M m) (ap (λ x. x >>= λ members. Ok (av.M members)) (value_read (λ (m : Table). members_view m.entries) (read_entries [] es) m h) ∙ ap Ok (sym (view_map m)))
+
+-- the fault of what is read of it is the fault of the whole
+pub inside_stops : {A V : Type 0} (seen : V → A) (next : A → Reading Av) (s : Source) (x : Reading A) (f : Fault) → attribute_from s ≡ (x >>= next) → (f ≡ out_of_memory) ⊎ Agrees seen x (Err f) → (f ≡ out_of_memory) ⊎ Agrees view (attribute_from s) (Err f)
+inside_stops seen next s x f same (inl lacks) = inl lacks
+inside_stops seen next s x f same (inr h) = inr (subst (λ y. Agrees view y (Err f)) (sym same) (stops seen view next x f h))
 
 pub item_stops : {M W : Type 0} (entries : M → List Entry) (tells : W → av.Members) (s : Source) (f : Fault) → (f ≡ out_of_memory) ⊎ Gives entries (reading.read_entries s) (Err f) → (f ≡ out_of_memory) ⊎ Agrees tells (item_from s) (Err f)
 item_stops entries tells s f h = subst (λ x. (f ≡ out_of_memory) ⊎ Agrees tells x (Err f)) (sym (item_as_entries s)) (answer_stops entries tells (read_entries []) (reading.read_entries s) f h)

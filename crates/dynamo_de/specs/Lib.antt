@@ -9,6 +9,7 @@ pub mod Ignored
 pub mod JsonItems
 pub mod Meets
 pub mod Number
+pub mod OpenedView
 pub mod Promises
 pub mod ReadAttribute
 pub mod ReadJson

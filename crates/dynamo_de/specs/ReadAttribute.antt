@@ -129,6 +129,12 @@ abbrev pub own_refusals_in : List Entry → List Refusal
 own_refusals_in [] = []
 own_refusals_in (e ∷ es) = refusals_of (promised (known e.0) >>= λ p. read_content p e.1) ++ own_refusals_in es
 
+-- An attribute value of which all is read but the attribute values that it holds.
+pub data Opened : Type 0 where
+  whole : Av → Opened
+  in_map : List Entry → Opened
+  in_list : List Source → Opened
+
 -- the prefix and the content of the one entry
 abbrev pub entry_in : List Entry → Reading (Prefix × Source)
 entry_in [] = refuse no_key
@@ -138,21 +144,30 @@ entry_in es = Err (several_keys ∷ own_refusals_in es)
 abbrev pub entry_from : Source → Reading (Prefix × Source)
 entry_from s = promised (reading.read_entries s) >>= entry_in
 
+-- what stands under a prefix
+abbrev pub content_opened : Prefix → Source → Reading Opened
+content_opened prefix.N s = read_text s >>= λ text. Ok (whole (av.N text))
+content_opened prefix.S s = read_text s >>= λ text. Ok (whole (av.S text))
+content_opened prefix.Bool s = promised (read_bool s) >>= λ b. Ok (whole (av.Boolean b))
+content_opened prefix.B s = read_blob s >>= λ bytes. Ok (whole (av.B bytes))
+content_opened prefix.Null s = promised (read_bool s) >>= λ b. Ok (whole (av.Null b))
+content_opened prefix.M s = promised (reading.read_entries s) >>= λ es. Ok (in_map es)
+content_opened prefix.L s = promised (reading.read_elements s) >>= λ ss. Ok (in_list ss)
+content_opened prefix.Ss s = read_texts s >>= λ texts. Ok (whole (av.Ss texts))
+content_opened prefix.Ns s = read_texts s >>= λ texts. Ok (whole (av.Ns texts))
+content_opened prefix.Bs s = read_blobs s >>= λ blobs. Ok (whole (av.Bs blobs))
+
+abbrev pub opened_from : Source → Reading Opened
+opened_from s = entry_from s >>= λ e. content_opened e.0 e.1
+
 abbrev pub read_entries : List (List ℕ × Av) → List Entry → Reading av.Members
 read_entries so_far [] = Ok (members_of so_far)
 read_entries so_far (e ∷ es) = do
   value ← read_attribute e.1
   read_entries (put text_cmp e.0 value so_far) es
 
--- what stands under a prefix
-abbrev pub content_from : Prefix → Source → Reading Av
-content_from prefix.N s = read_text s >>= λ text. Ok (av.N text)
-content_from prefix.S s = read_text s >>= λ text. Ok (av.S text)
-content_from prefix.Bool s = promised (read_bool s) >>= λ b. Ok (av.Boolean b)
-content_from prefix.B s = read_blob s >>= λ bytes. Ok (av.B bytes)
-content_from prefix.Null s = promised (read_bool s) >>= λ b. Ok (av.Null b)
-content_from prefix.M s = promised (reading.read_entries s) >>= λ es. read_entries [] es >>= λ members. Ok (av.M members)
-content_from prefix.L s = promised (reading.read_elements s) >>= λ ss. read_each attribute_from ss >>= λ values. Ok (av.L (elements_of values))
-content_from prefix.Ss s = read_texts s >>= λ texts. Ok (av.Ss texts)
-content_from prefix.Ns s = read_texts s >>= λ texts. Ok (av.Ns texts)
-content_from prefix.Bs s = read_blobs s >>= λ blobs. Ok (av.Bs blobs)
+-- then the attribute values that it holds are read
+abbrev pub read_opened : Opened → Reading Av
+read_opened (whole a) = Ok a
+read_opened (in_map es) = read_entries [] es >>= λ members. Ok (av.M members)
+read_opened (in_list ss) = read_each attribute_from ss >>= λ values. Ok (av.L (elements_of values))

@@ -9,8 +9,9 @@ ghost use Rattle.dynamo_value.specs.View.{view, members_view};
 ghost use Rattle.dynamo_de.specs.Answer.{Gives};
 ghost use Rattle.dynamo_de.specs.Reading as reading;
 ghost use Rattle.dynamo_de.specs.Meets.{Meets};
+ghost use Rattle.dynamo_de.specs.OpenedView.{opened_view};
 ghost use Rattle.dynamo_de.specs.Promises.{Agrees};
-ghost use Rattle.dynamo_de.specs.ReadAttribute.{attribute_from, entry_from, item_from, content_from, read_each, read_entries};
+ghost use Rattle.dynamo_de.specs.ReadAttribute.{attribute_from, entry_from, opened_from, item_from, content_opened, read_each, read_entries};
 ghost use Rattle.dynamo_de.specs.ReadAttribute.{read_texts, read_blob, read_blobs};
 
 use crate::visitor::refuse;
@@ -41,14 +42,36 @@ impl Deserialize for Item {
     }
 }
 
-/// Reads an attribute value by the reader's own calls: it holds itself, so no visitor could read it. What is done before the
-/// content is read has functions of its own that aren't inlined, so that none of its readers lies in a frame of each level.
+/// An attribute value of which all is read but the attribute values that it holds.
+#[derive(Drop)]
+enum Opened<L, M> {
+    Whole(AttributeValue),
+    Elements(L),
+    Entries(M),
+}
+
+/// Reads an attribute value by the reader's own calls: it holds itself, so no visitor could read it. It is opened by functions
+/// that aren't inlined, so that no reader lies in the frame of a level.
 #[cycle(read)]
 fn read<R: Reader>(alloc: Global, reader: R) -> Result<AttributeValue, R::Error>
     ensures { Meets R.Error.fault (Agrees view (attribute_from (R.source reader))) result }
 {
+    match open(alloc, reader)? {
+        Opened::Whole(value) => Ok(value),
+        Opened::Elements(elements) => {
+            Ok(AttributeValue::L(read_elements::<R>(alloc, elements)?))
+        }
+        Opened::Entries(entries) => Ok(AttributeValue::M(read_members::<R>(alloc, entries)?)),
+    }
+}
+
+// Opens an attribute value.
+#[inline(never)]
+fn open<R: Reader>(alloc: Global, reader: R) -> Result<Opened<R::Elements, R::Entries>, R::Error>
+    ensures { Meets R.Error.fault (Agrees (opened_view R.elements R.entries) (opened_from (R.source reader))) result }
+{
     let (prefix, content) = read_entry(alloc, reader)?;
-    read_content(alloc, prefix, content)
+    open_content(alloc, prefix, content)
 }
 
 // The prefix of an attribute value, and the reader of what stands under it.
@@ -74,32 +97,29 @@ fn read_entry<R: Reader>(alloc: Global, reader: R) -> Result<(Prefix, R), R::Err
     }
 }
 
-// Reads what stands under a prefix.
-#[cycle(read)]
-fn read_content<R: Reader>(
+// Opens what stands under a prefix.
+fn open_content<R: Reader>(
     alloc: Global,
     prefix: Prefix,
     content: R,
-) -> Result<AttributeValue, R::Error>
-    ensures { Meets R.Error.fault (Agrees view (content_from (prefix_view prefix) (R.source content))) result }
+) -> Result<Opened<R::Elements, R::Entries>, R::Error>
+    ensures { Meets R.Error.fault (Agrees (opened_view R.elements R.entries) (content_opened (prefix_view prefix) (R.source content))) result }
 {
     match prefix {
-        Prefix::N => Ok(AttributeValue::N(String::deserialize(alloc, content)?)),
-        Prefix::S => Ok(AttributeValue::S(String::deserialize(alloc, content)?)),
-        Prefix::Bool => Ok(AttributeValue::Bool(bool::deserialize(alloc, content)?)),
-        Prefix::B => Ok(AttributeValue::B(read_bytes(alloc, content)?)),
-        Prefix::Null => Ok(AttributeValue::Null(bool::deserialize(alloc, content)?)),
-        Prefix::M => {
-            let entries = entries_of(alloc, content, "a map of attribute values")?;
-            Ok(AttributeValue::M(read_members::<R>(alloc, entries)?))
-        }
-        Prefix::L => {
-            let elements = elements_of(alloc, content, "a sequence of attribute values")?;
-            Ok(AttributeValue::L(read_elements::<R>(alloc, elements)?))
-        }
-        Prefix::Ss => Ok(AttributeValue::Ss(read_texts(alloc, content)?)),
-        Prefix::Ns => Ok(AttributeValue::Ns(read_texts(alloc, content)?)),
-        Prefix::Bs => Ok(AttributeValue::Bs(read_blobs(alloc, content)?)),
+        Prefix::N => Ok(Opened::Whole(AttributeValue::N(String::deserialize(alloc, content)?))),
+        Prefix::S => Ok(Opened::Whole(AttributeValue::S(String::deserialize(alloc, content)?))),
+        Prefix::Bool => Ok(Opened::Whole(AttributeValue::Bool(bool::deserialize(alloc, content)?))),
+        Prefix::B => Ok(Opened::Whole(AttributeValue::B(read_bytes(alloc, content)?))),
+        Prefix::Null => Ok(Opened::Whole(AttributeValue::Null(bool::deserialize(alloc, content)?))),
+        Prefix::M => Ok(Opened::Entries(entries_of(alloc, content, "a map of attribute values")?)),
+        Prefix::L => Ok(Opened::Elements(elements_of(
+            alloc,
+            content,
+            "a sequence of attribute values",
+        )?)),
+        Prefix::Ss => Ok(Opened::Whole(AttributeValue::Ss(read_texts(alloc, content)?))),
+        Prefix::Ns => Ok(Opened::Whole(AttributeValue::Ns(read_texts(alloc, content)?))),
+        Prefix::Bs => Ok(Opened::Whole(AttributeValue::Bs(read_blobs(alloc, content)?))),
     }
 }
 

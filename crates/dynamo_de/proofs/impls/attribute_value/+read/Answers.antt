@@ -1,78 +1,83 @@
-use Rattle.std.proofs.Common.{rules, ◌+◌, ◌*◌, ◌<◌, Some, Ok, [], ap, sym, subst, ◌∙◌, string_bytes, arith}
+use Rattle.std.proofs.Common.{rules, map, Vec, Global, ◌+◌, ◌*◌, ◌<◌, Some, Ok, [], ap, sym, ◌∙◌, string_bytes, arith}
+use Rattle.std.proofs.lemmas.Result.{err_from_is_err_and}
 use Rattle.dynamo_value.specs.Av as av
 use Rattle.dynamo_value.specs.Av.{elements_of}
-use Rattle.dynamo_value.specs.PrefixView.{prefix_view}
-use Rattle.dynamo_value.specs.declared.prefix.Prefix.{Prefix}
+use Rattle.dynamo_value.specs.declared.attribute_value.AttributeValue.{AttributeValue}
 use Rattle.dynamo_value.specs.Table.{Table}
-use Rattle.dynamo_value.specs.Steps.{◌>>=◌}
 use Rattle.dynamo_value.specs.View.{view, entries_view, members_view}
 use Rattle.dynamo_value.proofs.Members.{inserted}
 use Rattle.dynamo_de.specs.Answer.{Gives}
 use Rattle.dynamo_de.specs.Ignored.{source_height, sources_height, entries_height}
-use Rattle.dynamo_de.specs.Meets.{Meets}
+use Rattle.dynamo_de.specs.OpenedView.{opened_view}
 use Rattle.dynamo_de.specs.Promises.{Agrees}
 use Rattle.dynamo_de.specs.ReadAttribute.{attribute_from, read_each, read_entries}
-use Rattle.dynamo_de.specs.Reading as reading
 use Rattle.dynamo_de.specs.Reading.{read_string}
 use Rattle.dynamo_de.specs.Shows.{TakesEntry}
-use Rattle.dynamo_de.proofs.Attributes.{entry_seen, entry_stops, entry_lower, entry_is, entries_lower, elements_lower, member_more, member_stops, kept}
+use Rattle.dynamo_de.proofs.Attributes.{opened_height, opened_lower, opened_stops, value_opened, list_opened, list_given, map_opened, map_given, inside_stops, member_more, member_stops, kept}
 use Rattle.dynamo_de.proofs.JsonSteps.{members_lower}
-use Rattle.dynamo_de.proofs.Promises.{answer_stops}
 use Rattle.dynamo_de.proofs.impls.attribute_value.+read.Goals as goal
 
-pub read-returns-in_err-prefix : goal.read-returns-in_err-prefix
-read-returns-in_err-prefix g t c =
-    let stop = entry_stops (λ (e : Prefix × g.row.R.Denot). (prefix_view e.0, g.R.Reader.source e.1)) (g.R.Reader.source c.args.reader) (g.R.Error.Error.fault c.in_err-prefix.field-0.0) c.in_err-prefix.ensures in
-    search rules
+pub read-returns-in_err-value : goal.read-returns-in_err-value
+read-returns-in_err-value g t c =
+    let handed_on = err_from_is_err_and c.from_residual.result c.from_residual.ensures.1 in
+    rw (handed_on.1, handed_on.2) (opened_stops (opened_view g.R.Reader.elements g.R.Reader.entries) (g.R.Reader.source c.args.reader) (g.R.Error.Error.fault c.in_err-value.field-0.0) c.in_err-value.ensures)
 
-pub read-read_content-requires : goal.read-read_content-requires
-read-read_content-requires g t c κs within =
+pub read-returns-in-Whole : goal.read-returns-in-Whole
+read-returns-in-Whole g t c =
+    let seen = opened_view g.R.Reader.elements g.R.Reader.entries in
+    value_opened seen (g.R.Reader.source c.args.reader) c.in_ok-value.field-0 c.in-Whole.value c.in_ok-value.ensures (ap seen c.in-Whole.is)
+
+pub read-read_elements-requires : goal.read-read_elements-requires
+read-read_elements-requires g t c κs within =
+    let seen = opened_view g.R.Reader.elements g.R.Reader.entries in
     let s = g.R.Reader.source c.args.reader in
-    let content = g.R.Reader.source c.in_ok-prefix.content in
-    let lower = entry_lower (entry_seen g.R.Reader.source) s (c.in_ok-prefix.prefix, c.in_ok-prefix.content) (search rules) in
-    let falls : 2 * source_height content < 2 * source_height s = omega (arith, lower) in
+    let lower = opened_lower seen s c.in_ok-value.field-0 c.in_ok-value.ensures in
+    let same = ap (λ o. opened_height (seen o)) c.in-Elements.is in
+    let falls : 2 * sources_height (g.R.Reader.elements c.in-Elements.elements) + 1 < 2 * source_height s = omega (arith, lower, same) in
     search rules
 
-pub read_content-returns-in_err-deserialize-in-N : goal.read_content-returns-in_err-deserialize-in-N
-read_content-returns-in_err-deserialize-in-N g t c =
-    let stop = answer_stops string_bytes view (λ text. Ok (av.N text)) (read_string (g.R.Reader.source c.args.content)) (g.R.Error.Error.fault c.in_err-deserialize-in-N.field-0.0) c.in_err-deserialize-in-N.ensures in
+pub read-read_members-requires : goal.read-read_members-requires
+read-read_members-requires g t c κs within =
+    let seen = opened_view g.R.Reader.elements g.R.Reader.entries in
+    let s = g.R.Reader.source c.args.reader in
+    let lower = opened_lower seen s c.in_ok-value.field-0 c.in_ok-value.ensures in
+    let same = ap (λ o. opened_height (seen o)) c.in-Entries.is in
+    let falls : 2 * entries_height (g.R.Reader.entries c.in-Entries.entries) + 1 < 2 * source_height s = omega (arith, lower, same) in
     search rules
 
-pub read_content-returns-in_err-deserialize-in-S : goal.read_content-returns-in_err-deserialize-in-S
-read_content-returns-in_err-deserialize-in-S g t c =
-    let stop = answer_stops string_bytes view (λ text. Ok (av.S text)) (read_string (g.R.Reader.source c.args.content)) (g.R.Error.Error.fault c.in_err-deserialize-in-S.field-0.0) c.in_err-deserialize-in-S.ensures in
-    search rules
+pub read-returns-in_err-read_elements-in-Elements : goal.read-returns-in_err-read_elements-in-Elements
+read-returns-in_err-read_elements-in-Elements g t c =
+    let seen = opened_view g.R.Reader.elements g.R.Reader.entries in
+    let s = g.R.Reader.source c.args.reader in
+    let inside = g.R.Reader.elements c.in-Elements.elements in
+    let stopped = c.in_err-read_elements-in-Elements in
+    let handed_on = err_from_is_err_and c.from_residual-in_err-read_elements-in-Elements.result c.from_residual-in_err-read_elements-in-Elements.ensures.1 in
+    let same = list_opened seen s c.in_ok-value.field-0 inside c.in_ok-value.ensures (ap seen c.in-Elements.is) in
+    rw (handed_on.1, handed_on.2) (inside_stops (λ (v : Vec AttributeValue Global). map view v.items) (λ values. Ok (av.L (elements_of values))) s (read_each attribute_from inside) (g.R.Error.Error.fault stopped.field-0.0) same stopped.ensures)
 
-pub read_content-returns-in_err-entries-in-M : goal.read_content-returns-in_err-entries-in-M
-read_content-returns-in_err-entries-in-M g t c =
-    let stop = answer_stops g.R.Reader.entries view (λ es. read_entries [] es >>= λ members. Ok (av.M members)) (reading.read_entries (g.R.Reader.source c.args.content)) (g.R.Error.Error.fault c.in_err-entries-in-M.field-0.0)
-    c.in_err-entries-in-M.ensures in
-    search rules
+pub read-returns-in_ok-read_elements-in-Elements : goal.read-returns-in_ok-read_elements-in-Elements
+read-returns-in_ok-read_elements-in-Elements g t c =
+    let seen = opened_view g.R.Reader.elements g.R.Reader.entries in
+    let inside = g.R.Reader.elements c.in-Elements.elements in
+    let same = list_opened seen (g.R.Reader.source c.args.reader) c.in_ok-value.field-0 inside c.in_ok-value.ensures (ap seen c.in-Elements.is) in
+    rw same (list_given inside c.in_ok-read_elements-in-Elements.field-0 c.in_ok-read_elements-in-Elements.ensures)
 
-pub read_content-returns-in_err-elements-in-L : goal.read_content-returns-in_err-elements-in-L
-read_content-returns-in_err-elements-in-L g t c =
-    let stop = answer_stops g.R.Reader.elements view (λ ss. read_each attribute_from ss >>= λ values. Ok (av.L (elements_of values))) (reading.read_elements (g.R.Reader.source c.args.content))
-    (g.R.Error.Error.fault c.in_err-elements-in-L.field-0.0) c.in_err-elements-in-L.ensures in
-    search rules
+pub read-returns-in_err-read_members-in-Entries : goal.read-returns-in_err-read_members-in-Entries
+read-returns-in_err-read_members-in-Entries g t c =
+    let seen = opened_view g.R.Reader.elements g.R.Reader.entries in
+    let s = g.R.Reader.source c.args.reader in
+    let inside = g.R.Reader.entries c.in-Entries.entries in
+    let stopped = c.in_err-read_members-in-Entries in
+    let handed_on = err_from_is_err_and c.from_residual-in_err-read_members-in-Entries.result c.from_residual-in_err-read_members-in-Entries.ensures.1 in
+    let same = map_opened seen s c.in_ok-value.field-0 inside c.in_ok-value.ensures (ap seen c.in-Entries.is) in
+    rw (handed_on.1, handed_on.2) (inside_stops (λ (m : Table). members_view m.entries) (λ members. Ok (av.M members)) s (read_entries [] inside) (g.R.Error.Error.fault stopped.field-0.0) same stopped.ensures)
 
-pub read-returns : goal.read-returns
-read-returns g t c =
-    let same = entry_is (entry_seen g.R.Reader.source) (g.R.Reader.source c.args.reader) (c.in_ok-prefix.prefix, c.in_ok-prefix.content) (search rules) in
-    subst (λ x. Meets g.R.Error.Error.fault (Agrees view x) c.read_content.result) (sym same) c.read_content.ensures
-
-pub read_content-read_members-requires : goal.read_content-read_members-requires
-read_content-read_members-requires g t c κs within =
-    let content = g.R.Reader.source c.args.content in
-    let lower = entries_lower g.R.Reader.entries content c.in_ok-entries-in-M.entries (search rules) in
-    let falls : 2 * entries_height (g.R.Reader.entries c.in_ok-entries-in-M.entries) + 1 < 2 * source_height content = omega (arith, lower) in
-    search rules
-
-pub read_content-read_elements-requires : goal.read_content-read_elements-requires
-read_content-read_elements-requires g t c κs within =
-    let content = g.R.Reader.source c.args.content in
-    let lower = elements_lower g.R.Reader.elements content c.in_ok-elements-in-L.elements (search rules) in
-    let falls : 2 * sources_height (g.R.Reader.elements c.in_ok-elements-in-L.elements) + 1 < 2 * source_height content = omega (arith, lower) in
-    search rules
+pub read-returns-in_ok-read_members-in-Entries : goal.read-returns-in_ok-read_members-in-Entries
+read-returns-in_ok-read_members-in-Entries g t c =
+    let seen = opened_view g.R.Reader.elements g.R.Reader.entries in
+    let inside = g.R.Reader.entries c.in-Entries.entries in
+    let same = map_opened seen (g.R.Reader.source c.args.reader) c.in_ok-value.field-0 inside c.in_ok-value.ensures (ap seen c.in-Entries.is) in
+    rw same (map_given inside c.in_ok-read_members-in-Entries.field-0 c.in_ok-read_members-in-Entries.ensures)
 
 pub read_members-returns-in_err-member : goal.read_members-returns-in_err-member
 read_members-returns-in_err-member g t c =

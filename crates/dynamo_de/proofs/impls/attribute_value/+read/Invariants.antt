@@ -8,9 +8,6 @@ use Rattle.dynamo_de.proofs.impls.attribute_value.+read.Given as goal
 abbrev pub decreases-read : goal.decreases-read
 decreases-read g l = 2 * source_height (g.R.Reader.source l.reader)
 
-abbrev pub decreases-read_content : goal.decreases-read_content
-decreases-read_content g l = 2 * source_height (g.R.Reader.source l.content)
-
 abbrev pub decreases-read_elements : goal.decreases-read_elements
 decreases-read_elements g l = 2 * sources_height (g.R.Reader.elements l.elements) + 1
 
