@@ -62,6 +62,12 @@ pub fn written(alloc: Global, users: &[User]) -> Result<usize, AllocError> {
     Ok(count)
 }
 
+/// What `to_attribute_value` does of a list: makes a map of each user, and keeps them all. How many there are.
+#[inline(never)]
+pub fn listed(alloc: Global, users: &[User]) -> Result<usize, AllocError> {
+    Ok(Maps::of(alloc, users)?.0.len())
+}
+
 /// What `clone` does of items: copies the maps. How many there are.
 #[inline(never)]
 pub fn copied(maps: &Maps) -> Result<usize, AllocError> {

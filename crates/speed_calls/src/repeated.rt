@@ -33,6 +33,7 @@ fn repeat(alloc: Global, word: &str, repeats: u32) -> Result<usize> {
             "from_item" => read(alloc, items.clone()?)?,
             "from_items" => read_all(alloc, items.clone()?)?,
             "to_item_by_hand" => by_hand::written(alloc, users.as_slice())?,
+            "to_attribute_value_by_hand" => by_hand::listed(alloc, users.as_slice())?,
             "clone_by_hand" => by_hand::copied(&maps)?,
             "from_item_by_hand" => by_hand::read(alloc, &maps)?,
             _nothing => 0,
