@@ -4,16 +4,16 @@ use Rattle.std.specs.Prelude.{if◌then◌else◌}
 use Rattle.dynamo_value.specs.Av as av
 use Rattle.dynamo_value.specs.Fault.{Fault, failed_to_parse_float}
 use Rattle.dynamo_value.specs.Integer.{i64, u64}
-use Rattle.dynamo_de.specs.Answer.{Answer, After, Is, Gives}
+use Rattle.dynamo_de.specs.Answer.{Answer, After}
 use Rattle.dynamo_de.specs.Meets.{Meets}
 use Rattle.dynamo_de.specs.Number.{parse, is_float_text}
-use Rattle.dynamo_de.specs.Reading.{first_claimed, not_alone, taken, taken_from, read_bool, read_char, read_string, read_bytes, read_unit, read_identifier}
+use Rattle.dynamo_de.specs.Reading.{first_claimed, not_alone, taken, taken_from, read_identifier}
 use Rattle.dynamo_de.specs.Shown.{Shown, shown, number_shown, signed_or_other, unsigned_or_float}
 use Rattle.dynamo_de.specs.Sight as sight
 use Rattle.dynamo_de.specs.Sight.{Sight}
 use Rattle.dynamo_de.specs.Source.{Source, attribute, number_text}
 use Rattle.dynamo_de.specs.Takes.{Takes, TakesFirst, Visited, Asks, Where, Way, Claims, char_ways, ways}
-use Rattle.dynamo_de.specs.Visitors.{claims_bool, take_bool, claims_char, take_char, claims_texts, take_string, take_bytes, claims_unit, take_unit, claims_str, take_identifier}
+use Rattle.dynamo_de.specs.Visitors.{claims_str, take_identifier}
 use Rattle.dynamo_de.specs.declared.kind.Kind.{Kind}
 use Rattle.dynamo_de.specs.declared.request.Request.{Request}
 use Rattle.dynamo_de.specs.declared.request.Request.TheVariants as request
@@ -66,22 +66,6 @@ module _ {A V : Type 0} (claims : Kind → Bool) (take : Sight → Answer A) (ne
 
   pub as_read : Keeps → {E : Type 0} (request : Request) (fault : E → Fault) (s : Source) (r : Result V E) → Asks fault claims takes request s r → Meets fault (After (taken_from claims take request s) next) r
   as_read keeps request fault s r h = meets_more fault _ _ (of_shown keeps (shown request s)) r h
-
-pub bool_read : {E : Type 0} (fault : E → Fault) (s : Source) (r : Result Bool E) → Asks fault claims_bool (λ x. Gives (λ v. v) (take_bool x)) request.Bool s r → Meets fault (Gives (λ v. v) (read_bool s)) r
-bool_read fault s r h = as_read claims_bool take_bool (Is (λ v. v)) (λ c x f e k. k) request.Bool fault s r h
-
-pub char_read : {E : Type 0} (fault : E → Fault) (s : Source) (r : Result ℕ E) → Asks fault claims_char (λ x. Gives (λ v. v) (take_char x)) request.Char s r → Meets fault (Gives (λ v. v) (read_char s)) r
-char_read fault s r h = as_read claims_char take_char (Is (λ v. v)) (λ c x f e k. k) request.Char fault s r h
-
-module _ {V : Type 0} (seen : V → List ℕ) where
-  pub string_read : {E : Type 0} (fault : E → Fault) (s : Source) (r : Result V E) → Asks fault claims_texts (λ x. Gives seen (take_string x)) request.String s r → Meets fault (Gives seen (read_string s)) r
-  string_read fault s r h = as_read claims_texts take_string (Is seen) (λ c x f e k. k) request.String fault s r h
-
-  pub bytes_read : {E : Type 0} (fault : E → Fault) (s : Source) (r : Result V E) → Asks fault claims_texts (λ x. Gives seen (take_bytes x)) request.ByteBuf s r → Meets fault (Gives seen (read_bytes s)) r
-  bytes_read fault s r h = as_read claims_texts take_bytes (Is seen) (λ c x f e k. k) request.ByteBuf fault s r h
-
-pub unit_read : {V E : Type 0} (seen : V → Unit {0}) (fault : E → Fault) (s : Source) (r : Result V E) → Asks fault claims_unit (λ x. Gives seen (take_unit x)) request.Unit s r → Meets fault (Gives seen (read_unit s)) r
-unit_read seen fault s r h = as_read claims_unit take_unit (Is seen) (λ c x f e k. k) request.Unit fault s r h
 
 -- No source shows a character where an identifier is asked for.
 module _ {V : Type 0} (next : List ℕ → Result V Fault → Type 0) where

@@ -6,7 +6,7 @@ use Rattle.dynamo_value.specs.Refusal.{Refusal, any_message}
 use Rattle.dynamo_de.specs.Meets.{Fails}
 
 -- A value, or what is promised of the fault: which fault it is, or no more than that it is a message, since the texts of the
--- refusals that visitors make aren't promised.
+-- refusals that types make are not promised.
 abbrev pub Answer : Type 0 → Type 0
 Answer A = Result A Refusal
 

@@ -1,4 +1,4 @@
--- What the types read from each source: what their visitors take of what it shows.
+-- What the types read from each source: what they take of what it shows.
 use Rattle.std.specs.Prelude.{ℕ, ℤ, Bool, List, [], ◌∷◌, Option, Ok, Err, if◌then◌else◌, ⊤}
 use Rattle.dynamo_value.specs.Av as av
 use Rattle.dynamo_value.specs.Fault.{failed_to_parse_int, expected_num, expected_char}
@@ -30,7 +30,7 @@ abbrev pub taken_of : {A : Type 0} → (Kind → Bool) → (Sight → Answer A) 
 taken_of claims take (sight.first_char c) = not_alone (first_claimed claims take (char_ways c))
 taken_of claims take s = first_claimed claims take (ways s)
 
--- what a visitor gives that claims and takes so, or the fault that comes in its place
+-- what is given by who claims and takes so, or the fault that comes in its place
 abbrev pub taken : {A : Type 0} → (Kind → Bool) → (Sight → Answer A) → Shown → Answer A
 taken claims take (Ok s) = taken_of claims take s
 taken claims take (Err f) = answer.fault f

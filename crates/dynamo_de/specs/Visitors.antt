@@ -1,4 +1,4 @@
--- What the library's visitors claim, and what they take of what they are shown. What they don't claim they refuse.
+-- What the types of the library claim, and what they take of what they are shown. What they do not claim they refuse.
 use Rattle.std.specs.Prelude.{ℕ, ℤ, Bool, true, false, chars, List, [], ◌∷◌, Option as Maybe, Some as Just, None as Nothing, Result, Ok, Err, if◌then◌else◌, ⊤}
 use Rattle.std.specs.Str.{is_utf8}
 use Rattle.dynamo_value.specs.Fault.{Fault}

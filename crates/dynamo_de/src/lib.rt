@@ -25,6 +25,7 @@ mod reader_access;
 mod request;
 mod showing;
 pub mod string_set;
+mod taken;
 mod visitor;
 
 pub use access::{EnumAccess, MapAccess, SeqAccess, VariantAccess};

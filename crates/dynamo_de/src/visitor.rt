@@ -1,39 +1,14 @@
 ghost use Rattle.std.specs.Prelude.{◌≡◌, ◌⊎◌, pos, string_bytes, Bool, Result, None};
 ghost use Rattle.dynamo_value.specs.Fault.{Fault};
 ghost use Rattle.dynamo_value.specs.Integer as integers;
-ghost use Rattle.dynamo_de.specs.Meets.{Meets};
 ghost use Rattle.dynamo_de.specs.Sight as sight;
 ghost use Rattle.dynamo_de.specs.Sight.{Sight};
-ghost use Rattle.dynamo_de.specs.Takes.{Where, Visits, Refuses};
+ghost use Rattle.dynamo_de.specs.Takes.{Where, Visits};
 ghost use Rattle.dynamo_de.specs.declared.kind.Kind.{Kind};
 
+use crate::taken::refuse;
 use crate::{Deserializer, EnumAccess, Error, Kind, MapAccess, SeqAccess};
 use std::alloc::Global;
-
-/// The refusal of a provided body: a message that names what was shown and what was expected. Where the kind is claimed,
-/// nobody gave it a body, and the refusal is that for want of memory.
-pub(crate) fn refuse<E: Error, V>(
-    alloc: Global,
-    shown: Kind,
-    claimed: bool,
-    expecting: &str,
-) -> Result<V, E>
-    ensures { Meets E.fault (Refuses claimed) result }
-{
-    if claimed {
-        return Err(E::out_of_memory());
-    }
-    let mut text = String::new(alloc);
-    let written = text.push_str("invalid type: ").is_ok()
-        && text.push_str(shown.name()).is_ok()
-        && text.push_str(", expected ").is_ok()
-        && text.push_str(expecting).is_ok();
-    if written {
-        Err(E::custom(alloc, text.as_str()))
-    } else {
-        Err(E::out_of_memory())
-    }
-}
 
 /// What makes a value of what a reader shows, as serde's `Visitor`.
 ///

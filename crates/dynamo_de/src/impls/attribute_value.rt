@@ -6,16 +6,14 @@ ghost use Rattle.dynamo_value.specs.Item.{item_view};
 ghost use Rattle.dynamo_value.specs.Kind.{fault_of};
 ghost use Rattle.dynamo_value.specs.PrefixView.{prefix_view};
 ghost use Rattle.dynamo_value.specs.View.{view, members_view};
-ghost use Rattle.dynamo_de.specs.Answer.{Gives};
-ghost use Rattle.dynamo_de.specs.Reading as reading;
 ghost use Rattle.dynamo_de.specs.Meets.{Meets};
 ghost use Rattle.dynamo_de.specs.OpenedView.{opened_view};
 ghost use Rattle.dynamo_de.specs.Promises.{Agrees};
 ghost use Rattle.dynamo_de.specs.ReadAttribute.{attribute_from, entry_from, opened_from, item_from, content_opened, read_each, read_entries};
 ghost use Rattle.dynamo_de.specs.ReadAttribute.{read_texts, read_blob, read_blobs};
 
-use crate::visitor::refuse;
-use crate::{Deserialize, Deserializer, Error, Reader, Request, Showing};
+use crate::taken::{elements_of, entries_of};
+use crate::{Deserialize, Deserializer, Error, Reader, Request};
 use dynamo_value::{AttributeValue, ErrorImpl, Item, Prefix, base64_text, refusal};
 use std::alloc::Global;
 use std::collections::HashMap;
@@ -114,6 +112,7 @@ fn open_content<R: Reader>(
         Prefix::M => Ok(Opened::Entries(entries_of(alloc, content, "a map of attribute values")?)),
         Prefix::L => Ok(Opened::Elements(elements_of(
             alloc,
+            Request::Seq,
             content,
             "a sequence of attribute values",
         )?)),
@@ -171,7 +170,7 @@ fn read_texts<R: Reader>(alloc: Global, reader: R) -> Result<Vec<String>, R::Err
 fn read_blobs<R: Reader>(alloc: Global, reader: R) -> Result<Vec<Vec<u8>>, R::Error>
     ensures { Meets R.Error.fault (Agrees (λ v. map (λ b. b.items) v.items) (read_blobs (R.source reader))) result }
 {
-    let mut elements = elements_of(alloc, reader, "a sequence of base64 texts")?;
+    let mut elements = elements_of(alloc, Request::Seq, reader, "a sequence of base64 texts")?;
     let mut blobs = Vec::new(alloc);
     while let Some(element) = R::next_element(&mut elements) {
         let bytes = read_bytes(alloc, element)?;
@@ -190,32 +189,6 @@ fn read_bytes<R: Reader>(alloc: Global, reader: R) -> Result<Vec<u8>, R::Error>
     match base64_text::decode(alloc, &text) {
         Ok(bytes) => Ok(bytes),
         Err(refusal) => Err(told(alloc, refusal)),
-    }
-}
-
-// The entries of a map that is asked for.
-#[inline(never)]
-fn entries_of<R: Reader>(alloc: Global, reader: R, expecting: &str) -> Result<R::Entries, R::Error>
-    ensures { Meets R.Error.fault (Gives R.entries (reading.read_entries (R.source reader))) result }
-{
-    match reader.show(Request::Map)? {
-        Showing::Map(entries) => Ok(entries),
-        other => refuse(alloc, other.kind(), false, expecting),
-    }
-}
-
-// The elements of a sequence that is asked for.
-#[inline(never)]
-fn elements_of<R: Reader>(
-    alloc: Global,
-    reader: R,
-    expecting: &str,
-) -> Result<R::Elements, R::Error>
-    ensures { Meets R.Error.fault (Gives R.elements (reading.read_elements (R.source reader))) result }
-{
-    match reader.show(Request::Seq)? {
-        Showing::Sequence(elements) => Ok(elements),
-        other => refuse(alloc, other.kind(), false, expecting),
     }
 }
 

@@ -1,12 +1,12 @@
-ghost use Rattle.std.specs.Prelude.{◌≡◌, MatchResult, encode_utf8};
+ghost use Rattle.std.specs.Prelude.{◌≡◌};
 ghost use Rattle.serde_json.specs.Data as json;
 ghost use Rattle.serde_json.specs.View.{view, items_view, members_view};
-ghost use Rattle.dynamo_value.specs.Fault.{out_of_memory};
 ghost use Rattle.dynamo_de.specs.Answer.{Gives};
 ghost use Rattle.dynamo_de.specs.Meets.{Meets, IsMessage};
 ghost use Rattle.dynamo_de.specs.ReadJson.{read_json, read_sources, read_entries};
 
-use crate::visitor::refuse;
+use super::texts::char_text;
+use crate::taken::refuse;
 use crate::{Deserialize, Deserializer, Error, Kind, Reader, Request, Showing};
 use serde_json::{Map, Value};
 use std::alloc::Global;
@@ -35,7 +35,7 @@ fn read<R: Reader>(alloc: Global, reader: R) -> Result<Value, R::Error>
         Showing::U16(v) => Ok(Value::from(v)),
         Showing::U32(v) => Ok(Value::from(v)),
         Showing::U64(v) => Ok(Value::from(v)),
-        Showing::Char(v) => character(alloc, v),
+        Showing::Char(v) => Ok(Value::String(char_text(alloc, v)?)),
         Showing::Text(v) => Ok(Value::String(v)),
         Showing::None => Ok(Value::Null),
         Showing::Unit => Ok(Value::Null),
@@ -85,16 +85,6 @@ fn read_members<R: Reader>(
         }
     }
     Ok(members)
-}
-
-// A character is its text.
-fn character<E: Error>(alloc: Global, v: char) -> Result<Value, E>
-    ensures { MatchResult result (λ j. view j ≡ json.string (encode_utf8 v)) (λ e. E.fault e ≡ out_of_memory) }
-{
-    match v.to_string(alloc) {
-        Ok(text) => Ok(Value::String(text)),
-        Err(_) => Err(E::out_of_memory()),
-    }
 }
 
 fn refuse_json<E: Error>(alloc: Global, shown: Kind) -> Result<Value, E>

@@ -1,118 +1,111 @@
-ghost use Rattle.std.specs.Prelude.{◌≡◌};
+ghost use Rattle.std.specs.Prelude.{◌≡◌, Bool, Option, Some, None, OnOk, cond};
 ghost use Rattle.std.specs.BTreeMap as sorted;
 ghost use Rattle.std.specs.HashMap as hashed;
 ghost use Rattle.std.specs.Ordering.{eq_by_cmp};
 ghost use Rattle.dynamo_de.specs.Answer.{After};
-ghost use Rattle.dynamo_de.specs.Reading.{read_entries};
+ghost use Rattle.dynamo_de.specs.Meets.{Meets};
+ghost use Rattle.dynamo_de.specs.Reading as reading;
 ghost use Rattle.dynamo_de.specs.Reads.{ReadsMap};
-ghost use Rattle.dynamo_de.specs.Visitors.{claims_map, take_entries};
 
-use crate::{Deserialize, Deserializer, Error, Kind, MapAccess, Visitor};
-use std::alloc::Global;
+use crate::reader_access::ReaderMapAccess;
+use crate::taken::entries_of;
+use crate::{Deserialize, Deserializer, Error, MapAccess, Reader};
+use std::alloc::{AllocError, Global};
 use std::collections::{BTreeMap, HashMap};
 use std::hash::Hash;
-use std::marker::PhantomData;
 
-#[derive(Drop)]
-struct HashMapVisitor<K, V> {
-    alloc: Global,
-    of: PhantomData<(K, V)>,
+/// A map that its entries are put into, one after another.
+trait Entries<K, V>: Sized + Drop {
+    // What the map has at a key, and which keys are equal.
+    ghost get: { Self → K → Option V };
+
+    ghost eq: { K → K → Bool };
+
+    fn without_entries(alloc: Global) -> Self
+        ensures { (k : K) → get result k ≡ None };
+
+    /// Puts a value at its key. An equal key loses the value that it had.
+    fn put(&mut self, key: K, value: V) -> Result<(), AllocError>
+        ensures { OnOk result ((k : K) → get self.new k ≡ cond (eq key k) (Some value) (get self.old k)) };
 }
 
-impl<K: Deserialize + Eq + Hash, V: Deserialize> Visitor for HashMapVisitor<K, V> {
-    type Value = HashMap<K, V>;
+impl<K: Eq + Hash + Drop, V: Drop> Entries<K, V> for HashMap<K, V> {
+    ghost get = { hashed.get K.eq };
 
-    ghost claimed = { λ _. claims_map };
+    ghost eq = { K.eq };
 
-    ghost takes = { λ _ s. After (take_entries s) (ReadsMap (hashed.get K.eq) K.eq K.reads V.reads) };
-
-    fn expecting(&self) -> &'static str {
-        "a map"
+    fn without_entries(alloc: Global) -> Self {
+        HashMap::new(alloc)
     }
 
-    fn alloc(&self) -> Global {
-        self.alloc
+    fn put(&mut self, key: K, value: V) -> Result<(), AllocError> {
+        HashMap::insert(self, key, value)?;
+        Ok(())
+    }
+}
+
+impl<K: Ord + Drop, V: Drop> Entries<K, V> for BTreeMap<K, V> {
+    ghost get = { sorted.get K.cmp };
+
+    ghost eq = { eq_by_cmp K.cmp };
+
+    fn without_entries(alloc: Global) -> Self {
+        BTreeMap::new(alloc)
     }
 
-    fn claims(&self, kind: Kind) -> bool {
-        matches!(kind, Kind::Map)
+    fn put(&mut self, key: K, value: V) -> Result<(), AllocError> {
+        BTreeMap::insert(self, key, value)?;
+        Ok(())
     }
+}
 
-    #[tactic(auto, using(crate::proofs::Pairs::map_starts, crate::proofs::Pairs::map_more, crate::proofs::Pairs::map_ends, crate::proofs::Pairs::map_key_fails, crate::proofs::Pairs::map_value_fails, crate::proofs::Pairs::key_falls))]
-    fn visit_map<A: MapAccess>(self, mut map: A) -> Result<HashMap<K, V>, A::Error> {
-        let mut all = HashMap::new(self.alloc);
-        while let Some(key) = map.next_key::<K>(self.alloc)? {
-            let value = map.next_value::<V>(self.alloc)?;
-            if all.insert(key, value).is_err() {
-                return Err(A::Error::out_of_memory());
-            }
+// The map of entries, each read as it comes. Of equal keys the last value stays.
+#[tactic(auto, using(crate::proofs::Pairs::map_starts, crate::proofs::Pairs::map_more, crate::proofs::Pairs::map_ends, crate::proofs::Pairs::map_key_fails, crate::proofs::Pairs::map_value_fails, crate::proofs::Pairs::key_falls))]
+fn from_entries<K: Deserialize, V: Deserialize, M: Entries<K, V>, A: MapAccess>(
+    alloc: Global,
+    mut entries: A,
+) -> Result<M, A::Error>
+    ensures { A.pending entries ≡ None → Meets A.Error.fault (ReadsMap M.get M.eq K.reads V.reads (A.left entries)) result }
+{
+    let mut map = M::without_entries(alloc);
+    while let Some(key) = entries.next_key::<K>(alloc)? {
+        let value = entries.next_value::<V>(alloc)?;
+        if map.put(key, value).is_err() {
+            return Err(A::Error::out_of_memory());
         }
-        Ok(all)
     }
+    Ok(map)
+}
+
+// Reads a map.
+fn read_map<K: Deserialize, V: Deserialize, M: Entries<K, V>, R: Reader>(
+    alloc: Global,
+    reader: R,
+) -> Result<M, R::Error>
+    ensures { Meets R.Error.fault (After (reading.read_entries (R.source reader)) (ReadsMap M.get M.eq K.reads V.reads)) result }
+{
+    let entries = entries_of(alloc, reader, "a map")?;
+    from_entries::<K, V, M, ReaderMapAccess<R>>(alloc, ReaderMapAccess::new(entries))
 }
 
 impl<K: Deserialize + Eq + Hash, V: Deserialize> Deserialize for HashMap<K, V> {
-    ghost reads = { λ s. After (read_entries s) (ReadsMap (hashed.get K.eq) K.eq K.reads V.reads) };
+    ghost reads = { λ s. After (reading.read_entries s) (ReadsMap (hashed.get K.eq) K.eq K.reads V.reads) };
 
     fn deserialize<D: Deserializer>(
         alloc: Global,
         deserializer: D,
     ) -> Result<HashMap<K, V>, D::Error> {
-        deserializer.deserialize_map(HashMapVisitor {
-            alloc,
-            of: PhantomData,
-        })
-    }
-}
-
-#[derive(Drop)]
-struct BTreeMapVisitor<K, V> {
-    alloc: Global,
-    of: PhantomData<(K, V)>,
-}
-
-impl<K: Deserialize + Ord, V: Deserialize> Visitor for BTreeMapVisitor<K, V> {
-    type Value = BTreeMap<K, V>;
-
-    ghost claimed = { λ _. claims_map };
-
-    ghost takes = { λ _ s. After (take_entries s) (ReadsMap (sorted.get K.cmp) (eq_by_cmp K.cmp) K.reads V.reads) };
-
-    fn expecting(&self) -> &'static str {
-        "a map"
-    }
-
-    fn alloc(&self) -> Global {
-        self.alloc
-    }
-
-    fn claims(&self, kind: Kind) -> bool {
-        matches!(kind, Kind::Map)
-    }
-
-    #[tactic(auto, using(crate::proofs::Pairs::map_starts, crate::proofs::Pairs::map_more, crate::proofs::Pairs::map_ends, crate::proofs::Pairs::map_key_fails, crate::proofs::Pairs::map_value_fails, crate::proofs::Pairs::key_falls))]
-    fn visit_map<A: MapAccess>(self, mut map: A) -> Result<BTreeMap<K, V>, A::Error> {
-        let mut sorted = BTreeMap::new(self.alloc);
-        while let Some(key) = map.next_key::<K>(self.alloc)? {
-            let value = map.next_value::<V>(self.alloc)?;
-            if sorted.insert(key, value).is_err() {
-                return Err(A::Error::out_of_memory());
-            }
-        }
-        Ok(sorted)
+        read_map::<K, V, HashMap<K, V>, D>(alloc, deserializer)
     }
 }
 
 impl<K: Deserialize + Ord, V: Deserialize> Deserialize for BTreeMap<K, V> {
-    ghost reads = { λ s. After (read_entries s) (ReadsMap (sorted.get K.cmp) (eq_by_cmp K.cmp) K.reads V.reads) };
+    ghost reads = { λ s. After (reading.read_entries s) (ReadsMap (sorted.get K.cmp) (eq_by_cmp K.cmp) K.reads V.reads) };
 
     fn deserialize<D: Deserializer>(
         alloc: Global,
         deserializer: D,
     ) -> Result<BTreeMap<K, V>, D::Error> {
-        deserializer.deserialize_map(BTreeMapVisitor {
-            alloc,
-            of: PhantomData,
-        })
+        read_map::<K, V, BTreeMap<K, V>, D>(alloc, deserializer)
     }
 }

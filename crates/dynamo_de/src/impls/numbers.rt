@@ -5,47 +5,21 @@ ghost use Rattle.dynamo_de.specs.Answer as answer;
 ghost use Rattle.dynamo_de.specs.Answer.{Gives, value_or};
 ghost use Rattle.dynamo_de.specs.Meets.{Meets};
 ghost use Rattle.dynamo_de.specs.Reading.{read_bool, read_integer};
-ghost use Rattle.dynamo_de.specs.Visitors.{claims_bool, take_bool, claims_integers, take_integer, checked, is_wide as is_wide_kind};
+ghost use Rattle.dynamo_de.specs.Visitors.{claims_integers, take_integer, checked, is_wide as is_wide_kind};
 
-use crate::{Deserialize, Deserializer, Error, Kind, Visitor};
+use crate::taken::refuse;
+use crate::{Deserialize, Deserializer, Error, Kind, Request, Showing, Visitor};
 use std::alloc::Global;
 use std::marker::PhantomData;
-
-#[derive(Drop)]
-struct BoolVisitor {
-    alloc: Global,
-}
-
-impl Visitor for BoolVisitor {
-    type Value = bool;
-
-    ghost claimed = { λ _. claims_bool };
-
-    ghost takes = { λ _ s. Gives (λ b. b) (take_bool s) };
-
-    fn expecting(&self) -> &'static str {
-        "a boolean"
-    }
-
-    fn alloc(&self) -> Global {
-        self.alloc
-    }
-
-    fn claims(&self, kind: Kind) -> bool {
-        matches!(kind, Kind::Bool)
-    }
-
-    fn visit_bool<E: Error>(self, v: bool) -> Result<bool, E> {
-        Ok(v)
-    }
-}
 
 impl Deserialize for bool {
     ghost reads = { λ s. Gives (λ b. b) (read_bool s) };
 
-    #[tactic(auto, using(crate::proofs::Reading::bool_read))]
     fn deserialize<D: Deserializer>(alloc: Global, deserializer: D) -> Result<bool, D::Error> {
-        deserializer.deserialize_bool(BoolVisitor { alloc })
+        match deserializer.show(Request::Bool)? {
+            Showing::Bool(v) => Ok(v),
+            other => refuse(alloc, other.kind(), false, "a boolean"),
+        }
     }
 }
 

@@ -1,44 +1,52 @@
-ghost use Rattle.std.specs.Prelude.{◌≡◌, ◌⊎◌, Err};
-ghost use Rattle.dynamo_value.specs.Fault.{out_of_memory};
+ghost use Rattle.std.specs.Prelude.{◌≡◌, ◌⊎◌, List, Result, Err};
+ghost use Rattle.dynamo_value.specs.Fault.{Fault, out_of_memory};
 ghost use Rattle.dynamo_de.specs.Answer.{After};
-ghost use Rattle.dynamo_de.specs.Reading.{read_elements};
-ghost use Rattle.dynamo_de.specs.Meets.{IsMessage};
+ghost use Rattle.dynamo_de.specs.Meets.{Meets, IsMessage};
+ghost use Rattle.dynamo_de.specs.Reading.{taken_from, read_elements};
 ghost use Rattle.dynamo_de.specs.Reads.{ReadsList, ReadsTwo, ReadsThree, ReadsFour};
+ghost use Rattle.dynamo_de.specs.Source.{Source};
 ghost use Rattle.dynamo_de.specs.Visitors.{claims_seq, take_elements};
 
-use crate::{Deserialize, Deserializer, Error, Kind, SeqAccess, Visitor};
+use crate::reader_access::ReaderSeqAccess;
+use crate::taken::elements_of;
+use crate::{Deserialize, Deserializer, Error, Reader, Request, SeqAccess};
 use std::alloc::Global;
-use std::marker::PhantomData;
 
-#[derive(Drop)]
-struct VecVisitor<T> {
-    alloc: Global,
-    of: PhantomData<T>,
+/// What is made of the elements of a sequence.
+trait FromElements: Sized + Drop {
+    // What the elements may be read as.
+    ghost of_elements: { List Source → Result Self Fault → Type 0 };
+
+    /// What is expected, for the text of a refusal.
+    fn expected() -> &'static str;
+
+    fn from_elements<A: SeqAccess>(alloc: Global, seq: A) -> Result<Self, A::Error>
+        ensures { Meets A.Error.fault (of_elements (A.left seq)) result };
 }
 
-impl<T: Deserialize> Visitor for VecVisitor<T> {
-    type Value = Vec<T>;
+// Reads what is made of the elements of a sequence, which is asked for by this request.
+fn read_sequence<T: FromElements, R: Reader>(
+    alloc: Global,
+    request: Request,
+    reader: R,
+) -> Result<T, R::Error>
+    ensures { Meets R.Error.fault (After (taken_from claims_seq take_elements request (R.source reader)) T.of_elements) result }
+{
+    let elements = elements_of(alloc, request, reader, T::expected())?;
+    T::from_elements(alloc, ReaderSeqAccess::<R>::new(elements))
+}
 
-    ghost claimed = { λ _. claims_seq };
+impl<T: Deserialize> FromElements for Vec<T> {
+    ghost of_elements = { ReadsList T.reads };
 
-    ghost takes = { λ _ s. After (take_elements s) (ReadsList T.reads) };
-
-    fn expecting(&self) -> &'static str {
+    fn expected() -> &'static str {
         "a sequence"
     }
 
-    fn alloc(&self) -> Global {
-        self.alloc
-    }
-
-    fn claims(&self, kind: Kind) -> bool {
-        matches!(kind, Kind::Seq)
-    }
-
     #[tactic(auto, using(crate::proofs::Each::each_more, crate::proofs::Each::each_ends, crate::proofs::Each::each_fails))]
-    fn visit_seq<A: SeqAccess>(self, mut seq: A) -> Result<Vec<T>, A::Error> {
-        let mut all = Vec::new(self.alloc);
-        while let Some(value) = seq.next_element::<T>(self.alloc)? {
+    fn from_elements<A: SeqAccess>(alloc: Global, mut seq: A) -> Result<Vec<T>, A::Error> {
+        let mut all = Vec::new(alloc);
+        while let Some(value) = seq.next_element::<T>(alloc)? {
             if all.push(value).is_err() {
                 return Err(A::Error::out_of_memory());
             }
@@ -51,10 +59,7 @@ impl<T: Deserialize> Deserialize for Vec<T> {
     ghost reads = { λ s. After (read_elements s) (ReadsList T.reads) };
 
     fn deserialize<D: Deserializer>(alloc: Global, deserializer: D) -> Result<Vec<T>, D::Error> {
-        deserializer.deserialize_seq(VecVisitor {
-            alloc,
-            of: PhantomData,
-        })
+        read_sequence(alloc, Request::Seq, deserializer)
     }
 }
 
@@ -65,38 +70,20 @@ fn too_short<E: Error>(alloc: Global) -> E
     E::custom(alloc, "invalid length: too few elements, expected a tuple")
 }
 
-#[derive(Drop)]
-struct TwoVisitor<A, B> {
-    alloc: Global,
-    of: PhantomData<(A, B)>,
-}
+impl<A: Deserialize, B: Deserialize> FromElements for (A, B) {
+    ghost of_elements = { ReadsTwo A.reads B.reads };
 
-impl<A: Deserialize, B: Deserialize> Visitor for TwoVisitor<A, B> {
-    type Value = (A, B);
-
-    ghost claimed = { λ _. claims_seq };
-
-    ghost takes = { λ _ s. After (take_elements s) (ReadsTwo A.reads B.reads) };
-
-    fn expecting(&self) -> &'static str {
+    fn expected() -> &'static str {
         "a tuple of 2 elements"
     }
 
-    fn alloc(&self) -> Global {
-        self.alloc
-    }
-
-    fn claims(&self, kind: Kind) -> bool {
-        matches!(kind, Kind::Seq)
-    }
-
     #[tactic(auto, using(crate::proofs::Each::first_read, crate::proofs::Each::later_fails, crate::proofs::Each::first_lacks, crate::proofs::Each::first_fails))]
-    fn visit_seq<Q: SeqAccess>(self, mut seq: Q) -> Result<(A, B), Q::Error> {
-        let Some(first) = seq.next_element::<A>(self.alloc)? else {
-            return Err(too_short(self.alloc));
+    fn from_elements<Q: SeqAccess>(alloc: Global, mut seq: Q) -> Result<(A, B), Q::Error> {
+        let Some(first) = seq.next_element::<A>(alloc)? else {
+            return Err(too_short(alloc));
         };
-        let Some(second) = seq.next_element::<B>(self.alloc)? else {
-            return Err(too_short(self.alloc));
+        let Some(second) = seq.next_element::<B>(alloc)? else {
+            return Err(too_short(alloc));
         };
         Ok((first, second))
     }
@@ -106,51 +93,27 @@ impl<A: Deserialize, B: Deserialize> Deserialize for (A, B) {
     ghost reads = { λ s. After (read_elements s) (ReadsTwo A.reads B.reads) };
 
     fn deserialize<Q: Deserializer>(alloc: Global, deserializer: Q) -> Result<(A, B), Q::Error> {
-        deserializer.deserialize_tuple(
-            2,
-            TwoVisitor {
-                alloc,
-                of: PhantomData,
-            },
-        )
+        read_sequence(alloc, Request::Tuple, deserializer)
     }
 }
 
-#[derive(Drop)]
-struct ThreeVisitor<A, B, C> {
-    alloc: Global,
-    of: PhantomData<(A, B, C)>,
-}
+impl<A: Deserialize, B: Deserialize, C: Deserialize> FromElements for (A, B, C) {
+    ghost of_elements = { ReadsThree A.reads B.reads C.reads };
 
-impl<A: Deserialize, B: Deserialize, C: Deserialize> Visitor for ThreeVisitor<A, B, C> {
-    type Value = (A, B, C);
-
-    ghost claimed = { λ _. claims_seq };
-
-    ghost takes = { λ _ s. After (take_elements s) (ReadsThree A.reads B.reads C.reads) };
-
-    fn expecting(&self) -> &'static str {
+    fn expected() -> &'static str {
         "a tuple of 3 elements"
     }
 
-    fn alloc(&self) -> Global {
-        self.alloc
-    }
-
-    fn claims(&self, kind: Kind) -> bool {
-        matches!(kind, Kind::Seq)
-    }
-
     #[tactic(auto, using(crate::proofs::Each::first_read, crate::proofs::Each::later_fails, crate::proofs::Each::first_lacks, crate::proofs::Each::first_fails))]
-    fn visit_seq<Q: SeqAccess>(self, mut seq: Q) -> Result<(A, B, C), Q::Error> {
-        let Some(first) = seq.next_element::<A>(self.alloc)? else {
-            return Err(too_short(self.alloc));
+    fn from_elements<Q: SeqAccess>(alloc: Global, mut seq: Q) -> Result<(A, B, C), Q::Error> {
+        let Some(first) = seq.next_element::<A>(alloc)? else {
+            return Err(too_short(alloc));
         };
-        let Some(second) = seq.next_element::<B>(self.alloc)? else {
-            return Err(too_short(self.alloc));
+        let Some(second) = seq.next_element::<B>(alloc)? else {
+            return Err(too_short(alloc));
         };
-        let Some(third) = seq.next_element::<C>(self.alloc)? else {
-            return Err(too_short(self.alloc));
+        let Some(third) = seq.next_element::<C>(alloc)? else {
+            return Err(too_short(alloc));
         };
         Ok((first, second, third))
     }
@@ -160,55 +123,30 @@ impl<A: Deserialize, B: Deserialize, C: Deserialize> Deserialize for (A, B, C) {
     ghost reads = { λ s. After (read_elements s) (ReadsThree A.reads B.reads C.reads) };
 
     fn deserialize<Q: Deserializer>(alloc: Global, deserializer: Q) -> Result<(A, B, C), Q::Error> {
-        deserializer.deserialize_tuple(
-            3,
-            ThreeVisitor {
-                alloc,
-                of: PhantomData,
-            },
-        )
+        read_sequence(alloc, Request::Tuple, deserializer)
     }
 }
 
-#[derive(Drop)]
-struct FourVisitor<A, B, C, D> {
-    alloc: Global,
-    of: PhantomData<(A, B, C, D)>,
-}
+impl<A: Deserialize, B: Deserialize, C: Deserialize, D: Deserialize> FromElements for (A, B, C, D) {
+    ghost of_elements = { ReadsFour A.reads B.reads C.reads D.reads };
 
-impl<A: Deserialize, B: Deserialize, C: Deserialize, D: Deserialize> Visitor
-    for FourVisitor<A, B, C, D> {
-    type Value = (A, B, C, D);
-
-    ghost claimed = { λ _. claims_seq };
-
-    ghost takes = { λ _ s. After (take_elements s) (ReadsFour A.reads B.reads C.reads D.reads) };
-
-    fn expecting(&self) -> &'static str {
+    fn expected() -> &'static str {
         "a tuple of 4 elements"
     }
 
-    fn alloc(&self) -> Global {
-        self.alloc
-    }
-
-    fn claims(&self, kind: Kind) -> bool {
-        matches!(kind, Kind::Seq)
-    }
-
     #[tactic(auto, using(crate::proofs::Each::first_read, crate::proofs::Each::later_fails, crate::proofs::Each::first_lacks, crate::proofs::Each::first_fails))]
-    fn visit_seq<Q: SeqAccess>(self, mut seq: Q) -> Result<(A, B, C, D), Q::Error> {
-        let Some(first) = seq.next_element::<A>(self.alloc)? else {
-            return Err(too_short(self.alloc));
+    fn from_elements<Q: SeqAccess>(alloc: Global, mut seq: Q) -> Result<(A, B, C, D), Q::Error> {
+        let Some(first) = seq.next_element::<A>(alloc)? else {
+            return Err(too_short(alloc));
         };
-        let Some(second) = seq.next_element::<B>(self.alloc)? else {
-            return Err(too_short(self.alloc));
+        let Some(second) = seq.next_element::<B>(alloc)? else {
+            return Err(too_short(alloc));
         };
-        let Some(third) = seq.next_element::<C>(self.alloc)? else {
-            return Err(too_short(self.alloc));
+        let Some(third) = seq.next_element::<C>(alloc)? else {
+            return Err(too_short(alloc));
         };
-        let Some(fourth) = seq.next_element::<D>(self.alloc)? else {
-            return Err(too_short(self.alloc));
+        let Some(fourth) = seq.next_element::<D>(alloc)? else {
+            return Err(too_short(alloc));
         };
         Ok((first, second, third, fourth))
     }
@@ -221,12 +159,6 @@ impl<A: Deserialize, B: Deserialize, C: Deserialize, D: Deserialize> Deserialize
         alloc: Global,
         deserializer: Q,
     ) -> Result<(A, B, C, D), Q::Error> {
-        deserializer.deserialize_tuple(
-            4,
-            FourVisitor {
-                alloc,
-                of: PhantomData,
-            },
-        )
+        read_sequence(alloc, Request::Tuple, deserializer)
     }
 }

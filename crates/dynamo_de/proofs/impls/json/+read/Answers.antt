@@ -30,6 +30,9 @@ read-returns-in-I64 g t c = shown_given g.R.Reader.source g.R.Reader.elements g.
 pub read-returns-in-Text : goal.read-returns-in-Text
 read-returns-in-Text g t c = shown_given g.R.Reader.source g.R.Reader.elements g.R.Reader.entries g.R.Reader.chosen (g.R.Reader.source c.args.reader) c.in_ok-v.field-0 (showing.Text c.in-Text.v) _ (search rules) c.in-Text.is (search (rules, the_lemmas))
 
+pub read-returns-in-Char : goal.read-returns-in-Char
+read-returns-in-Char g t c = shown_given g.R.Reader.source g.R.Reader.elements g.R.Reader.entries g.R.Reader.chosen (g.R.Reader.source c.args.reader) c.in_ok-v.field-0 (showing.Char c.in-Char.v) _ (search rules) c.in-Char.is (search (rules, the_lemmas))
+
 pub read-returns-in-None : goal.read-returns-in-None
 read-returns-in-None g t c = shown_given g.R.Reader.source g.R.Reader.elements g.R.Reader.entries g.R.Reader.chosen (g.R.Reader.source c.args.reader) c.in_ok-v.field-0 showing.None _ (search rules) c.in-None.is (search (rules, the_lemmas))
 

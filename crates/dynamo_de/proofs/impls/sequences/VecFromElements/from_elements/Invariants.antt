@@ -1,6 +1,6 @@
 use Rattle.std.proofs.Common.{length}
 use Rattle.dynamo_de.specs.Reads.{ReadsSoFar}
-use Rattle.dynamo_de.proofs.impls.sequences.VecVisitorVisitor.visit_seq.Given as goal
+use Rattle.dynamo_de.proofs.impls.sequences.VecFromElements.from_elements.Given as goal
 
 -- what is read so far, and what is left
 abbrev pub invariant-loop-all : goal.invariant-loop-all

@@ -1,8 +1,0 @@
-use Rattle.dynamo_de.specs.Reads.{ReadsTwo}
-use Rattle.dynamo_de.specs.Visitors.{claims_seq, take_elements}
-use Rattle.dynamo_de.specs.declared.request.Request.TheVariants as request
-use Rattle.dynamo_de.proofs.Reading.{as_read}
-use Rattle.dynamo_de.proofs.impls.sequences.Tuple2Deserialize.deserialize.Goals as goal
-
-pub returns : goal.returns
-returns g c = as_read claims_seq take_elements (ReadsTwo g.A.Deserialize.reads g.B.Deserialize.reads) (λ c x f e h. cc) request.Tuple g.Q.Error.Error.fault (g.Q.Reader.source c.args.deserializer) c.deserialize_tuple.result c.deserialize_tuple.ensures
