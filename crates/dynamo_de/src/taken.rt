@@ -10,8 +10,8 @@ ghost use Rattle.dynamo_de.specs.Visitors.{claims_seq, take_elements};
 use crate::{Error, Kind, Reader, Request, Showing};
 use std::alloc::Global;
 
-/// The refusal of what isn't taken: a message that names what was shown and what was expected. Where a visitor claims the
-/// kind, nobody gave it a body, and the refusal is that for want of memory.
+/// The refusal of what isn't taken: a message that names what was shown and what was expected. A visitor that claims the
+/// kind and has no call of its own for it is refused as for want of memory.
 pub(crate) fn refuse<E: Error, V>(
     alloc: Global,
     shown: Kind,
