@@ -5,3 +5,5 @@ mod numbers;
 mod options;
 mod sequences;
 mod texts;
+
+pub(crate) use texts::char_text;

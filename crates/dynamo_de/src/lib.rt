@@ -38,4 +38,5 @@ pub use reader::Reader;
 pub use reader_access::{ReaderEnumAccess, ReaderMapAccess, ReaderSeqAccess, ReaderVariantAccess};
 pub use request::Request;
 pub use showing::Showing;
+pub use taken::{elements_of, entries_of, identifier_of, invalid_type};
 pub use visitor::Visitor;

@@ -34,8 +34,8 @@ pub enum Showing<D, L, M, C> {
 }
 
 impl<D, L, M, C> Showing<D, L, M, C> {
-    // The kind of what is shown, for the text of a refusal.
-    pub(crate) fn kind(&self) -> Kind {
+    /// The kind of what is shown, for the text of a refusal.
+    pub fn kind(&self) -> Kind {
         match self {
             Showing::Bool(_) => Kind::Bool,
             Showing::I8(_) => Kind::I8,

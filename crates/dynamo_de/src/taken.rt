@@ -1,14 +1,32 @@
-//! What the library's own types take of what a reader shows.
+//! What types take of what a reader shows: the parts of which several are made, and the refusal of all else.
 
-ghost use Rattle.std.specs.Prelude.{◌≡◌};
+ghost use Rattle.std.specs.Prelude.{◌≡◌, ◌⊎◌, Err, string_bytes};
+ghost use Rattle.dynamo_value.specs.Fault.{out_of_memory};
 ghost use Rattle.dynamo_de.specs.Answer.{Gives};
-ghost use Rattle.dynamo_de.specs.Meets.{Meets};
-ghost use Rattle.dynamo_de.specs.Reading.{taken_from, read_entries};
+ghost use Rattle.dynamo_de.specs.Meets.{Meets, IsMessage};
+ghost use Rattle.dynamo_de.specs.Reading.{taken_from, read_entries, read_identifier};
 ghost use Rattle.dynamo_de.specs.Takes.{Where, Refuses};
 ghost use Rattle.dynamo_de.specs.Visitors.{claims_seq, take_elements};
 
+use crate::impls::char_text;
 use crate::{Error, Kind, Reader, Request, Showing};
 use std::alloc::Global;
+
+/// The refusal of a kind that isn't taken, as `invalid type: string, expected a boolean`.
+pub fn invalid_type<E: Error>(alloc: Global, shown: Kind, expecting: &str) -> E
+    ensures { (E.fault result ≡ out_of_memory) ⊎ IsMessage {V = E} (Err (E.fault result)) }
+{
+    let mut text = String::new(alloc);
+    let written = text.push_str("invalid type: ").is_ok()
+        && text.push_str(shown.name()).is_ok()
+        && text.push_str(", expected ").is_ok()
+        && text.push_str(expecting).is_ok();
+    if written {
+        E::custom(alloc, text.as_str())
+    } else {
+        E::out_of_memory()
+    }
+}
 
 /// The refusal of what isn't taken: a message that names what was shown and what was expected. A visitor that claims the
 /// kind and has no call of its own for it is refused as for want of memory.
@@ -23,21 +41,16 @@ pub(crate) fn refuse<E: Error, V>(
     if claimed {
         return Err(E::out_of_memory());
     }
-    let mut text = String::new(alloc);
-    let written = text.push_str("invalid type: ").is_ok()
-        && text.push_str(shown.name()).is_ok()
-        && text.push_str(", expected ").is_ok()
-        && text.push_str(expecting).is_ok();
-    if written {
-        Err(E::custom(alloc, text.as_str()))
-    } else {
-        Err(E::out_of_memory())
-    }
+    Err(invalid_type(alloc, shown, expecting))
 }
 
-// The entries of a map that is asked for.
+/// The entries of a map that is asked for.
+///
+/// # Errors
+///
+/// What is shown in place of a map is refused by a message that names what was expected.
 #[inline(never)]
-pub(crate) fn entries_of<R: Reader>(
+pub fn entries_of<R: Reader>(
     alloc: Global,
     reader: R,
     expecting: &str,
@@ -46,13 +59,17 @@ pub(crate) fn entries_of<R: Reader>(
 {
     match reader.show(Request::Map)? {
         Showing::Map(entries) => Ok(entries),
-        other => refuse(alloc, other.kind(), false, expecting),
+        other => Err(invalid_type(alloc, other.kind(), expecting)),
     }
 }
 
-// The elements of a sequence that is asked for.
+/// The elements of a sequence, which is asked for by this request: as a sequence, a tuple or a tuple struct.
+///
+/// # Errors
+///
+/// What is shown in place of a sequence is refused by a message that names what was expected.
 #[inline(never)]
-pub(crate) fn elements_of<R: Reader>(
+pub fn elements_of<R: Reader>(
     alloc: Global,
     request: Request,
     reader: R,
@@ -62,6 +79,26 @@ pub(crate) fn elements_of<R: Reader>(
 {
     match reader.show(request)? {
         Showing::Sequence(elements) => Ok(elements),
-        other => refuse(alloc, other.kind(), false, expecting),
+        other => Err(invalid_type(alloc, other.kind(), expecting)),
+    }
+}
+
+/// The name of a field or of a variant.
+///
+/// # Errors
+///
+/// What is shown in place of a text is refused by a message that names what was expected.
+pub fn identifier_of<R: Reader>(
+    alloc: Global,
+    reader: R,
+    expecting: &str,
+) -> Result<String, R::Error>
+    ensures { Meets R.Error.fault (Gives string_bytes (read_identifier (R.source reader))) result }
+{
+    match reader.show(Request::Identifier)? {
+        Showing::Text(name) => Ok(name),
+        Showing::Char(c) => char_text(alloc, c),
+        Showing::FirstChar(_) => Err(R::more_than_one_char()),
+        other => Err(invalid_type(alloc, other.kind(), expecting)),
     }
 }

@@ -5,7 +5,6 @@ use Rattle.dynamo_ser.specs.Datum.{Datum}
 use Rattle.dynamo_de.specs.Access.{NextValue}
 use Rattle.dynamo_de.specs.Answer as answer
 use Rattle.dynamo_de.specs.Answer.{Answer, After}
-use Rattle.dynamo_de.specs.Meets.{Meets}
 use Rattle.dynamo_de.specs.Source.{Source, Entry}
 use Rattle.dynamo_shape.specs.Laws.{AnswersByShape}
 use Rattle.dynamo_shape.specs.Same.{Same}
@@ -57,14 +56,3 @@ module _ {V W E : Type 0} (fault : E → Fault) (P : Source → Result V Fault �
       along : (p : Option Source) → NextValue fault P l p l2 p2 (Err e) → NextValue fault Q l p l2 p2 (Err e)
       along None h = (h.0, h.1, elim h.2 [ inl lacks ↦ inl lacks | inr refused ↦ inr (ap Err (same_fault refused)) ])
       along (Some s) h = (h.0, h.1, elim h.2 [ inl lacks ↦ inl lacks | inr refused ↦ inr (more s (fault e) refused) ])
-
--- ---- what is answered on a condition
-
-pub after_given : {A V : Type 0} (C : Type 0) (a : Answer A) (P : A → Result V Fault → Type 0) → C → (r : Result V Fault) → After a (λ x r. C → P x r) r → After a P r
-after_given C (Ok x) P c r h = h c
-after_given C (Err f) P c r h = h
-
-pub meets_on : {V E : Type 0} (C : Type 0) (fault : E → Fault) (P : Result V Fault → Type 0) (r : Result V E) → Meets fault P r → Meets fault (λ r. C → P r) r
-meets_on C fault P (Ok v) h = λ _. h
-meets_on C fault P (Err e) (inl lacks) = inl lacks
-meets_on C fault P (Err e) (inr h) = inr (λ _. h)

@@ -1,5 +1,5 @@
 -- The variant of a name is that at the name's place.
-use Rattle.std.proofs.Common.{arith, map, ◌≤◌, ◌≡◌, ◌⊎◌, ◌<◌, ◌+◌, ◌^◌, ℕ, zero, suc, true, false, List, [], ◌∷◌, Option, Result, Ok, Err, refl, sym, ap, subst, ◌∙◌, inl, inr, length}
+use Rattle.std.proofs.Common.{arith, map, ◌≤◌, ◌≡◌, ◌<◌, ◌+◌, ◌^◌, ℕ, zero, suc, true, false, List, [], ◌∷◌, Option, Result, Ok, Err, refl, sym, ap, subst, ◌∙◌, inl, inr, length}
 use Rattle.std.specs.Prelude.{if◌then◌else◌, bytes_eq, ⊤}
 use Rattle.dynamo_value.specs.Fault.{Fault}
 use Rattle.dynamo_de.specs.Access.{ReadsVariant}
@@ -15,7 +15,7 @@ use Rattle.dynamo_shape.specs.Permits.{Permits}
 use Rattle.dynamo_shape.specs.Read.{read_inside, read_one_of}
 use Rattle.dynamo_shape.specs.Same.{Same}
 use Rattle.dynamo_shape.proofs.Answered.{after}
-use Rattle.dynamo_record.specs.Enums.{AboutEnum, AsMany, of_variants, NamesVariant, FromVariant, FromVariants, VariantsNamed, enum_reads, enum_shape, enum_tells, enum_variants}
+use Rattle.dynamo_record.specs.Enums.{AboutEnum, AsMany, of_variants, NamesVariant, FromVariant, VariantsNamed, enum_reads, enum_shape, enum_tells, enum_variants}
 use Rattle.dynamo_record.specs.Names.{Names, first_name, other_names, names_from, place_of}
 use Rattle.dynamo_record.specs.Variants.{AboutVariants, Contents, ReadsAt, read_at, tag, variants_of}
 
@@ -119,56 +119,6 @@ module _ {V L : Type 0} (a : AboutEnum V L) (named : VariantsNamed a) where
   pub enum_by_source : {E : Type 0} (fault : E → Fault) (s : Source) (r : Result V E) → Meets fault (After (read_variant s) (FromVariant a)) r → Meets fault (enum_reads a s) r
   enum_by_source fault s r h = meets_more fault (After (read_variant s) (FromVariant a)) (enum_reads a s)
       (λ r k. after (conforms (enum_shape a)) Same (enum_tells a) (FromVariant a) (λ v. read_one_of (enum_variants a) a.name 0 v.0 v.1) (λ v r k. k) (read_variant s) r k) r h
-
--- ---- by a list of the variants that may be as long
-
-same_or_not : (m n : ℕ) → (m ≡ n) ⊎ ((m ≡ n) → ⊥)
-same_or_not zero zero = inl refl
-same_or_not zero (suc n) = inr (λ h. subst IsZero h tt)
-same_or_not (suc m) zero = inr (λ h. subst IsZero (sym h) tt)
-same_or_not (suc m) (suc n) = elim (same_or_not m n) [ inl h ↦ inl (ap suc h) | inr apart ↦ inr (λ h. apart (ap less h)) ]
-
-module _ {V L E C : Type 0} (b : AboutEnum V L) (list : AboutVariants L) (named : VariantsNamed b) (fault : E → Fault) (content : C → Option Source) where
-  abbrev Listed : Result (Text × Option Source) Fault → Result V E → Type 0
-  Listed v r = Meets fault (After (or_its_fault v) (FromVariants b list)) r
-
-  abbrev Chooses : Result (Text × Option Source) Fault → Result (ℕ × C) E → Type 0
-  Chooses = ReadsVariant fault (λ s r. After (read_identifier s) (NamesVariant b.names) r) content
-
-  -- what fails where the list is as long fails
-  fails : (p : Text × Option Source) (e : E) → (AsMany b list → Meets {V = V} fault (FromVariant (of_variants b list) p) (Err e)) → Listed (Ok p) (Err e)
-  fails p e h = elim (same_or_not b.list.count list.count) [
-    | inl many ↦ elim (h many) [ inl lacks ↦ inl lacks | inr failed ↦ inr (λ _. failed) ]
-    | inr apart ↦ inr (λ many. absurd (apart many))
-  ]
-
-  module _ (place : ℕ) (t : C) where
-    abbrev ReadsThere : Result L E → Type 0
-    ReadsThere r = place < list.count → place + 1 < 2 ^ 64 → Meets fault (ReadsAt list.contents list.told b.name b.names 0 [] place (content t)) r
-
-    there : (v : Result (Text × Option Source) Fault) (r : Result L E) → AsMany b list → Chooses v (Ok (place, t)) → ReadsThere r → Meets fault (ReadsAt list.contents list.told b.name b.names 0 [] place (content t)) r
-    there v r many h k = let fits = place_fits (of_variants b list) (named_as b list named many) fault content v place t h in k fits.0 fits.1
-
-    pub list_made : (v : Result (Text × Option Source) Fault) (x : L) (y : V) → b.parts y ≡ x → Chooses v (Ok (place, t)) → ReadsThere (Ok x) → Listed v (Ok y)
-    list_made (Err f) x y e h k = absurd h
-    list_made (Ok p) x y e h k = λ many. enum_made (of_variants b list) (named_as b list named many) fault content place t (Ok p) x y e h (there (Ok p) (Ok x) many h k)
-
-    pub list_fails : (v : Result (Text × Option Source) Fault) (e : E) → Chooses v (Ok (place, t)) → ReadsThere (Err e) → Listed v (Err e)
-    list_fails (Err f) e h k = absurd h
-    list_fails (Ok p) e h k = fails p e (λ many. enum_fails (of_variants b list) (named_as b list named many) fault content place t (Ok p) e h (there (Ok p) (Err e) many h k))
-
-  pub name_fails : (v : Result (Text × Option Source) Fault) (e : E) → Chooses v (Err e) → Listed v (Err e)
-  name_fails (Err f) e h = h
-  name_fails (Ok p) e h = fails p e (λ many. tag_fails (of_variants b list) (named_as b list named many) fault content (Ok p) e h)
-
-pub list_by_source : {V L E : Type 0} (b : AboutEnum V L) (list : AboutVariants L) → VariantsNamed b → AsMany b list → (fault : E → Fault) (s : Source) (r : Result V E) → Meets fault (After (read_variant s) (FromVariants b list)) r → Meets fault (enum_reads (of_variants b list) s) r
-list_by_source {V} b list named many fault s r h =
-    enum_by_source (of_variants b list) (named_as b list named many) fault s r
-    (meets_more fault (After (read_variant s) (FromVariants b list)) (After (read_variant s) (FromVariant (of_variants b list))) (λ r k. along (read_variant s) r k) r h)
-  where
-    along : (a : Answer (Text × Option Source)) (r : Result V Fault) → After a (FromVariants b list) r → After a (FromVariant (of_variants b list)) r
-    along (Ok p) r k = k many
-    along (Err f) r k = k
 
 -- ---- a text that names no variant
 

@@ -5,13 +5,11 @@ use Rattle.dynamo_ser.specs.Datum as datum
 use Rattle.dynamo_ser.specs.Datum.{elements_of}
 use Rattle.dynamo_de.specs.Answer.{After}
 use Rattle.dynamo_value.specs.Steps.{◌>>=◌}
-use Rattle.dynamo_de.specs.Reading.{read_elements}
+use Rattle.dynamo_de.specs.Reading.{taken_from, read_elements}
 use Rattle.dynamo_de.specs.Meets.{Meets}
 use Rattle.dynamo_de.specs.Source.{Source, Text}
-use Rattle.dynamo_de.specs.Takes.{Asks}
 use Rattle.dynamo_de.specs.Visitors.{claims_seq, take_elements}
 use Rattle.dynamo_de.specs.declared.request.Request.TheVariants as request
-use Rattle.dynamo_de.proofs.Reading.{as_read}
 use Rattle.dynamo_de.proofs.Meets.{meets_more}
 use Rattle.dynamo_shape.specs.Conforms.{conforms, conform_each}
 use Rattle.dynamo_shape.specs.Read.{read_each}
@@ -32,5 +30,5 @@ module _ {L E : Type 0} (name : Text) (a : AboutList L) (fault : E → Fault) (s
       (λ ds c. subst (conform_each (shapes_of (a.shapes []))) (sym (ap elements_in c.1)) c.2) (λ ds es same. (es, refl, same))
       (read_elements s >>= read_each (shapes_of (a.shapes []))) r (in_order {C = L} {E = E} fault (λ l. l) a (datum.variant [] 0 []) s r h)
 
-  pub tuple_read : (r : Result L E) → Asks fault claims_seq (λ x. After (take_elements x) (ReadsInOrder a)) request.TupleStruct s r → Meets fault (ReadsAs (named_tuple name a) s) r
-  tuple_read r h = meets_more fault (After (read_elements s) (ReadsInOrder a)) (ReadsAs (named_tuple name a) s) as_tuple r (as_read claims_seq take_elements (ReadsInOrder a) (λ c x f e h. cc) request.TupleStruct fault s r h)
+  pub tuple_read : (r : Result L E) → Meets fault (After (taken_from claims_seq take_elements request.TupleStruct s) (ReadsInOrder a)) r → Meets fault (ReadsAs (named_tuple name a) s) r
+  tuple_read r h = meets_more fault (After (read_elements s) (ReadsInOrder a)) (ReadsAs (named_tuple name a) s) as_tuple r h

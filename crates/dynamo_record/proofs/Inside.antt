@@ -9,13 +9,7 @@ use Rattle.dynamo_de.specs.Answer.{Answer, After}
 use Rattle.dynamo_value.specs.Steps.{◌>>=◌}
 use Rattle.dynamo_de.specs.Reading.{read_elements}
 use Rattle.dynamo_de.specs.Meets.{Meets}
-use Rattle.dynamo_de.specs.Shown.{shown}
 use Rattle.dynamo_de.specs.Source.{Source, Text}
-use Rattle.dynamo_de.specs.Takes as takes
-use Rattle.dynamo_de.specs.Takes.{Takes}
-use Rattle.dynamo_de.specs.Visitors.{claims_seq, take_elements}
-use Rattle.dynamo_de.specs.declared.request.Request.TheVariants as request
-use Rattle.dynamo_de.proofs.Reading.{as_read}
 use Rattle.dynamo_shape.specs.Conforms.{conforms, conform_each, conforms_content}
 use Rattle.dynamo_shape.specs.Laws.{AnswersByShape, ReadsByShape}
 use Rattle.dynamo_shape.specs.Permits.{Permits}
@@ -87,8 +81,8 @@ module _ {L E : Type 0} (fault : E → Fault) (a : AboutList L) (xs : List Sourc
   too_few e text h m = elim m [ inl says ↦ inr (subst (λ q. Permits SameData q (Err (fault e))) (sym h) (text, says)) | inr lacks ↦ inl lacks ]
 
 module _ {C L E : Type 0} (fault : E → Fault) (part : C → L) (a : AboutList L) (v : Variant) where
-  abbrev AsksElements : Option Source → Result L E → Type 0
-  AsksElements s r = Meets fault (OfContent (λ s r. takes.Visited (Takes claims_seq (λ x. After (take_elements x) (ReadsInOrder a))) (shown request.Seq s) r) s) r
+  abbrev OfElements : Option Source → Result L E → Type 0
+  OfElements s r = Meets fault (OfContent (λ s. After (read_elements s) (ReadsInOrder a)) s) r
 
   abbrev Tuple : Option Source → Result C E → Type 0
   Tuple s = Meets fault (ReadsInside (about_several part a).shape (about_several part a).told v s)
@@ -110,16 +104,16 @@ module _ {C L E : Type 0} (fault : E → Fault) (part : C → L) (a : AboutList 
   pub in_order : (s : Source) (r : Result L Fault) → After (read_elements s) (ReadsInOrder a) r → AnswersByShape (conform_each Shapes_) SameElements Told (read_elements s >>= read_each Shapes_) r
   in_order s r h = after (conform_each Shapes_) SameElements Told (ReadsInOrder a) (read_each Shapes_) as_elements (read_elements s) r h
 
-  pub values_read : (s : Option Source) (x : L) (w : C) → part w ≡ x → AsksElements s (Ok x) → Tuple s (Ok w)
+  pub values_read : (s : Option Source) (x : L) (w : C) → part w ≡ x → OfElements s (Ok x) → Tuple s (Ok w)
   values_read None x w e h = absurd h
   values_read (Some y) x w e h =
       made_of (conform_each Shapes_) SameElements (conforms_content (shape.several Shapes_) v) Told ((about_several part a).told v) (datum.tuple_variant v)
       (λ d k. subst (conform_each Shapes_) (sym (ap elements_in k.1)) k.2) (λ d d2 same. (d2, refl, same)) (read_elements y >>= read_each Shapes_) x w (ap (λ l. datum.tuple_variant v (Told l)) e)
-      (in_order y (Ok x) (as_read claims_seq take_elements (ReadsInOrder a) (λ c x f e h. cc) request.Seq fault y (Ok x) h))
+      (in_order y (Ok x) h)
 
-  pub values_fail : (s : Option Source) (e : E) → AsksElements s (Err e) → Tuple s (Err e)
+  pub values_fail : (s : Option Source) (e : E) → OfElements s (Err e) → Tuple s (Err e)
   values_fail None e h = h
-  values_fail (Some y) e h = elim (as_read claims_seq take_elements (ReadsInOrder a) (λ c x f e h. cc) request.Seq fault y (Err e) h) [
+  values_fail (Some y) e h = elim h [
     | inl lacks ↦ inl lacks
     | inr failed ↦ inr (stops SameElements Same (read_elements y >>= read_each Shapes_) (λ ds. answer.value (datum.tuple_variant v ds)) (fault e) (in_order y (Err (fault e)) failed))
   ]

@@ -1,6 +1,5 @@
 -- What is read of the content of a struct variant.
 use Rattle.std.proofs.Common.{[], Option, Some, None, Result, Ok, Err, refl, sym, ap, subst}
-use Rattle.dynamo_value.specs.Av as av
 use Rattle.dynamo_value.specs.Fault.{Fault}
 use Rattle.dynamo_ser.specs.Datum as datum
 use Rattle.dynamo_ser.specs.Datum.{Fields, Variant}
@@ -8,16 +7,11 @@ use Rattle.dynamo_de.specs.Access.{OfContent}
 use Rattle.dynamo_de.specs.Answer as answer
 use Rattle.dynamo_de.specs.Answer.{Answer, After}
 use Rattle.dynamo_value.specs.Steps.{◌>>=◌}
-use Rattle.dynamo_de.specs.Reading.{taken, read_entries}
+use Rattle.dynamo_de.specs.Reading.{read_entries}
 use Rattle.dynamo_de.specs.Meets.{Meets}
-use Rattle.dynamo_de.specs.Shown.{shown}
-use Rattle.dynamo_de.specs.Source.{Source, Text, attribute, key_text, number_text, plain_text, byte_string}
-use Rattle.dynamo_de.specs.Takes as takes
-use Rattle.dynamo_de.specs.Takes.{Takes}
-use Rattle.dynamo_de.specs.Visitors.{claims_struct, take_parts, Parts, by_name, claims_map, take_entries}
-use Rattle.dynamo_de.specs.declared.request.Request.TheVariants as request
+use Rattle.dynamo_de.specs.Source.{Source, Text}
+use Rattle.dynamo_de.specs.Visitors.{by_name}
 use Rattle.dynamo_de.proofs.Meets.{meets_more}
-use Rattle.dynamo_de.proofs.Reading.{number_cases}
 use Rattle.dynamo_shape.specs.Conforms.{conform_fields, conforms_content}
 use Rattle.dynamo_shape.specs.Laws.{AnswersByShape}
 use Rattle.dynamo_shape.specs.Read.{into, read_field, fields_by_name}
@@ -32,39 +26,8 @@ use Rattle.dynamo_record.specs.Listed.{AboutList}
 use Rattle.dynamo_record.specs.Names.{Names}
 use Rattle.dynamo_record.specs.Records.{AboutRecord, record_of, record_fields, FromParts, RecordAnswers}
 use Rattle.dynamo_record.specs.Variants.{ReadsInside}
-use Rattle.dynamo_record.proofs.Answering.{after_given}
 
--- ---- the entries are those that a struct is asked for
-
-module _ {V : Type 0} (next : Parts → Result V Fault → Type 0) where
-  abbrev Asked : Source → Result V Fault → Type 0
-  Asked s = takes.Visited (Takes claims_struct (λ x. After (take_parts x) next)) (shown request.Map s)
-
-  abbrev Entries : Source → Result V Fault → Type 0
-  Entries s = After (read_entries s) (λ es. next (by_name es))
-
-  entries_from : (s : Source) (r : Result V Fault) → Asked s r → Entries s r
-  entries_from (attribute (av.M ms)) r h = h
-  entries_from (attribute _) r h = h
-  entries_from (key_text t) r h = h
-  entries_from (number_text t) r h = number_cases (λ x. takes.Visited (Takes claims_struct (λ y. After (take_parts y) next)) x r → After (taken claims_map take_entries x) (λ es. next (by_name es)) r) (λ z k. k) (λ z k. k) (λ t k. k) (λ f k. k) t h
-  entries_from (plain_text t) r h = h
-  entries_from (byte_string bytes) r h = h
-
-  of_content : (c : Option Source) (r : Result V Fault) → OfContent Asked c r → OfContent Entries c r
-  of_content None r h = h
-  of_content (Some s) r h = entries_from s r h
-
-  pub named_content : {E : Type 0} (fault : E → Fault) (c : Option Source) (r : Result V E) → Meets fault (OfContent Asked c) r → Meets fault (OfContent Entries c) r
-  named_content fault c r h = meets_more fault (OfContent Asked c) (OfContent Entries c) (of_content c) r h
-
--- what is read on a condition that holds
-pub named_given : {V E : Type 0} (C : Type 0) (P : Parts → Result V Fault → Type 0) (fault : E → Fault) (c : Option Source) (r : Result V E) → C → Meets fault (OfContent (λ s. After (read_entries s) (λ es r. C → P (by_name es) r)) c) r → Meets fault (OfContent (λ s. After (read_entries s) (λ es. P (by_name es))) c) r
-named_given C P fault None r k h = h
-named_given C P fault (Some s) r k h = meets_more fault (After (read_entries s) (λ es r. C → P (by_name es) r)) (After (read_entries s) (λ es. P (by_name es))) (after_given C (read_entries s) (λ es. P (by_name es)) k) r h
-
--- ---- and the fields are those of the struct that they would be
-
+-- The fields are those of the struct that they would be.
 module _ {C L : Type 0} (own : Text) (names : Names) (list : C → L) (l : AboutList L) (v : Variant) where
   abbrev Struct : AboutRecord C L
   Struct = record_of own names list l

@@ -15,11 +15,8 @@ use Rattle.dynamo_de.specs.Answer.{After}
 use Rattle.dynamo_de.specs.Reading.{read_variant, read_identifier}
 use Rattle.dynamo_de.specs.Meets.{Meets}
 use Rattle.dynamo_de.specs.Source.{Source, Text}
-use Rattle.dynamo_de.specs.Takes.{Asks}
-use Rattle.dynamo_de.specs.Visitors.{claims_enum, take_variant, or_its_fault}
-use Rattle.dynamo_de.specs.declared.request.Request.TheVariants as request
+use Rattle.dynamo_de.specs.Visitors.{or_its_fault}
 use Rattle.dynamo_de.proofs.Meets.{meets_more}
-use Rattle.dynamo_de.proofs.Reading.{as_read}
 use Rattle.dynamo_shape.specs.Conforms.{conforms, conforms_variant}
 use Rattle.dynamo_shape.specs.Permits.{Permits}
 use Rattle.dynamo_shape.specs.Read.{read_one_of}
@@ -103,11 +100,10 @@ module _ {T : Type 0} (a : AboutUnits T) where
     variant_fails (Ok p) e h = elim h [ inl lacks ↦ inl lacks | inr failed ↦ inr (from_variant p (Err (fault e)) failed) ]
     variant_fails (Err f) e h = h
 
-  pub enum_answered : {E : Type 0} (fault : E → Fault) (source : Source) (r : Result T E) → Asks fault claims_enum (λ s. After (take_variant s) (FromVariant a)) request.Enum source r → Meets fault (unit_enum_reads a source) r
+  pub enum_answered : {E : Type 0} (fault : E → Fault) (source : Source) (r : Result T E) → Meets fault (After (read_variant source) (FromVariant a)) r → Meets fault (unit_enum_reads a source) r
   enum_answered fault source r h =
       meets_more fault (After (read_variant source) (FromVariant a)) (unit_enum_reads a source)
-      (λ r k. after (conforms (unit_enum_shape a)) Same (unit_enum_tells a) (FromVariant a) (λ v. read_one_of (unit_variants a.names) a.name 0 v.0 v.1) (λ v r x. x) (read_variant source) r k)
-      r (as_read claims_enum take_variant (FromVariant a) (λ c x f e h. cc) request.Enum fault source r h)
+      (λ r k. after (conforms (unit_enum_shape a)) Same (unit_enum_tells a) (FromVariant a) (λ v. read_one_of (unit_variants a.names) a.name 0 v.0 v.1) (λ v r x. x) (read_variant source) r k) r h
 
 -- ---- places in lists
 

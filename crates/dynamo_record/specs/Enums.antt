@@ -76,7 +76,3 @@ module _ {V L : Type 0} (a : AboutEnum V L) where
   -- No two variants have one name, and each has one.
   abbrev pub VariantsNamed : Type 0
   VariantsNamed = (differ a.names ≡ true) × (length a.names ≡ a.list.count)
-
--- what may be answered on the name of a variant and its content, by this list of the variants
-abbrev pub FromVariants : {V L : Type 0} → AboutEnum V L → AboutVariants L → Text × Option Source → Result V Fault → Type 0
-FromVariants a list p r = AsMany a list → FromVariant (of_variants a list) p r

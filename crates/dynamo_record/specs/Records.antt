@@ -83,10 +83,6 @@ module _ {V L : Type 0} (a : AboutRecord V L) where
 abbrev pub AsLong : {V L : Type 0} → AboutRecord V L → AboutList L → Type 0
 AsLong a list = length (a.list.shapes []) ≡ length (list.shapes [])
 
--- what may be answered on the parts of a struct, by a list of fields that is as long
-abbrev pub FromPartsOf : {V L : Type 0} → AboutRecord V L → AboutList L → Parts → Result V Fault → Type 0
-FromPartsOf a list p r = AsLong a list → FromParts (listed a list) p r
-
 -- the place of the first field of this name, where the first has place i; of another name the place behind the last
 abbrev pub place_in : ℕ → FieldShapes → Text → ℕ
 place_in i shape.no_field_shapes t = i

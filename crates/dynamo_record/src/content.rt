@@ -1,7 +1,10 @@
 ghost use Rattle.std.specs.Prelude.{◌≡◌, ◌⊎◌};
 ghost use Rattle.dynamo_value.specs.Fault.{message, out_of_memory};
+ghost use Rattle.dynamo_de.specs.Access.{OfContent};
 ghost use Rattle.dynamo_de.specs.Answer.{After};
 ghost use Rattle.dynamo_de.specs.Meets.{Meets};
+ghost use Rattle.dynamo_de.specs.Reading as reading;
+ghost use Rattle.dynamo_de.specs.Reading.{taken_from};
 ghost use Rattle.dynamo_de.specs.Visitors.{claims_seq, take_elements};
 ghost use Rattle.dynamo_record.specs.Contents.{about_nothing, about_one, about_several};
 ghost use Rattle.dynamo_record.specs.InOrder.{ReadsInOrder};
@@ -9,9 +12,8 @@ ghost use Rattle.dynamo_record.specs.Names.{too_few_text};
 ghost use Rattle.dynamo_record.specs.Variants.{about_content};
 
 use crate::{FieldList, FieldType, VariantList};
-use dynamo_de::{Error, Kind, SeqAccess, VariantAccess, Visitor};
+use dynamo_de::{Error, Reader, ReaderSeqAccess, Request, SeqAccess, VariantAccess, elements_of};
 use std::alloc::Global;
-use std::marker::PhantomData;
 
 /// The content of a unit variant.
 #[derive(Clone, Copy)]
@@ -71,11 +73,7 @@ impl<L: FieldList + Drop> VariantList for Several<L> {
         content: A,
         alloc: Global,
     ) -> Result<Several<L>, A::Error> {
-        let visitor = ElementsVisitor::<L> {
-            alloc,
-            of: PhantomData,
-        };
-        match content.tuple_variant(L::count(), visitor) {
+        match read_several::<L, A>(alloc, content) {
             Ok(fields) => Ok(Several(fields)),
             Err(error) => Err(error),
         }
@@ -107,32 +105,25 @@ pub(crate) fn read_elements<L: FieldList + Drop, A: SeqAccess>(
     }
 }
 
-#[derive(Drop)]
-struct ElementsVisitor<L> {
+/// Reads fields in order from a sequence, which is asked for by this request.
+pub(crate) fn read_fields<L: FieldList + Drop, R: Reader>(
     alloc: Global,
-    of: PhantomData<L>,
+    request: Request,
+    reader: R,
+    expecting: &str,
+) -> Result<L, R::Error>
+    ensures { Meets R.Error.fault (After (taken_from claims_seq take_elements request (R.source reader)) (ReadsInOrder L.about)) result }
+{
+    let elements = elements_of(alloc, request, reader, expecting)?;
+    read_elements(ReaderSeqAccess::<R>::new(elements), alloc, expecting)
 }
 
-impl<L: FieldList + Drop> Visitor for ElementsVisitor<L> {
-    type Value = L;
-
-    ghost claimed = { λ _. claims_seq };
-
-    ghost takes = { λ _ s. After (take_elements s) (ReadsInOrder L.about) };
-
-    fn expecting(&self) -> &'static str {
-        "tuple variant"
-    }
-
-    fn alloc(&self) -> Global {
-        self.alloc
-    }
-
-    fn claims(&self, kind: Kind) -> bool {
-        matches!(kind, Kind::Seq)
-    }
-
-    fn visit_seq<A: SeqAccess>(self, seq: A) -> Result<L, A::Error> {
-        read_elements(seq, self.alloc, "tuple variant")
-    }
+/// Reads the fields of a tuple variant.
+fn read_several<L: FieldList + Drop, A: VariantAccess>(
+    alloc: Global,
+    content: A,
+) -> Result<L, A::Error>
+    ensures { Meets A.Error.fault (OfContent (λ s. After (reading.read_elements s) (ReadsInOrder L.about)) (A.content content)) result }
+{
+    read_fields(alloc, Request::Seq, content.reader()?, "tuple variant")
 }

@@ -1,14 +1,17 @@
 ghost use Rattle.std.specs.Prelude.{◌≡◌, ◌++◌, codes, map};
 ghost use Rattle.dynamo_de.specs.Answer.{After};
 ghost use Rattle.dynamo_de.specs.Meets.{Meets};
-ghost use Rattle.dynamo_de.specs.Reading.{read_identifier};
-ghost use Rattle.dynamo_de.specs.Visitors.{claims_str, take_identifier, claims_enum, take_variant};
-ghost use Rattle.dynamo_record.specs.Enums.{AboutEnum, of_variants, enum_reads, NamesVariant, FromVariants, AsMany, VariantsNamed};
+ghost use Rattle.dynamo_de.specs.Reading.{read_identifier, read_variant};
+ghost use Rattle.dynamo_de.specs.Visitors.{or_its_fault};
+ghost use Rattle.dynamo_record.specs.Enums.{AboutEnum, of_variants, enum_reads, NamesVariant, FromVariant, AsMany, VariantsNamed};
 
 use crate::VariantList;
 use crate::names::place_of;
 use crate::variant_names::unknown_variant;
-use dynamo_de::{DeserializeSeed, Deserializer, EnumAccess, Error, Kind, Visitor};
+use dynamo_de::{
+    DeserializeSeed, Deserializer, EnumAccess, Error, Reader, ReaderEnumAccess, Request, Showing,
+    identifier_of, invalid_type,
+};
 use std::alloc::Global;
 use std::marker::PhantomData;
 
@@ -41,42 +44,20 @@ pub trait Enumeration: Sized + Drop {
     ghost named: { VariantsNamed about };
 }
 
-#[derive(Drop)]
-struct TagVisitor<T> {
-    alloc: Global,
-    of: PhantomData<T>,
-}
-
-impl<T: Enumeration> Visitor for TagVisitor<T> {
-    type Value = usize;
-
-    ghost claimed = { λ _. claims_str };
-
-    ghost takes = { λ _ s. After (take_identifier s) (NamesVariant T.about.names) };
-
-    fn expecting(&self) -> &'static str {
-        "variant identifier"
-    }
-
-    fn alloc(&self) -> Global {
-        self.alloc
-    }
-
-    fn claims(&self, kind: Kind) -> bool {
-        matches!(kind, Kind::Str)
-    }
-
-    fn visit_str<E: Error>(self, v: &str) -> Result<usize, E> {
-        let names = T::names();
-        let place = place_of(names, v);
-        if place < names.len() {
-            Ok(place)
-        } else {
-            Err(unknown_variant(self.alloc, v, names))
-        }
+/// The number of the variant of this name.
+fn place_named<T: Enumeration, E: Error>(alloc: Global, name: &str) -> Result<usize, E>
+    ensures { Meets E.fault (NamesVariant T.about.names name.now) result }
+{
+    let names = T::names();
+    let place = place_of(names, name);
+    if place < names.len() {
+        Ok(place)
+    } else {
+        Err(unknown_variant(alloc, name, names))
     }
 }
 
+/// The number of the variant that a name names.
 #[derive(Drop)]
 struct TagSeed<T> {
     alloc: Global,
@@ -89,50 +70,40 @@ impl<T: Enumeration> DeserializeSeed for TagSeed<T> {
     ghost reads = { λ _ s r. After (read_identifier s) (NamesVariant T.about.names) r };
 
     fn deserialize<D: Deserializer>(self, deserializer: D) -> Result<usize, D::Error> {
-        deserializer.deserialize_identifier(TagVisitor::<T> {
-            alloc: self.alloc,
-            of: PhantomData,
-        })
+        let name = identifier_of(self.alloc, deserializer, "variant identifier")?;
+        place_named::<T, D::Error>(self.alloc, name.as_str())
     }
 }
 
-#[derive(Drop)]
-struct EnumVisitor<T> {
-    alloc: Global,
-    of: PhantomData<T>,
-}
-
-impl<T: Enumeration> Visitor for EnumVisitor<T>
+/// Reads the variant that is chosen, and what it holds.
+fn read_chosen<T: Enumeration, A: EnumAccess>(alloc: Global, variant: A) -> Result<T, A::Error>
 where
     T::Variants: VariantList,
+    requires { AsMany T.about T.Variants.about }
+    ensures { Meets A.Error.fault (After (or_its_fault (A.chosen variant)) (FromVariant (of_variants T.about T.Variants.about))) result }
 {
-    type Value = T;
-
-    ghost claimed = { λ _. claims_enum };
-
-    ghost takes = { λ _ s. After (take_variant s) (FromVariants T.about T.Variants.about) };
-
-    fn expecting(&self) -> &'static str {
-        T::expecting()
+    let (place, content) = variant.variant_seed(TagSeed::<T> {
+        alloc,
+        of: PhantomData,
+    })?;
+    match <T::Variants as VariantList>::read(place, content, alloc) {
+        Ok(variant) => Ok(T::make(variant)),
+        Err(error) => Err(error),
     }
+}
 
-    fn alloc(&self) -> Global {
-        self.alloc
-    }
-
-    fn claims(&self, kind: Kind) -> bool {
-        matches!(kind, Kind::Enum)
-    }
-
-    fn visit_enum<A: EnumAccess>(self, variant: A) -> Result<T, A::Error> {
-        let (place, content) = variant.variant_seed(TagSeed::<T> {
-            alloc: self.alloc,
-            of: PhantomData,
-        })?;
-        match <T::Variants as VariantList>::read(place, content, self.alloc) {
-            Ok(variant) => Ok(T::make(variant)),
-            Err(error) => Err(error),
+/// Reads the variant of an enum that is asked for.
+fn read_shown<T: Enumeration, R: Reader>(alloc: Global, reader: R) -> Result<T, R::Error>
+where
+    T::Variants: VariantList,
+    requires { AsMany T.about T.Variants.about }
+    ensures { Meets R.Error.fault (After (read_variant (R.source reader)) (FromVariant (of_variants T.about T.Variants.about))) result }
+{
+    match reader.show(Request::Enum)? {
+        Showing::Enum(choice) => {
+            read_chosen::<T, ReaderEnumAccess<R>>(alloc, ReaderEnumAccess::new(choice))
         }
+        other => Err(invalid_type(alloc, other.kind(), T::expecting())),
     }
 }
 
@@ -150,12 +121,5 @@ where
     requires { AsMany T.about T.Variants.about }
     ensures { Meets D.Error.fault (enum_reads (of_variants T.about T.Variants.about) (D.source deserializer)) result }
 {
-    deserializer.deserialize_enum(
-        T::name(),
-        T::names(),
-        EnumVisitor::<T> {
-            alloc,
-            of: PhantomData,
-        },
-    )
+    read_shown::<T, D>(alloc, deserializer)
 }

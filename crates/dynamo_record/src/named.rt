@@ -9,11 +9,10 @@ ghost use Rattle.dynamo_record.specs.Names.{Names, differ};
 ghost use Rattle.dynamo_record.specs.Records.{record_of, listed, FromParts, AsLong};
 ghost use Rattle.dynamo_record.specs.Variants.{about_content};
 
-use crate::record::RecordVisitor;
+use crate::record::read_by_name;
 use crate::{FieldList, Record, VariantList};
 use dynamo_de::VariantAccess;
 use std::alloc::Global;
-use std::marker::PhantomData;
 
 /// The fields of a struct variant, described by their list.
 pub trait NamedFields {
@@ -66,13 +65,7 @@ where
     requires { AsLong R.about R.Fields.about }
     ensures { Meets A.Error.fault (OfContent (λ s. After (read_entries s) (λ es. FromParts (listed R.about R.Fields.about) (by_name es))) (A.content content)) result }
 {
-    content.struct_variant(
-        R::names(),
-        RecordVisitor::<R> {
-            alloc,
-            of: PhantomData,
-        },
-    )
+    read_by_name(alloc, content.reader()?)
 }
 
 impl<N: NamedFields> VariantList for Named<N> {

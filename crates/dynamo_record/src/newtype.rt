@@ -1,43 +1,22 @@
 ghost use Rattle.dynamo_ser.specs.Writes.{Writes};
 ghost use Rattle.dynamo_de.specs.Answer.{After};
 ghost use Rattle.dynamo_de.specs.Meets.{Meets};
+ghost use Rattle.dynamo_de.specs.Reading as reading;
 ghost use Rattle.dynamo_de.specs.Source.{Text};
-ghost use Rattle.dynamo_de.specs.Visitors.{claims_newtype, take_newtype};
 ghost use Rattle.dynamo_record.specs.Newtypes.{named_newtype, ReadsAs};
 
-use dynamo_de::{Deserializer, Kind, Visitor};
+use dynamo_de::{Deserialize, Deserializer, Reader, Request, Showing, invalid_type};
 use dynamo_ser::Serializer;
 use dynamo_types::Shaped;
 use std::alloc::Global;
-use std::marker::PhantomData;
 
-#[derive(Drop)]
-struct NewtypeVisitor<T> {
-    alloc: Global,
-    of: PhantomData<T>,
-}
-
-impl<T: Shaped> Visitor for NewtypeVisitor<T> {
-    type Value = T;
-
-    ghost claimed = { λ _. claims_newtype };
-
-    ghost takes = { λ _ s. After (take_newtype s) T.reads };
-
-    fn expecting(&self) -> &'static str {
-        "newtype struct"
-    }
-
-    fn alloc(&self) -> Global {
-        self.alloc
-    }
-
-    fn claims(&self, kind: Kind) -> bool {
-        matches!(kind, Kind::NewtypeStruct)
-    }
-
-    fn visit_newtype_struct<D: Deserializer>(self, deserializer: D) -> Result<T, D::Error> {
-        T::deserialize(self.alloc, deserializer)
+/// Reads the field of a newtype.
+fn read_content<T: Deserialize, R: Reader>(alloc: Global, reader: R) -> Result<T, R::Error>
+    ensures { Meets R.Error.fault (After (reading.read_newtype (R.source reader)) T.reads) result }
+{
+    match reader.show(Request::NewtypeStruct)? {
+        Showing::Newtype(content) => T::deserialize(alloc, content),
+        other => Err(invalid_type(alloc, other.kind(), "newtype struct")),
     }
 }
 
@@ -45,17 +24,11 @@ impl<T: Shaped> Visitor for NewtypeVisitor<T> {
 pub fn read_newtype<T: Shaped, D: Deserializer>(
     alloc: Global,
     deserializer: D,
-    name: &'static str,
+    _name: &'static str,
 ) -> Result<T, D::Error>
     ensures { (own : Text) → Meets D.Error.fault (ReadsAs (named_newtype own T.about) (D.source deserializer)) result }
 {
-    deserializer.deserialize_newtype_struct(
-        name,
-        NewtypeVisitor::<T> {
-            alloc,
-            of: PhantomData,
-        },
-    )
+    read_content(alloc, deserializer)
 }
 
 /// Writes the field of a newtype of this name: `write_newtype("Count", &self.0, serializer)`.

@@ -1,24 +1,26 @@
-ghost use Rattle.std.specs.Prelude.{◌≡◌, ◌++◌, Ok, codes, map, []};
+ghost use Rattle.std.specs.Prelude.{◌≡◌, ◌++◌, codes, map, []};
 ghost use Rattle.dynamo_ser.specs.Datum as datum;
 ghost use Rattle.dynamo_ser.specs.Writes.{Writes};
 ghost use Rattle.dynamo_de.specs.Access.{NextValue};
 ghost use Rattle.dynamo_de.specs.Answer.{After};
 ghost use Rattle.dynamo_de.specs.Fields.{NamesOne};
 ghost use Rattle.dynamo_de.specs.Meets.{Meets};
-ghost use Rattle.dynamo_de.specs.Visitors.{claims_str, take_identifier, claims_struct, take_parts, by_name};
+ghost use Rattle.dynamo_de.specs.Reading as reading;
+ghost use Rattle.dynamo_de.specs.Visitors.{by_name, in_order};
 ghost use Rattle.dynamo_shape.specs.Conforms.{conforms};
 ghost use Rattle.dynamo_shape.specs.Shape.{struct};
 ghost use Rattle.dynamo_shape.proofs.FieldsByName.{Slots};
 ghost use Rattle.dynamo_record.specs.Entries.{FillsAt};
 ghost use Rattle.dynamo_record.specs.Fields.{field_shapes, named_fields};
 ghost use Rattle.dynamo_record.specs.Names.{place_of};
-ghost use Rattle.dynamo_record.specs.Records.{AboutRecord, listed, record_fields, record_reads, FromParts, FromPartsOf, AreNamed, AsLong};
+ghost use Rattle.dynamo_record.specs.Records.{AboutRecord, listed, record_fields, record_reads, FromParts, AreNamed, AsLong};
 
 use crate::content::too_few;
 use crate::names::place_of;
 use crate::{FieldList, RefList};
 use dynamo_de::{
-    DeserializeSeed, Deserializer, Error, IgnoredAny, Kind, MapAccess, SeqAccess, Visitor,
+    DeserializeSeed, Deserializer, IgnoredAny, MapAccess, Reader, ReaderMapAccess, ReaderSeqAccess,
+    Request, SeqAccess, Showing, entries_of, identifier_of, invalid_type,
 };
 use dynamo_ser::{SerializeStruct, Serializer};
 use std::alloc::Global;
@@ -53,36 +55,7 @@ pub trait Record: Sized + Drop {
     ghost named: { AreNamed about };
 }
 
-#[derive(Drop)]
-struct PlaceVisitor<R> {
-    alloc: Global,
-    of: PhantomData<R>,
-}
-
-impl<R: Record> Visitor for PlaceVisitor<R> {
-    type Value = usize;
-
-    ghost claimed = { λ _. claims_str };
-
-    ghost takes = { λ _ s. After (take_identifier s) (λ t r. r ≡ Ok (place_of 0 R.about.names t)) };
-
-    fn expecting(&self) -> &'static str {
-        "field identifier"
-    }
-
-    fn alloc(&self) -> Global {
-        self.alloc
-    }
-
-    fn claims(&self, kind: Kind) -> bool {
-        matches!(kind, Kind::Str)
-    }
-
-    fn visit_str<E: Error>(self, v: &str) -> Result<usize, E> {
-        Ok(place_of(R::names(), v))
-    }
-}
-
+/// The place of the field that a key names.
 #[derive(Drop)]
 struct PlaceSeed<R> {
     alloc: Global,
@@ -95,15 +68,10 @@ impl<R: Record> DeserializeSeed for PlaceSeed<R> {
     ghost reads = { λ _. NamesOne (place_of 0 R.about.names) };
 
     fn deserialize<D: Deserializer>(self, deserializer: D) -> Result<usize, D::Error> {
-        deserializer.deserialize_identifier(PlaceVisitor::<R> {
-            alloc: self.alloc,
-            of: PhantomData,
-        })
+        let name = identifier_of(self.alloc, deserializer, "field identifier")?;
+        Ok(place_of(R::names(), name.as_str()))
     }
 }
-
-/// Why no struct is read whose description names other fields than it lists.
-const OTHER_FIELDS: &str = "a struct is described by other fields than it has";
 
 /// Reads the value that is pending as the field at this place; behind the last it is ignored.
 fn read_entry<R: Record, A: MapAccess>(
@@ -159,47 +127,44 @@ where
     }
 }
 
-#[derive(Drop)]
-pub(crate) struct RecordVisitor<R> {
-    pub(crate) alloc: Global,
-    pub(crate) of: PhantomData<R>,
-}
-
-impl<R: Record> Visitor for RecordVisitor<R>
+/// Reads the elements of a sequence as the fields of a struct, in order.
+fn read_in_order<R: Record, A: SeqAccess>(alloc: Global, mut seq: A) -> Result<R, A::Error>
 where
     R::Fields: FieldList,
+    ensures { Meets A.Error.fault (FromParts (listed R.about R.Fields.about) (in_order (A.left seq))) result }
 {
-    type Value = R;
-
-    ghost claimed = { λ _. claims_struct };
-
-    ghost takes = { λ _ s. After (take_parts s) (FromPartsOf R.about R.Fields.about) };
-
-    fn expecting(&self) -> &'static str {
-        R::expecting()
+    match <R::Fields as FieldList>::read_in_order(&mut seq, alloc)? {
+        Some(fields) => Ok(R::make(fields)),
+        None => Err(too_few(alloc, R::expecting())),
     }
+}
 
-    fn alloc(&self) -> Global {
-        self.alloc
-    }
+/// Reads a struct by the names of its fields, from a map alone.
+pub(crate) fn read_by_name<R: Record, D: Reader>(alloc: Global, reader: D) -> Result<R, D::Error>
+where
+    R::Fields: FieldList,
+    requires { AsLong R.about R.Fields.about }
+    ensures { Meets D.Error.fault (After (reading.read_entries (D.source reader)) (λ es. FromParts (listed R.about R.Fields.about) (by_name es))) result }
+{
+    let entries = entries_of(alloc, reader, R::expecting())?;
+    read_entries::<R, ReaderMapAccess<D>>(alloc, ReaderMapAccess::new(entries))
+}
 
-    fn claims(&self, kind: Kind) -> bool {
-        matches!(kind, Kind::Seq | Kind::Map)
-    }
-
-    fn visit_seq<A: SeqAccess>(self, mut seq: A) -> Result<R, A::Error> {
-        match <R::Fields as FieldList>::read_in_order(&mut seq, self.alloc)? {
-            Some(fields) => Ok(R::make(fields)),
-            None => Err(too_few(self.alloc, R::expecting())),
+/// Reads a struct by the names of its fields from a map, or in order from a sequence.
+fn read_shown<R: Record, D: Reader>(alloc: Global, reader: D) -> Result<R, D::Error>
+where
+    R::Fields: FieldList,
+    requires { AsLong R.about R.Fields.about }
+    ensures { Meets D.Error.fault (After (reading.read_parts (D.source reader)) (FromParts (listed R.about R.Fields.about))) result }
+{
+    match reader.show(Request::Struct)? {
+        Showing::Map(entries) => {
+            read_entries::<R, ReaderMapAccess<D>>(alloc, ReaderMapAccess::new(entries))
         }
-    }
-
-    fn visit_map<A: MapAccess>(self, map: A) -> Result<R, A::Error> {
-        if R::names().len() == <R::Fields as FieldList>::count() {
-            read_entries(self.alloc, map)
-        } else {
-            Err(A::Error::custom(self.alloc, OTHER_FIELDS))
+        Showing::Sequence(elements) => {
+            read_in_order::<R, ReaderSeqAccess<D>>(alloc, ReaderSeqAccess::new(elements))
         }
+        other => Err(invalid_type(alloc, other.kind(), R::expecting())),
     }
 }
 
@@ -217,14 +182,7 @@ where
     requires { AsLong R.about R.Fields.about }
     ensures { Meets D.Error.fault (record_reads (listed R.about R.Fields.about) (D.source deserializer)) result }
 {
-    deserializer.deserialize_struct(
-        R::name(),
-        R::names(),
-        RecordVisitor::<R> {
-            alloc,
-            of: PhantomData,
-        },
-    )
+    read_shown::<R, D>(alloc, deserializer)
 }
 
 /// Writes a struct by its fields: the body of `serialize`.

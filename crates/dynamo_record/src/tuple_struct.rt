@@ -1,21 +1,17 @@
 ghost use Rattle.std.specs.Prelude.{◌≡◌, ◌++◌, [], codes};
 ghost use Rattle.dynamo_ser.specs.Datum as datum;
 ghost use Rattle.dynamo_ser.specs.Writes.{Writes};
-ghost use Rattle.dynamo_de.specs.Answer.{After};
 ghost use Rattle.dynamo_de.specs.Meets.{Meets};
-ghost use Rattle.dynamo_de.specs.Visitors.{claims_seq, take_elements};
 ghost use Rattle.dynamo_shape.specs.Conforms.{conforms};
 ghost use Rattle.dynamo_shape.specs.Shape.{tuple_struct};
 ghost use Rattle.dynamo_record.specs.Fields.{shapes_of};
-ghost use Rattle.dynamo_record.specs.InOrder.{ReadsInOrder};
 ghost use Rattle.dynamo_record.specs.TupleStructs.{AboutTupleStruct, tuple_struct_reads, with_fields};
 
-use crate::content::read_elements;
+use crate::content::read_fields;
 use crate::{FieldList, RefList};
-use dynamo_de::{Deserializer, Kind, SeqAccess, Visitor};
+use dynamo_de::{Deserializer, Request};
 use dynamo_ser::{SerializeTupleStruct, Serializer};
 use std::alloc::Global;
-use std::marker::PhantomData;
 
 /// A struct of several fields in order, which have no names: it is described by the list of their types.
 pub trait TupleStruct: Sized + Drop {
@@ -43,39 +39,6 @@ pub trait TupleStruct: Sized + Drop {
         ensures { about.parts result ≡ fields };
 }
 
-#[derive(Drop)]
-struct TupleStructVisitor<R> {
-    alloc: Global,
-    of: PhantomData<R>,
-}
-
-impl<R: TupleStruct> Visitor for TupleStructVisitor<R>
-where
-    R::Fields: FieldList + Drop,
-{
-    type Value = R::Fields;
-
-    ghost claimed = { λ _. claims_seq };
-
-    ghost takes = { λ _ s. After (take_elements s) (ReadsInOrder R.Fields.about) };
-
-    fn expecting(&self) -> &'static str {
-        R::expecting()
-    }
-
-    fn alloc(&self) -> Global {
-        self.alloc
-    }
-
-    fn claims(&self, kind: Kind) -> bool {
-        matches!(kind, Kind::Seq)
-    }
-
-    fn visit_seq<A: SeqAccess>(self, seq: A) -> Result<R::Fields, A::Error> {
-        read_elements(seq, self.alloc, R::expecting())
-    }
-}
-
 /// Reads a tuple struct by its description: the body of `deserialize`.
 ///
 /// # Errors
@@ -89,11 +52,7 @@ where
     R::Fields: FieldList + Drop,
     ensures { Meets D.Error.fault (tuple_struct_reads (with_fields R.about R.Fields.about) (D.source deserializer)) result }
 {
-    let visitor = TupleStructVisitor::<R> {
-        alloc,
-        of: PhantomData,
-    };
-    match deserializer.deserialize_tuple_struct(R::name(), R::count(), visitor) {
+    match read_fields(alloc, Request::TupleStruct, deserializer, R::expecting()) {
         Ok(fields) => Ok(R::make(fields)),
         Err(error) => Err(error),
     }

@@ -2,14 +2,17 @@ ghost use Rattle.std.specs.Prelude.{◌≡◌, ◌++◌, ℕ, codes, map, length
 ghost use Rattle.std.specs.List.{range_with_len};
 ghost use Rattle.dynamo_de.specs.Answer.{After};
 ghost use Rattle.dynamo_de.specs.Meets.{Meets};
-ghost use Rattle.dynamo_de.specs.Reading.{read_identifier};
-ghost use Rattle.dynamo_de.specs.Visitors.{claims_str, take_identifier, claims_enum, take_variant};
+ghost use Rattle.dynamo_de.specs.Reading.{read_identifier, read_variant};
+ghost use Rattle.dynamo_de.specs.Visitors.{or_its_fault};
 ghost use Rattle.dynamo_shape.specs.Conforms as shapes;
 ghost use Rattle.dynamo_record.specs.UnitEnums.{AboutUnits, IsNumber, FromName, FromVariant, unit_enum_shape, unit_enum_tells, unit_enum_reads};
 
 use crate::names::place_of;
 use crate::variant_names::{name_at, unknown_variant};
-use dynamo_de::{DeserializeSeed, Deserializer, EnumAccess, Error, Kind, VariantAccess, Visitor};
+use dynamo_de::{
+    DeserializeSeed, Deserializer, EnumAccess, Error, Reader, ReaderEnumAccess, Request, Showing,
+    VariantAccess, identifier_of, invalid_type,
+};
 use dynamo_ser::Serializer;
 use std::alloc::Global;
 use std::marker::PhantomData;
@@ -51,40 +54,18 @@ pub fn variant_at<T: Copy>(variants: &[T], number: usize) -> Option<T>
     }
 }
 
-#[derive(Drop)]
-struct NameVisitor<T> {
-    alloc: Global,
-    of: PhantomData<T>,
-}
-
-impl<T: UnitEnum> Visitor for NameVisitor<T> {
-    type Value = T;
-
-    ghost claimed = { λ _. claims_str };
-
-    ghost takes = { λ _ s. After (take_identifier s) (FromName T.about) };
-
-    fn expecting(&self) -> &'static str {
-        "variant identifier"
-    }
-
-    fn alloc(&self) -> Global {
-        self.alloc
-    }
-
-    fn claims(&self, kind: Kind) -> bool {
-        matches!(kind, Kind::Str)
-    }
-
-    fn visit_str<E: Error>(self, v: &str) -> Result<T, E> {
-        let names = T::names();
-        match T::variant(place_of(names, v)) {
-            Some(variant) => Ok(variant),
-            None => Err(unknown_variant::<E>(self.alloc, v, names)),
-        }
+/// The variant of this name.
+fn named<T: UnitEnum, E: Error>(alloc: Global, name: &str) -> Result<T, E>
+    ensures { Meets E.fault (FromName T.about name.now) result }
+{
+    let names = T::names();
+    match T::variant(place_of(names, name)) {
+        Some(variant) => Ok(variant),
+        None => Err(unknown_variant::<E>(alloc, name, names)),
     }
 }
 
+/// The variant that a name names.
 #[derive(Drop)]
 struct NameSeed<T> {
     alloc: Global,
@@ -97,45 +78,32 @@ impl<T: UnitEnum> DeserializeSeed for NameSeed<T> {
     ghost reads = { λ _ s. After (read_identifier s) (FromName T.about) };
 
     fn deserialize<D: Deserializer>(self, deserializer: D) -> Result<T, D::Error> {
-        deserializer.deserialize_identifier(NameVisitor::<T> {
-            alloc: self.alloc,
-            of: PhantomData,
-        })
+        let name = identifier_of(self.alloc, deserializer, "variant identifier")?;
+        named(self.alloc, name.as_str())
     }
 }
 
-#[derive(Drop)]
-struct UnitEnumVisitor<T> {
-    alloc: Global,
-    of: PhantomData<T>,
+/// Reads the variant that is chosen, whatever its content is.
+fn read_chosen<T: UnitEnum, A: EnumAccess>(alloc: Global, variant: A) -> Result<T, A::Error>
+    ensures { Meets A.Error.fault (After (or_its_fault (A.chosen variant)) (FromVariant T.about)) result }
+{
+    let (value, content) = variant.variant_seed(NameSeed::<T> {
+        alloc,
+        of: PhantomData,
+    })?;
+    content.unit_variant()?;
+    Ok(value)
 }
 
-impl<T: UnitEnum> Visitor for UnitEnumVisitor<T> {
-    type Value = T;
-
-    ghost claimed = { λ _. claims_enum };
-
-    ghost takes = { λ _ s. After (take_variant s) (FromVariant T.about) };
-
-    fn expecting(&self) -> &'static str {
-        T::expecting()
-    }
-
-    fn alloc(&self) -> Global {
-        self.alloc
-    }
-
-    fn claims(&self, kind: Kind) -> bool {
-        matches!(kind, Kind::Enum)
-    }
-
-    fn visit_enum<A: EnumAccess>(self, variant: A) -> Result<T, A::Error> {
-        let (value, content) = variant.variant_seed(NameSeed::<T> {
-            alloc: self.alloc,
-            of: PhantomData,
-        })?;
-        content.unit_variant()?;
-        Ok(value)
+/// Reads the variant of an enum that is asked for.
+fn read_shown<T: UnitEnum, R: Reader>(alloc: Global, reader: R) -> Result<T, R::Error>
+    ensures { Meets R.Error.fault (After (read_variant (R.source reader)) (FromVariant T.about)) result }
+{
+    match reader.show(Request::Enum)? {
+        Showing::Enum(choice) => {
+            read_chosen::<T, ReaderEnumAccess<R>>(alloc, ReaderEnumAccess::new(choice))
+        }
+        other => Err(invalid_type(alloc, other.kind(), T::expecting())),
     }
 }
 
@@ -150,14 +118,7 @@ pub fn read_unit_enum<T: UnitEnum, D: Deserializer>(
 ) -> Result<T, D::Error>
     ensures { Meets D.Error.fault (unit_enum_reads T.about (D.source deserializer)) result }
 {
-    deserializer.deserialize_enum(
-        T::name(),
-        T::names(),
-        UnitEnumVisitor::<T> {
-            alloc,
-            of: PhantomData,
-        },
-    )
+    read_shown(alloc, deserializer)
 }
 
 /// Writes an enum by its description: the unit variant of its number.

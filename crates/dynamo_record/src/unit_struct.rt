@@ -1,38 +1,19 @@
 ghost use Rattle.dynamo_de.specs.Answer.{Gives};
 ghost use Rattle.dynamo_de.specs.Meets.{Meets};
+ghost use Rattle.dynamo_de.specs.Reading as reading;
 ghost use Rattle.dynamo_de.specs.Source.{Text};
-ghost use Rattle.dynamo_de.specs.Visitors.{claims_unit, take_unit};
 ghost use Rattle.dynamo_record.specs.Newtypes.{ReadsUnitStruct};
 
-use dynamo_de::{Deserializer, Error, Kind, Visitor};
+use dynamo_de::{Deserializer, Reader, Request, Showing, invalid_type};
 use std::alloc::Global;
 
-#[derive(Drop)]
-struct UnitStructVisitor {
-    alloc: Global,
-}
-
-impl Visitor for UnitStructVisitor {
-    type Value = ();
-
-    ghost claimed = { λ _. claims_unit };
-
-    ghost takes = { λ _ s. Gives (λ u. u) (take_unit s) };
-
-    fn expecting(&self) -> &'static str {
-        "unit struct"
-    }
-
-    fn alloc(&self) -> Global {
-        self.alloc
-    }
-
-    fn claims(&self, kind: Kind) -> bool {
-        matches!(kind, Kind::Unit)
-    }
-
-    fn visit_unit<E: Error>(self) -> Result<(), E> {
-        Ok(())
+/// Reads what has one value alone.
+fn read_unit<R: Reader>(alloc: Global, reader: R) -> Result<(), R::Error>
+    ensures { Meets R.Error.fault (Gives (λ u. u) (reading.read_unit_struct (R.source reader))) result }
+{
+    match reader.show(Request::UnitStruct)? {
+        Showing::Unit => Ok(()),
+        other => Err(invalid_type(alloc, other.kind(), "unit struct")),
     }
 }
 
@@ -40,9 +21,9 @@ impl Visitor for UnitStructVisitor {
 pub fn read_unit_struct<D: Deserializer>(
     alloc: Global,
     deserializer: D,
-    name: &'static str,
+    _name: &'static str,
 ) -> Result<(), D::Error>
     ensures { (own : Text) → Meets D.Error.fault (ReadsUnitStruct own (D.source deserializer)) result }
 {
-    deserializer.deserialize_unit_struct(name, UnitStructVisitor { alloc })
+    read_unit(alloc, deserializer)
 }

@@ -6,7 +6,7 @@ ghost use Rattle.dynamo_de.specs.Meets.{Meets, IsMessage};
 ghost use Rattle.dynamo_de.specs.ReadJson.{read_json, read_sources, read_entries};
 
 use super::texts::char_text;
-use crate::taken::refuse;
+use crate::taken::invalid_type;
 use crate::{Deserialize, Deserializer, Error, Kind, Reader, Request, Showing};
 use serde_json::{Map, Value};
 use std::alloc::Global;
@@ -90,5 +90,5 @@ fn read_members<R: Reader>(
 fn refuse_json<E: Error>(alloc: Global, shown: Kind) -> Result<Value, E>
     ensures { Meets E.fault IsMessage result }
 {
-    refuse(alloc, shown, false, "any valid JSON value")
+    Err(invalid_type(alloc, shown, "any valid JSON value"))
 }

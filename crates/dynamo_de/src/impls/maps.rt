@@ -15,7 +15,7 @@ use std::collections::{BTreeMap, HashMap};
 use std::hash::Hash;
 
 /// A map that its entries are put into, one after another.
-trait Entries<K, V>: Sized + Drop {
+trait FromEntries<K, V>: Sized + Drop {
     // What the map has at a key, and which keys are equal.
     ghost get: { Self → K → Option V };
 
@@ -29,7 +29,7 @@ trait Entries<K, V>: Sized + Drop {
         ensures { OnOk result ((k : K) → get self.new k ≡ cond (eq key k) (Some value) (get self.old k)) };
 }
 
-impl<K: Eq + Hash + Drop, V: Drop> Entries<K, V> for HashMap<K, V> {
+impl<K: Eq + Hash + Drop, V: Drop> FromEntries<K, V> for HashMap<K, V> {
     ghost get = { hashed.get K.eq };
 
     ghost eq = { K.eq };
@@ -44,7 +44,7 @@ impl<K: Eq + Hash + Drop, V: Drop> Entries<K, V> for HashMap<K, V> {
     }
 }
 
-impl<K: Ord + Drop, V: Drop> Entries<K, V> for BTreeMap<K, V> {
+impl<K: Ord + Drop, V: Drop> FromEntries<K, V> for BTreeMap<K, V> {
     ghost get = { sorted.get K.cmp };
 
     ghost eq = { eq_by_cmp K.cmp };
@@ -61,7 +61,7 @@ impl<K: Ord + Drop, V: Drop> Entries<K, V> for BTreeMap<K, V> {
 
 // The map of entries, each read as it comes. Of equal keys the last value stays.
 #[tactic(auto, using(crate::proofs::Pairs::map_starts, crate::proofs::Pairs::map_more, crate::proofs::Pairs::map_ends, crate::proofs::Pairs::map_key_fails, crate::proofs::Pairs::map_value_fails, crate::proofs::Pairs::key_falls))]
-fn from_entries<K: Deserialize, V: Deserialize, M: Entries<K, V>, A: MapAccess>(
+fn from_entries<K: Deserialize, V: Deserialize, M: FromEntries<K, V>, A: MapAccess>(
     alloc: Global,
     mut entries: A,
 ) -> Result<M, A::Error>
@@ -78,7 +78,7 @@ fn from_entries<K: Deserialize, V: Deserialize, M: Entries<K, V>, A: MapAccess>(
 }
 
 // Reads a map.
-fn read_map<K: Deserialize, V: Deserialize, M: Entries<K, V>, R: Reader>(
+fn read_map<K: Deserialize, V: Deserialize, M: FromEntries<K, V>, R: Reader>(
     alloc: Global,
     reader: R,
 ) -> Result<M, R::Error>

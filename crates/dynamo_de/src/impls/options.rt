@@ -3,7 +3,7 @@ ghost use Rattle.dynamo_de.specs.Answer.{Gives, After};
 ghost use Rattle.dynamo_de.specs.Reading.{read_content, read_unit};
 ghost use Rattle.dynamo_de.specs.Reads.{ReadsOption, Through};
 
-use crate::taken::refuse;
+use crate::taken::invalid_type;
 use crate::{Deserialize, Deserializer, Error, Request, Showing};
 use std::alloc::Global;
 
@@ -13,7 +13,7 @@ impl Deserialize for () {
     fn deserialize<D: Deserializer>(alloc: Global, deserializer: D) -> Result<(), D::Error> {
         match deserializer.show(Request::Unit)? {
             Showing::Unit => Ok(()),
-            other => refuse(alloc, other.kind(), false, "unit"),
+            other => Err(invalid_type(alloc, other.kind(), "unit")),
         }
     }
 }
@@ -25,7 +25,7 @@ impl<T: Deserialize> Deserialize for Option<T> {
         match deserializer.show(Request::Option)? {
             Showing::None | Showing::Unit => Ok(None),
             Showing::Some(content) => Ok(Some(T::deserialize(alloc, content)?)),
-            other => refuse(alloc, other.kind(), false, "option"),
+            other => Err(invalid_type(alloc, other.kind(), "option")),
         }
     }
 }

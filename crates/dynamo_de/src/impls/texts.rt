@@ -8,13 +8,13 @@ ghost use Rattle.dynamo_de.specs.Meets.{Meets};
 ghost use Rattle.dynamo_de.specs.Reading.{read_char, read_string, read_bytes};
 ghost use Rattle.dynamo_de.specs.Visitors.{one_char};
 
-use crate::taken::refuse;
+use crate::taken::invalid_type;
 use crate::{Deserialize, Deserializer, Error, Request, Showing};
 use dynamo_value::ByteBuf;
 use std::alloc::Global;
 
 // The text of a character.
-pub(super) fn char_text<E: Error>(alloc: Global, v: char) -> Result<String, E>
+pub(crate) fn char_text<E: Error>(alloc: Global, v: char) -> Result<String, E>
     ensures { MatchResult result (λ t. string_bytes t ≡ encode_utf8 v) (λ e. E.fault e ≡ out_of_memory) }
 {
     match v.to_string(alloc) {
@@ -47,7 +47,7 @@ impl Deserialize for char {
             Showing::Char(v) => Ok(v),
             Showing::FirstChar(_) => Err(D::more_than_one_char()),
             Showing::Text(v) => only_char(alloc, v.as_str()),
-            other => refuse(alloc, other.kind(), false, "a character"),
+            other => Err(invalid_type(alloc, other.kind(), "a character")),
         }
     }
 }
@@ -72,7 +72,7 @@ impl Deserialize for String {
             Showing::Char(v) => char_text(alloc, v),
             Showing::FirstChar(_) => Err(D::more_than_one_char()),
             Showing::Bytes(v) => utf8_text(alloc, v),
-            other => refuse(alloc, other.kind(), false, "a string"),
+            other => Err(invalid_type(alloc, other.kind(), "a string")),
         }
     }
 }
@@ -86,7 +86,7 @@ impl Deserialize for ByteBuf {
             Showing::Text(v) => Ok(ByteBuf::from(v.into_bytes())),
             Showing::Char(v) => Ok(ByteBuf::from(char_text(alloc, v)?.into_bytes())),
             Showing::FirstChar(_) => Err(D::more_than_one_char()),
-            other => refuse(alloc, other.kind(), false, "byte array"),
+            other => Err(invalid_type(alloc, other.kind(), "byte array")),
         }
     }
 }

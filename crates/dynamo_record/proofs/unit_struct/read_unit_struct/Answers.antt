@@ -1,10 +1,7 @@
 use Rattle.std.specs.Prelude.{⊤}
 use Rattle.dynamo_ser.specs.Datum as datum
-use Rattle.dynamo_de.specs.Answer.{Gives, Is}
+use Rattle.dynamo_de.specs.Answer.{Gives}
 use Rattle.dynamo_de.specs.Reading.{read_unit_struct}
-use Rattle.dynamo_de.specs.Visitors.{claims_unit, take_unit}
-use Rattle.dynamo_de.specs.declared.request.Request.TheVariants as request
-use Rattle.dynamo_de.proofs.Reading.{as_read}
 use Rattle.dynamo_de.proofs.Meets.{meets_more}
 use Rattle.dynamo_shape.specs.Conforms.{conforms}
 use Rattle.dynamo_shape.specs.Shape as shape
@@ -16,7 +13,5 @@ pub returns : goal.returns
 unfolding ReadsUnitStruct
 returns g c = λ own.
     let source = g.D.Reader.source c.args.deserializer in
-    let call = c.deserialize_unit_struct in
     meets_more g.D.Error.Error.fault (Gives {V = ⊤} (λ u. u) (read_unit_struct source)) (ReadsUnitStruct own source)
-    (λ r h. given (conforms (shape.unit_struct own)) (λ u. u) (λ _. datum.unit_struct own) (read_unit_struct source) r h)
-    call.result (as_read claims_unit take_unit (Is {V = ⊤} (λ u. u)) (λ c x f e h. h) request.UnitStruct g.D.Error.Error.fault source call.result call.ensures)
+    (λ r h. given (conforms (shape.unit_struct own)) (λ u. u) (λ _. datum.unit_struct own) (read_unit_struct source) r h) c.read_unit.result c.read_unit.ensures

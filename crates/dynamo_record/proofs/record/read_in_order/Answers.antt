@@ -1,23 +1,21 @@
-use Rattle.std.proofs.Common.{[], Err, subst, inl, inr}
+use Rattle.std.proofs.Common.{[], subst, inl, inr}
 use Rattle.std.proofs.lemmas.Result.{err_from_is_err_and}
 use Rattle.dynamo_de.specs.Answer as answer
-use Rattle.dynamo_de.specs.Visitors.{in_order}
 use Rattle.dynamo_record.specs.Fields.{read_fields}
 use Rattle.dynamo_record.specs.Listed.{Makes}
 use Rattle.dynamo_record.specs.Names.{too_few_text}
-use Rattle.dynamo_record.specs.Records.{listed, FromParts, AsLong}
-use Rattle.dynamo_record.proofs.Answering.{meets_on}
+use Rattle.dynamo_record.specs.Records.{listed}
 use Rattle.dynamo_record.proofs.Structs.{listed_made, listed_short, listed_fails}
-use Rattle.dynamo_record.proofs.record.RecordVisitorVisitor.visit_seq.Goals as goal
+use Rattle.dynamo_record.proofs.record.read_in_order.Goals as goal
 
 pub returns-in_err-fields : goal.returns-in_err-fields
 returns-in_err-fields g c =
     let a = listed g.R.Record.about g.R.Fields.FieldList.about in
     let p = err_from_is_err_and c.from_residual.result c.from_residual.ensures.1 in
-    rw (p.1, p.2) (meets_on (AsLong g.R.Record.about g.R.Fields.FieldList.about) g.A.Error.Error.fault (FromParts a (in_order (g.A.SeqAccess.left c.args.seq))) (Err c.in_err-fields.field-0.0) (listed_fails a g.A.Error.Error.fault (g.A.SeqAccess.left c.args.seq) (g.A.SeqAccess.left c.read_in_order.new.seq) c.in_err-fields.field-0.0 (c.in_err-fields.ensures [])))
+    rw (p.1, p.2) (listed_fails a g.A.Error.Error.fault (g.A.SeqAccess.left c.args.seq) (g.A.SeqAccess.left c.read_in_order.new.seq) c.in_err-fields.field-0.0 (c.in_err-fields.ensures []))
 
 pub returns-in-Some : goal.returns-in-Some
-returns-in-Some g c = λ as_long.
+returns-in-Some g c =
     let a = listed g.R.Record.about g.R.Fields.FieldList.about in
     let made = subst (λ o. Makes a.list.shapes a.list.told (read_fields (a.list.shapes []) (g.A.SeqAccess.left c.args.seq)) (answer.value []) o) c.in-Some.is (c.in_ok-fields.ensures []) in
     listed_made a g.A.Error.Error.fault (g.A.SeqAccess.left c.args.seq) (g.A.SeqAccess.left c.read_in_order.new.seq) c.in-Some.fields c.make.result c.make.ensures made
@@ -28,5 +26,5 @@ returns g c = elim c.too_few.ensures [
   | inl told ↦
       let a = listed g.R.Record.about g.R.Fields.FieldList.about in
       let short = subst (λ o. Makes a.list.shapes a.list.told (read_fields (a.list.shapes []) (g.A.SeqAccess.left c.args.seq)) (answer.value []) o) c.in-None.is (c.in_ok-fields.ensures []) in
-      inr (λ as_long. listed_short a g.A.Error.Error.fault (g.A.SeqAccess.left c.args.seq) (g.A.SeqAccess.left c.read_in_order.new.seq) c.too_few.result short (too_few_text _, told))
+      inr (listed_short a g.A.Error.Error.fault (g.A.SeqAccess.left c.args.seq) (g.A.SeqAccess.left c.read_in_order.new.seq) c.too_few.result short (too_few_text _, told))
 ]

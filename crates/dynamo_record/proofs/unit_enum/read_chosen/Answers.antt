@@ -1,6 +1,6 @@
 use Rattle.std.proofs.lemmas.Result.{err_from_is_err_and}
 use Rattle.dynamo_record.proofs.Variants.{variant_read, variant_fails}
-use Rattle.dynamo_record.proofs.unit_enum.UnitEnumVisitorVisitor.visit_enum.Goals as goal
+use Rattle.dynamo_record.proofs.unit_enum.read_chosen.Goals as goal
 
 pub returns-in_err-value : goal.returns-in_err-value
 returns-in_err-value g c =
