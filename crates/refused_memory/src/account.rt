@@ -1,13 +1,12 @@
-//! A struct with a value of each sample inside, written and read by hand.
-ghost use Rattle.std.specs.Prelude.{codes, map, pos};
-ghost use Rattle.serde_dynamo.specs.Datum as datum;
-ghost use Rattle.serde_dynamo.specs.Options.{option_tells};
-ghost use Rattle.serde_dynamo.specs.Visitors.{claims_map};
+//! A struct with a value of each sample inside, described by the list of its fields.
+ghost use Rattle.std.specs.Prelude.{[], ◌∷◌, codes, refl};
+ghost use Rattle.dynamo_record.specs.Records.{record_of, record_tells, record_reads};
 
+use dynamo_record::{Field, FieldList, Record, read_record, write_record};
 use serde_dynamo::ByteBuf;
-use serde_dynamo::de::{Deserialize, Deserializer, Error, Kind, MapAccess, Visitor};
+use serde_dynamo::de::{Deserialize, Deserializer};
 use serde_dynamo::samples::{Event, Sets, User};
-use serde_dynamo::ser::{Serialize, SerializeStruct, Serializer};
+use serde_dynamo::ser::{Serialize, Serializer};
 use std::alloc::{AllocError, Global};
 use std::collections::HashMap;
 
@@ -54,77 +53,56 @@ impl Account {
     }
 }
 
-impl Serialize for Account {
-    ghost tells = { λ a. datum.struct (codes "Account")
-        (datum.field (codes "user") (⟦<User as Serialize>⟧.tells a.user)
-        (datum.field (codes "events") (datum.seq (datum.elements_of (map ⟦<Event as Serialize>⟧.tells a.events.items)))
-        (datum.field (codes "sets") (⟦<Sets as Serialize>⟧.tells a.sets)
-        (datum.field (codes "answers") (datum.map (datum.pairs_of (map (λ e. (datum.integer datum.u8 (pos e.0), option_tells (λ b. datum.boolean b) e.1)) a.answers.entries)))
-        datum.no_fields)))) };
+type AccountFields = (
+    (Field<User>, Field<Vec<Event>>),
+    (Field<Sets>, Field<HashMap<u8, Option<bool>>>),
+);
 
-    fn serialize<S: Serializer>(&self, serializer: S) -> Result<S::Ok, S::Error> {
-        let mut state = serializer.serialize_struct("Account", 4)?;
-        state.serialize_field("user", &self.user)?;
-        state.serialize_field("events", &self.events)?;
-        state.serialize_field("sets", &self.sets)?;
-        state.serialize_field("answers", &self.answers)?;
-        state.end()
+impl Record for Account {
+    type Fields = AccountFields;
+
+    ghost about = { record_of (codes "Account") (codes "user" ∷ codes "events" ∷ codes "sets" ∷ codes "answers" ∷ []) (λ s. ((record { 0 = s.user }, record { 0 = s.events }), (record { 0 = s.sets }, record { 0 = s.answers }))) ⟦<AccountFields as FieldList>⟧.about };
+
+    ghost named = { (refl, refl) };
+
+    fn name() -> &'static str {
+        "Account"
     }
-}
 
-#[derive(Drop)]
-struct AccountVisitor {
-    alloc: Global,
-}
-
-impl Visitor for AccountVisitor {
-    type Value = Account;
-
-    ghost claimed = { λ _. claims_map };
-
-    // The rows say what is read.
-    ghost takes = { λ _ _ _. Unit {0} };
-
-    fn expecting(&self) -> &'static str {
+    fn expecting() -> &'static str {
         "struct Account"
     }
 
-    fn alloc(&self) -> Global {
-        self.alloc
+    fn names() -> &'static [&'static str] {
+        &["user", "events", "sets", "answers"]
     }
 
-    fn claims(&self, kind: Kind) -> bool {
-        matches!(kind, Kind::Map)
-    }
-
-    // The entries come in ascending order of their keys, so each is known by its place.
-    fn visit_map<A: MapAccess>(self, mut map: A) -> Result<Account, A::Error> {
-        let answers = map.next_entry::<String, HashMap<u8, Option<bool>>>(self.alloc)?;
-        let events = map.next_entry::<String, Vec<Event>>(self.alloc)?;
-        let sets = map.next_entry::<String, Sets>(self.alloc)?;
-        let user = map.next_entry::<String, User>(self.alloc)?;
-        match (user, events, sets, answers) {
-            (Some((_, user)), Some((_, events)), Some((_, sets)), Some((_, answers))) => {
-                Ok(Account {
-                    user,
-                    events,
-                    sets,
-                    answers,
-                })
-            }
-            _ => Err(A::Error::custom(self.alloc, "missing field, expected struct Account")),
+    fn make(fields: AccountFields) -> Account {
+        let ((Field(user), Field(events)), (Field(sets), Field(answers))) = fields;
+        Account {
+            user,
+            events,
+            sets,
+            answers,
         }
     }
 }
 
+impl Serialize for Account {
+    ghost tells = { record_tells ⟦<Account as Record>⟧.about };
+
+    fn serialize<S: Serializer>(&self, serializer: S) -> Result<S::Ok, S::Error> {
+        write_record::<Account, _, S>(
+            serializer,
+            &((&self.user, &self.events), (&self.sets, &self.answers)),
+        )
+    }
+}
+
 impl Deserialize for Account {
-    ghost reads = { λ _ _. Unit {0} };
+    ghost reads = { record_reads ⟦<Account as Record>⟧.about };
 
     fn deserialize<D: Deserializer>(alloc: Global, deserializer: D) -> Result<Account, D::Error> {
-        deserializer.deserialize_struct(
-            "Account",
-            &["user", "events", "sets", "answers"],
-            AccountVisitor { alloc },
-        )
+        read_record(alloc, deserializer)
     }
 }
