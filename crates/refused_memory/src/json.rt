@@ -1,8 +1,6 @@
 //! Rows of DynamoDB JSON.
 
-use crate::answer::{Answer, Json, Written};
-use crate::stopped::Stopped;
-use crate::values;
+use refused_rows::{Answer, Json, Stopped, Written, values};
 use serde_dynamo::{AttributeValue, DynamoJson, Error};
 
 // An attribute value of all ten kinds.

@@ -1,9 +1,7 @@
 //! Rows that read.
 
 use crate::account::Account;
-use crate::answer::Answer;
-use crate::stopped::Stopped;
-use crate::values;
+use refused_rows::{Answer, Stopped, values};
 use serde_dynamo::de::Deserialize;
 use serde_dynamo::{
     Items, Result, from_attribute_value, from_item, from_items, to_attribute_value, to_item,

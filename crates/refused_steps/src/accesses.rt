@@ -1,8 +1,6 @@
 //! Rows of what stands in an access after a call. What is read in a box takes memory; what is read without takes none.
 
-use crate::answer::{Answer, Written};
-use crate::stopped::Stopped;
-use crate::values;
+use refused_rows::{Answer, Stopped, Written, values};
 use serde_dynamo::de::{Deserialize, MapAccess, SeqAccess, TypeSeed};
 use serde_dynamo::{
     AttributeValue, ByteBuf, DeserializerMap, DeserializerSeq, DeserializerSeqBytes,

@@ -1,0 +1,71 @@
+//! Calls of builders, of accesses and of tables, in rows (`refused_rows`): what each answers where one of its requests for memory is
+//! refused, and what stands after it.
+#![tactic(auto)]
+
+mod accesses;
+mod builders;
+mod tables;
+
+use refused_rows::{Stopped, end_line, word};
+use std::io;
+
+const ROWS: [&str; 18] = [
+    "seq",
+    "tuple",
+    "tuple_struct",
+    "tuple_variant",
+    "struct",
+    "struct_variant",
+    "key_and_value",
+    "entry",
+    "next_key",
+    "next_value",
+    "next_element",
+    "next_string",
+    "next_number",
+    "next_byte_string",
+    "entries",
+    "table_put_new",
+    "table_put_again",
+    "table_query",
+];
+
+fn run(rt: &HostRuntime, row: &str) -> Result<(), Stopped> {
+    match row {
+        "seq" => builders::seq(rt),
+        "tuple" => builders::tuple(rt),
+        "tuple_struct" => builders::tuple_struct(rt),
+        "tuple_variant" => builders::tuple_variant(rt),
+        "struct" => builders::struct_fields(rt),
+        "struct_variant" => builders::struct_variant(rt),
+        "key_and_value" => builders::key_and_value(rt),
+        "entry" => builders::entry(rt),
+        "next_key" => accesses::next_key(rt),
+        "next_value" => accesses::next_value(rt),
+        "next_element" => accesses::list(rt),
+        "next_string" => accesses::strings(rt),
+        "next_number" => accesses::numbers(rt),
+        "next_byte_string" => accesses::byte_strings(rt),
+        "entries" => accesses::entries(rt),
+        "table_put_new" => tables::put_new(rt),
+        "table_put_again" => tables::put_again(rt),
+        "table_query" => tables::query(rt),
+        _ => Ok(println!(rt; "no such row")?),
+    }
+}
+
+fn print_all(rt: &HostRuntime) -> io::Result<()> {
+    for row in ROWS {
+        print!(rt; "{row}: ")?;
+        end_line(rt, run(rt, row))?;
+    }
+    Ok(())
+}
+
+fn main(rt: HostRuntime) -> io::Result<()> {
+    match word(&rt) {
+        Ok(Some(row)) => end_line(&rt, run(&rt, &row)),
+        Ok(None) => print_all(&rt),
+        Err(stopped) => end_line(&rt, Err(stopped)),
+    }
+}
