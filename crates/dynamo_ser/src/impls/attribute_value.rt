@@ -36,7 +36,9 @@ impl Serialize for Item {
     }
 }
 
-// The map of one pair, whose key is a prefix.
+// The map of one pair, whose key is a prefix. It isn't inlined: a value that nests others is written with the frame of one pair for
+// each of its levels, not with one for each of the ten kinds.
+#[inline(never)]
 fn under<T: Serialize, S: Serializer>(
     prefix: Prefix,
     content: &T,

@@ -3,14 +3,14 @@ use Rattle.dynamo_value.proofs.Equal.{refuted, lengths, strings-Decides, numbers
 use Rattle.dynamo_value.proofs.Members.{Entry, HasAll, as_long, has_value, has_some, same_from_all}
 use Rattle.dynamo_value.proofs.attribute_value.+same.Goals as goal
 
-pub same-returns-in-Ss-Ss : goal.same-returns-in-Ss-Ss
-same-returns-in-Ss-Ss t c = let m = c.in-Ss-Ss in rw c.eq-in-Ss-Ss.ensures (strings-Decides c.args.a.now c.args.b.now m.a m.b m.is-0 m.is-1)
+pub same_other-returns-in-Ss-Ss : goal.same_other-returns-in-Ss-Ss
+same_other-returns-in-Ss-Ss t c = let m = c.in-Ss-Ss in rw c.eq-in-Ss-Ss.ensures (strings-Decides c.args.a.now c.args.b.now m.a m.b m.is-0 m.is-1)
 
-pub same-returns-in-Ns-Ns : goal.same-returns-in-Ns-Ns
-same-returns-in-Ns-Ns t c = let m = c.in-Ns-Ns in rw c.eq-in-Ns-Ns.ensures (numbers-Decides c.args.a.now c.args.b.now m.a m.b m.is-0 m.is-1)
+pub same_other-returns-in-Ns-Ns : goal.same_other-returns-in-Ns-Ns
+same_other-returns-in-Ns-Ns t c = let m = c.in-Ns-Ns in rw c.eq-in-Ns-Ns.ensures (numbers-Decides c.args.a.now c.args.b.now m.a m.b m.is-0 m.is-1)
 
-pub same-returns-in-Bs-Bs : goal.same-returns-in-Bs-Bs
-same-returns-in-Bs-Bs t c = let m = c.in-Bs-Bs in rw c.eq-in-Bs-Bs.ensures (blobs-Decides c.args.a.now c.args.b.now m.a m.b m.is-0 m.is-1)
+pub same_other-returns-in-Bs-Bs : goal.same_other-returns-in-Bs-Bs
+same_other-returns-in-Bs-Bs t c = let m = c.in-Bs-Bs in rw c.eq-in-Bs-Bs.ensures (blobs-Decides c.args.a.now c.args.b.now m.a m.b m.is-0 m.is-1)
 
 pub same_lists-returns-then-len : goal.same_lists-returns-then-len
 same_lists-returns-then-len t c = refuted (λ e.
