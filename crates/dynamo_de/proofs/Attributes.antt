@@ -3,9 +3,8 @@ use Rattle.std.proofs.Common.{◌≡◌, ◌⊎◌, ℕ, suc, ◌≤◌, true, f
 use Rattle.std.specs.Prelude.{is_some, OnOk}
 use Rattle.std.specs.Result.{is_err}
 use Rattle.std.specs.FinMap.Entries.{put}
-use Rattle.dynamo_value.specs.Table.{Table}
-use Rattle.dynamo_value.specs.View.{text_cmp, view, members_view}
-use Rattle.dynamo_value.specs.declared.attribute_value.AttributeValue.{AttributeValue, L, M}
+use Rattle.dynamo_value.specs.View.{text_cmp, view}
+use Rattle.dynamo_value.specs.declared.attribute_value.AttributeValue.{AttributeValue}
 use Rattle.dynamo_value.specs.Av as av
 use Rattle.dynamo_value.specs.Av.{Av, elements_of}
 use Rattle.dynamo_value.specs.Base64.{bytes_of_base64}
@@ -16,7 +15,7 @@ use Rattle.dynamo_value.specs.PrefixView.{prefix_view}
 use Rattle.dynamo_value.specs.declared.prefix.Prefix as declared
 use Rattle.dynamo_value.specs.Refusal.{Refused, refusal_in}
 use Rattle.dynamo_value.specs.SingleKey.{several_keys, unknown_key, known}
-use Rattle.dynamo_value.proofs.Views.{view_list, view_map}
+use Rattle.dynamo_de.specs.Access.{NextElement}
 use Rattle.dynamo_de.specs.Answer.{Answer, Gives, After}
 use Rattle.dynamo_de.specs.Ignored.{source_height, sources_height, entries_height}
 use Rattle.dynamo_de.specs.Promises.{Reading, promised, refuse, Agrees}
@@ -30,7 +29,7 @@ use Rattle.dynamo_de.specs.Source.{Source, attribute, key_text, number_text, pla
 use Rattle.dynamo_de.specs.Visitors.{claims_map, take_entries, claims_seq, take_elements}
 use Rattle.dynamo_de.proofs.Ignored.{elements_high, members_high, flat}
 use Rattle.dynamo_de.proofs.Reading.{number_cases}
-use Rattle.dynamo_de.proofs.Promises.{answer_stops, value_answered, fault_answered, value_read, value_agrees, part_agrees, stops, refusal_agrees, told, each_reads}
+use Rattle.dynamo_de.proofs.Promises.{EachFrom, each_more, each_stops, answer_stops, value_answered, fault_answered, value_read, value_agrees, part_agrees, stops, refusal_agrees, told, each_reads}
 
 -- ---- what an attribute value is read from
 
@@ -274,31 +273,41 @@ pub opened_stops : {V : Type 0} (seen : V → Opened) (s : Source) (f : Fault) �
 opened_stops seen s f (inl lacks) = inl lacks
 opened_stops seen s f (inr h) = inr (subst (λ x. Agrees view x (Err f)) (sym (attribute_opened s)) (stops seen view read_opened (opened_from s) f h))
 
-pub value_opened : {V : Type 0} (seen : V → Opened) (s : Source) (v : V) (value : AttributeValue) → Agrees seen (opened_from s) (Ok v) → seen v ≡ whole (view value) → Agrees view (attribute_from s) (Ok value)
-value_opened seen s v value is same = value_agrees view (attribute_from s) value (opened_is seen s v is ∙ ap read_opened same)
+-- ---- elements that are taken and opened in order
 
-pub list_opened : {V : Type 0} (seen : V → Opened) (s : Source) (v : V) (ss : List Source) → Agrees seen (opened_from s) (Ok v) → seen v ≡ in_list ss
-    → attribute_from s ≡ (read_each attribute_from ss >>= λ values. Ok (av.L (elements_of values)))
-list_opened seen s v ss is same = opened_is seen s v is ∙ ap read_opened same
+module _ {V E : Type 0} (fault : E → Fault) (seen : V → Opened) where
+  -- the next of what was left, with what is left behind it
+  abbrev pub TakesOpened : List Source → List Source → Result (Option V) E → Type 0
+  TakesOpened left new r = NextElement fault (λ s. Agrees seen (opened_from s)) left new r
 
-pub map_opened : {V : Type 0} (seen : V → Opened) (s : Source) (v : V) (es : List Entry) → Agrees seen (opened_from s) (Ok v) → seen v ≡ in_map es
-    → attribute_from s ≡ (read_entries [] es >>= λ members. Ok (av.M members))
-map_opened seen s v es is same = opened_is seen s v is ∙ ap read_opened same
+  -- it nests less deep than what was left
+  pub next_lower : (left new : List Source) (o : V) → TakesOpened left new (Ok (Some o)) → (suc (opened_height (seen o)) ≤ sources_height left) × (sources_height new ≤ sources_height left)
+  next_lower [] new o t = cc
+  next_lower (s ∷ ss) new o t = let lower = opened_lower seen s o t.1 in rw t.0 (omega (arith, lower), omega arith)
 
-pub list_given : (ss : List Source) (values : Vec AttributeValue Global) → Agrees (λ (v : Vec AttributeValue Global). map view v.items) (read_each attribute_from ss) (Ok values)
-    → Agrees view (read_each attribute_from ss >>= λ values. Ok (av.L (elements_of values))) (Ok (L values))
-list_given ss values h =
-    value_agrees view _ (L values) (ap (λ x. x >>= λ values. Ok (av.L (elements_of values))) (value_read (λ (v : Vec AttributeValue Global). map view v.items) (read_each attribute_from ss) values h) ∙ ap Ok (sym (view_list values)))
+  module _ (all : Reading (List Av)) (vs : List AttributeValue) where
+    pub next_more : (v : AttributeValue) (left new : List Source) (o : V) → TakesOpened left new (Ok (Some o)) → EachFrom view attribute_from vs left ≡ all
+        → Agrees view (read_opened (seen o)) (Ok v) → EachFrom view attribute_from (vs ++ v ∷ []) new ≡ all
+    next_more v [] new o t so_far h = cc
+    next_more v (s ∷ ss) new o t so_far h =
+        rw t.0 (sym (each_more view attribute_from vs v s ss (subst (λ x. Agrees view x (Ok v)) (sym (opened_is seen s o t.1)) h)) ∙ so_far)
 
-pub map_given : (es : List Entry) (m : Table) → Agrees (λ (m : Table). members_view m.entries) (read_entries [] es) (Ok m)
-    → Agrees view (read_entries [] es >>= λ members. Ok (av.M members)) (Ok (M m))
-map_given es m h =
-    value_agrees view _ (M m) (ap (λ x. x >>= λ members. Ok (av.M members)) (value_read (λ (m : Table). members_view m.entries) (read_entries [] es) m h) ∙ ap Ok (sym (view_map m)))
+    -- the fault of opening an element, and that of what it holds, is the whole's
+    pub next_stops : {W : Type 0} (then : W → List Av) (left new : List Source) (e : E) → TakesOpened left new (Err e) → EachFrom view attribute_from vs left ≡ all
+        → (fault e ≡ out_of_memory) ⊎ Agrees then all (Err (fault e))
+    next_stops then [] new e t so_far = cc
+    next_stops then (s ∷ ss) new e t so_far = fails (opened_stops seen s (fault e) t.1)
+      where
+        fails : (fault e ≡ out_of_memory) ⊎ Agrees view (attribute_from s) (Err (fault e)) → (fault e ≡ out_of_memory) ⊎ Agrees then all (Err (fault e))
+        fails (inl lacks) = inl lacks
+        fails (inr h) = inr (subst (λ x. Agrees then x (Err (fault e))) so_far (each_stops view attribute_from then vs s ss (fault e) h))
 
--- the fault of what is read of it is the fault of the whole
-pub inside_stops : {A V : Type 0} (seen : V → A) (next : A → Reading Av) (s : Source) (x : Reading A) (f : Fault) → attribute_from s ≡ (x >>= next) → (f ≡ out_of_memory) ⊎ Agrees seen x (Err f) → (f ≡ out_of_memory) ⊎ Agrees view (attribute_from s) (Err f)
-inside_stops seen next s x f same (inl lacks) = inl lacks
-inside_stops seen next s x f same (inr h) = inr (subst (λ y. Agrees view y (Err f)) (sym same) (stops seen view next x f h))
+    pub next_fails : {W : Type 0} (then : W → List Av) (left new : List Source) (o : V) (f : Fault) → TakesOpened left new (Ok (Some o)) → EachFrom view attribute_from vs left ≡ all
+        → (f ≡ out_of_memory) ⊎ Agrees view (read_opened (seen o)) (Err f) → (f ≡ out_of_memory) ⊎ Agrees then all (Err f)
+    next_fails then left new o f t so_far (inl lacks) = inl lacks
+    next_fails then [] new o f t so_far (inr h) = cc
+    next_fails then (s ∷ ss) new o f t so_far (inr h) =
+        inr (subst (λ x. Agrees then x (Err f)) so_far (each_stops view attribute_from then vs s ss f (subst (λ x. Agrees view x (Err f)) (sym (opened_is seen s o t.1)) h)))
 
 pub item_stops : {M W : Type 0} (entries : M → List Entry) (tells : W → av.Members) (s : Source) (f : Fault) → (f ≡ out_of_memory) ⊎ Gives entries (reading.read_entries s) (Err f) → (f ≡ out_of_memory) ⊎ Agrees tells (item_from s) (Err f)
 item_stops entries tells s f h = subst (λ x. (f ≡ out_of_memory) ⊎ Agrees tells x (Err f)) (sym (item_as_entries s)) (answer_stops entries tells (read_entries []) (reading.read_entries s) f h)

@@ -6,10 +6,11 @@ ghost use Rattle.dynamo_value.specs.Item.{item_view};
 ghost use Rattle.dynamo_value.specs.Kind.{fault_of};
 ghost use Rattle.dynamo_value.specs.PrefixView.{prefix_view};
 ghost use Rattle.dynamo_value.specs.View.{view, members_view};
+ghost use Rattle.dynamo_de.specs.Access.{NextElement};
 ghost use Rattle.dynamo_de.specs.Meets.{Meets};
 ghost use Rattle.dynamo_de.specs.OpenedView.{opened_view};
 ghost use Rattle.dynamo_de.specs.Promises.{Agrees};
-ghost use Rattle.dynamo_de.specs.ReadAttribute.{attribute_from, entry_from, opened_from, item_from, content_opened, read_each, read_entries};
+ghost use Rattle.dynamo_de.specs.ReadAttribute.{attribute_from, entry_from, opened_from, item_from, content_opened, read_each, read_entries, read_opened};
 ghost use Rattle.dynamo_de.specs.ReadAttribute.{read_texts, read_blob, read_blobs};
 
 use crate::taken::{elements_of, entries_of};
@@ -48,13 +49,25 @@ enum Opened<L, M> {
     Entries(M),
 }
 
-/// Reads an attribute value by the reader's own calls: it holds itself, so no visitor could read it. It is opened by functions
-/// that aren't inlined, so that no reader lies in the frame of a level.
+/// Reads an attribute value by the reader's own calls: it holds itself, so no visitor could read it. It is opened, by a function
+/// that isn't inlined, before what it holds is read, so that no reader lies in the frame of a level.
 #[cycle(read)]
 fn read<R: Reader>(alloc: Global, reader: R) -> Result<AttributeValue, R::Error>
     ensures { Meets R.Error.fault (Agrees view (attribute_from (R.source reader))) result }
 {
-    match open(alloc, reader)? {
+    let opened = open(alloc, reader)?;
+    read_opened::<R>(alloc, opened)
+}
+
+// Reads the attribute values that an opened one holds.
+#[cycle(read)]
+fn read_opened<R: Reader>(
+    alloc: Global,
+    opened: Opened<R::Elements, R::Entries>,
+) -> Result<AttributeValue, R::Error>
+    ensures { Meets R.Error.fault (Agrees view (read_opened (opened_view R.elements R.entries opened))) result }
+{
+    match opened {
         Opened::Whole(value) => Ok(value),
         Opened::Elements(elements) => {
             Ok(AttributeValue::L(read_elements::<R>(alloc, elements)?))
@@ -122,6 +135,20 @@ fn open_content<R: Reader>(
     }
 }
 
+// Takes the next element, and opens it.
+#[inline(never)]
+fn open_next<R: Reader>(
+    alloc: Global,
+    elements: &mut R::Elements,
+) -> Result<Option<Opened<R::Elements, R::Entries>>, R::Error>
+    ensures { NextElement R.Error.fault (λ s. Agrees (opened_view R.elements R.entries) (opened_from s)) (R.elements elements.old) (R.elements elements.new) result }
+{
+    match R::next_element(elements) {
+        None => Ok(None),
+        Some(element) => Ok(Some(open(alloc, element)?)),
+    }
+}
+
 // Reads attribute values, in order.
 #[cycle(read)]
 fn read_elements<R: Reader>(
@@ -131,8 +158,8 @@ fn read_elements<R: Reader>(
     ensures { Meets R.Error.fault (Agrees (λ v. map view v.items) (read_each attribute_from (R.elements elements))) result }
 {
     let mut values = Vec::new(alloc);
-    while let Some(element) = R::next_element(&mut elements) {
-        let value = read(alloc, element)?;
+    while let Some(opened) = open_next::<R>(alloc, &mut elements)? {
+        let value = read_opened::<R>(alloc, opened)?;
         if values.push(value).is_err() {
             return Err(R::Error::out_of_memory());
         }
@@ -142,6 +169,7 @@ fn read_elements<R: Reader>(
 
 // Reads attribute values, each under its key.
 #[cycle(read)]
+#[inline(never)]
 fn read_members<R: Reader>(
     alloc: Global,
     mut entries: R::Entries,

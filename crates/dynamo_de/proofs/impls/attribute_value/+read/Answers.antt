@@ -1,83 +1,85 @@
-use Rattle.std.proofs.Common.{rules, map, Vec, Global, ◌+◌, ◌*◌, ◌<◌, Some, Ok, [], ap, sym, ◌∙◌, string_bytes, arith}
+use Rattle.std.proofs.Common.{rules, List, map, Vec, Global, ◌+◌, ◌*◌, ◌<◌, ◌++◌, ◌∷◌, ◌≡◌, Some, Ok, [], ap, sym, subst, ◌∙◌, string_bytes, arith}
 use Rattle.std.proofs.lemmas.Result.{err_from_is_err_and}
-use Rattle.dynamo_value.specs.Av as av
-use Rattle.dynamo_value.specs.Av.{elements_of}
+use Rattle.dynamo_value.specs.Av.{Av}
 use Rattle.dynamo_value.specs.declared.attribute_value.AttributeValue.{AttributeValue}
 use Rattle.dynamo_value.specs.Table.{Table}
 use Rattle.dynamo_value.specs.View.{view, entries_view, members_view}
 use Rattle.dynamo_value.proofs.Members.{inserted}
 use Rattle.dynamo_de.specs.Answer.{Gives}
-use Rattle.dynamo_de.specs.Ignored.{source_height, sources_height, entries_height}
+use Rattle.dynamo_de.specs.Ignored.{source_height, sources_height}
+use Rattle.dynamo_de.specs.Meets.{Meets}
 use Rattle.dynamo_de.specs.OpenedView.{opened_view}
 use Rattle.dynamo_de.specs.Promises.{Agrees}
 use Rattle.dynamo_de.specs.ReadAttribute.{attribute_from, read_each, read_entries}
 use Rattle.dynamo_de.specs.Reading.{read_string}
 use Rattle.dynamo_de.specs.Shows.{TakesEntry}
-use Rattle.dynamo_de.proofs.Attributes.{opened_height, opened_lower, opened_stops, value_opened, list_opened, list_given, map_opened, map_given, inside_stops, member_more, member_stops, kept}
+use Rattle.dynamo_de.proofs.Attributes.{opened_height, opened_lower, opened_is, opened_stops, TakesOpened, next_lower, next_more, next_stops, next_fails, member_more, member_stops, kept}
 use Rattle.dynamo_de.proofs.JsonSteps.{members_lower}
+use Rattle.dynamo_de.proofs.Promises.{EachFrom}
 use Rattle.dynamo_de.proofs.impls.attribute_value.+read.Goals as goal
 
-pub read-returns-in_err-value : goal.read-returns-in_err-value
-read-returns-in_err-value g t c =
+-- what a vector of attribute values stands for
+abbrev values_of : Vec AttributeValue Global → List Av
+values_of v = map view v.items
+
+pub read-returns-in_err-opened : goal.read-returns-in_err-opened
+read-returns-in_err-opened g t c =
     let handed_on = err_from_is_err_and c.from_residual.result c.from_residual.ensures.1 in
-    rw (handed_on.1, handed_on.2) (opened_stops (opened_view g.R.Reader.elements g.R.Reader.entries) (g.R.Reader.source c.args.reader) (g.R.Error.Error.fault c.in_err-value.field-0.0) c.in_err-value.ensures)
+    rw (handed_on.1, handed_on.2) (opened_stops (opened_view g.R.Reader.elements g.R.Reader.entries) (g.R.Reader.source c.args.reader) (g.R.Error.Error.fault c.in_err-opened.field-0.0) c.in_err-opened.ensures)
 
-pub read-returns-in-Whole : goal.read-returns-in-Whole
-read-returns-in-Whole g t c =
-    let seen = opened_view g.R.Reader.elements g.R.Reader.entries in
-    value_opened seen (g.R.Reader.source c.args.reader) c.in_ok-value.field-0 c.in-Whole.value c.in_ok-value.ensures (ap seen c.in-Whole.is)
-
-pub read-read_elements-requires : goal.read-read_elements-requires
-read-read_elements-requires g t c κs within =
+pub read-read_opened-requires : goal.read-read_opened-requires
+read-read_opened-requires g t c κs within =
     let seen = opened_view g.R.Reader.elements g.R.Reader.entries in
     let s = g.R.Reader.source c.args.reader in
-    let lower = opened_lower seen s c.in_ok-value.field-0 c.in_ok-value.ensures in
-    let same = ap (λ o. opened_height (seen o)) c.in-Elements.is in
-    let falls : 2 * sources_height (g.R.Reader.elements c.in-Elements.elements) + 1 < 2 * source_height s = omega (arith, lower, same) in
+    let lower = opened_lower seen s c.in_ok-opened.opened c.in_ok-opened.ensures in
+    let falls : 3 * opened_height (seen c.in_ok-opened.opened) + 2 < 3 * source_height s = omega (arith, lower) in
     search rules
 
-pub read-read_members-requires : goal.read-read_members-requires
-read-read_members-requires g t c κs within =
+pub read-returns : goal.read-returns
+read-returns g t c =
+    let same = opened_is (opened_view g.R.Reader.elements g.R.Reader.entries) (g.R.Reader.source c.args.reader) c.in_ok-opened.opened c.in_ok-opened.ensures in
+    subst (λ x. Meets g.R.Error.Error.fault (Agrees view x) c.read_opened.result) (sym same) c.read_opened.ensures
+
+pub read_elements-returns-in_err-opened : goal.read_elements-returns-in_err-opened
+read_elements-returns-in_err-opened g t c =
     let seen = opened_view g.R.Reader.elements g.R.Reader.entries in
-    let s = g.R.Reader.source c.args.reader in
-    let lower = opened_lower seen s c.in_ok-value.field-0 c.in_ok-value.ensures in
-    let same = ap (λ o. opened_height (seen o)) c.in-Entries.is in
-    let falls : 2 * entries_height (g.R.Reader.entries c.in-Entries.entries) + 1 < 2 * source_height s = omega (arith, lower, same) in
+    let handed_on = err_from_is_err_and c.from_residual.result c.from_residual.ensures.1 in
+    rw (handed_on.1, handed_on.2) (next_stops g.R.Error.Error.fault seen (read_each attribute_from (g.R.Reader.elements c.args.elements)) c.loop-values.values.items values_of
+    (g.R.Reader.elements c.loop-values.elements) (g.R.Reader.elements c.open_next.new.elements) c.in_err-opened.field-0.0 c.in_err-opened.ensures c.loop-values.invariant.1)
+
+pub read_elements-read_opened-requires : goal.read_elements-read_opened-requires
+read_elements-read_opened-requires g t c κs within =
+    let seen = opened_view g.R.Reader.elements g.R.Reader.entries in
+    let left = g.R.Reader.elements c.loop-values.elements in
+    let new = g.R.Reader.elements c.open_next.new.elements in
+    let taken = subst (λ o. TakesOpened g.R.Error.Error.fault seen left new (Ok o)) c.in-Some.is c.in_ok-opened.ensures in
+    let lower = next_lower g.R.Error.Error.fault seen left new c.in-Some.opened taken in
+    let falls : 3 * opened_height (seen c.in-Some.opened) + 2 < 3 * sources_height (g.R.Reader.elements c.args.elements) + 1 = omega (arith, lower.0, c.loop-values.invariant.0) in
     search rules
 
-pub read-returns-in_err-read_elements-in-Elements : goal.read-returns-in_err-read_elements-in-Elements
-read-returns-in_err-read_elements-in-Elements g t c =
+pub read_elements-returns-in_err-value : goal.read_elements-returns-in_err-value
+read_elements-returns-in_err-value g t c =
     let seen = opened_view g.R.Reader.elements g.R.Reader.entries in
-    let s = g.R.Reader.source c.args.reader in
-    let inside = g.R.Reader.elements c.in-Elements.elements in
-    let stopped = c.in_err-read_elements-in-Elements in
-    let handed_on = err_from_is_err_and c.from_residual-in_err-read_elements-in-Elements.result c.from_residual-in_err-read_elements-in-Elements.ensures.1 in
-    let same = list_opened seen s c.in_ok-value.field-0 inside c.in_ok-value.ensures (ap seen c.in-Elements.is) in
-    rw (handed_on.1, handed_on.2) (inside_stops (λ (v : Vec AttributeValue Global). map view v.items) (λ values. Ok (av.L (elements_of values))) s (read_each attribute_from inside) (g.R.Error.Error.fault stopped.field-0.0) same stopped.ensures)
+    let left = g.R.Reader.elements c.loop-values.elements in
+    let new = g.R.Reader.elements c.open_next.new.elements in
+    let taken = subst (λ o. TakesOpened g.R.Error.Error.fault seen left new (Ok o)) c.in-Some.is c.in_ok-opened.ensures in
+    let handed_on = err_from_is_err_and c.from_residual-in_err-value.result c.from_residual-in_err-value.ensures.1 in
+    rw (handed_on.1, handed_on.2) (next_fails g.R.Error.Error.fault seen (read_each attribute_from (g.R.Reader.elements c.args.elements)) c.loop-values.values.items values_of
+    left new c.in-Some.opened (g.R.Error.Error.fault c.in_err-value.field-0.0) taken c.loop-values.invariant.1 c.in_err-value.ensures)
 
-pub read-returns-in_ok-read_elements-in-Elements : goal.read-returns-in_ok-read_elements-in-Elements
-read-returns-in_ok-read_elements-in-Elements g t c =
+pub read_elements-loop-values-preserved : goal.read_elements-loop-values-preserved
+read_elements-loop-values-preserved g t c =
     let seen = opened_view g.R.Reader.elements g.R.Reader.entries in
-    let inside = g.R.Reader.elements c.in-Elements.elements in
-    let same = list_opened seen (g.R.Reader.source c.args.reader) c.in_ok-value.field-0 inside c.in_ok-value.ensures (ap seen c.in-Elements.is) in
-    rw same (list_given inside c.in_ok-read_elements-in-Elements.field-0 c.in_ok-read_elements-in-Elements.ensures)
-
-pub read-returns-in_err-read_members-in-Entries : goal.read-returns-in_err-read_members-in-Entries
-read-returns-in_err-read_members-in-Entries g t c =
-    let seen = opened_view g.R.Reader.elements g.R.Reader.entries in
-    let s = g.R.Reader.source c.args.reader in
-    let inside = g.R.Reader.entries c.in-Entries.entries in
-    let stopped = c.in_err-read_members-in-Entries in
-    let handed_on = err_from_is_err_and c.from_residual-in_err-read_members-in-Entries.result c.from_residual-in_err-read_members-in-Entries.ensures.1 in
-    let same = map_opened seen s c.in_ok-value.field-0 inside c.in_ok-value.ensures (ap seen c.in-Entries.is) in
-    rw (handed_on.1, handed_on.2) (inside_stops (λ (m : Table). members_view m.entries) (λ members. Ok (av.M members)) s (read_entries [] inside) (g.R.Error.Error.fault stopped.field-0.0) same stopped.ensures)
-
-pub read-returns-in_ok-read_members-in-Entries : goal.read-returns-in_ok-read_members-in-Entries
-read-returns-in_ok-read_members-in-Entries g t c =
-    let seen = opened_view g.R.Reader.elements g.R.Reader.entries in
-    let inside = g.R.Reader.entries c.in-Entries.entries in
-    let same = map_opened seen (g.R.Reader.source c.args.reader) c.in_ok-value.field-0 inside c.in_ok-value.ensures (ap seen c.in-Entries.is) in
-    rw same (map_given inside c.in_ok-read_members-in-Entries.field-0 c.in_ok-read_members-in-Entries.ensures)
+    let left = g.R.Reader.elements c.loop-values.elements in
+    let new = g.R.Reader.elements c.open_next.new.elements in
+    let values = c.loop-values.values.items in
+    let taken = subst (λ o. TakesOpened g.R.Error.Error.fault seen left new (Ok o)) c.in-Some.is c.in_ok-opened.ensures in
+    let lower = next_lower g.R.Error.Error.fault seen left new c.in-Some.opened taken in
+    let pushed : c.push.new.self.items ≡ values ++ c.in_ok-value.value ∷ [] = search rules in (
+      omega (arith, lower.1, c.loop-values.invariant.0),
+      ap (λ vs. EachFrom view attribute_from vs new) pushed
+          ∙ next_more g.R.Error.Error.fault seen (read_each attribute_from (g.R.Reader.elements c.args.elements)) values c.in_ok-value.value left new c.in-Some.opened taken c.loop-values.invariant.1 c.in_ok-value.ensures,
+    )
 
 pub read_members-returns-in_err-member : goal.read_members-returns-in_err-member
 read_members-returns-in_err-member g t c =
