@@ -1,57 +1,55 @@
 -- Entries that are read in order, one after another, into a map.
-use Rattle.std.proofs.Common.{◌≡◌, ◌⊎◌, Bool, List, [], ◌∷◌, ◌++◌, Option, Some, None, Result, Ok, Err, cond, length, ◌<◌, refl, sym, subst, inl, inr, arith, ◌∙◌}
+use Rattle.std.proofs.Common.{◌≡◌, Bool, List, [], ◌∷◌, ◌++◌, Option, Some, None, Result, Ok, Err, cond, refl, sym, subst, inl, inr, ◌∙◌}
 use Rattle.std.proofs.lemmas.Map.{update_all_push}
-use Rattle.dynamo_value.specs.Fault.{Fault, out_of_memory}
-use Rattle.dynamo_de.specs.Access.{ReadsPair, NextKey, NextValue}
+use Rattle.dynamo_value.specs.Fault.{Fault}
+use Rattle.dynamo_de.specs.Access.{ReadsPair}
+use Rattle.dynamo_de.specs.Meets.{Meets}
 use Rattle.dynamo_de.specs.Reads.{MapSoFar, ReadsMap, ReadsEach, ReadsSoFar}
+use Rattle.dynamo_de.specs.Shows.{TakesEntry}
 use Rattle.dynamo_de.specs.Source.{Source, Entry}
 use Rattle.dynamo_de.proofs.Each.{so_far_more, so_far_all, so_far_fails}
 
-module _ {K V E : Type 0} (keys : Source → Result K Fault → Type 0) (values : Source → Result V Fault → Type 0) (fault : E → Fault) where
-  pair_more : (es : List Entry) (ps : List (K × V)) (l l2 l3 : List Entry) (p p2 p3 : Option Source) (k : K) (v : V) → ReadsSoFar (ReadsPair keys values) es ps l → NextKey fault keys l p l2 p2 (Ok (Some k)) → NextValue fault values l2 p2 l3 p3 (Ok v) → ReadsSoFar (ReadsPair keys values) es (ps ++ (k, v) ∷ []) l3
-  pair_more es ps [] l2 l3 p p2 p3 k v h a b = cc
-  pair_more es ps (e ∷ l) l2 l3 p p2 p3 k v h a b =
-      let c = subst (λ w. NextValue fault values l2 w l3 p3 (Ok v)) a.1 b in
-      so_far_more (ReadsPair keys values) es ps e l3 (k, v) (subst (λ r. ReadsSoFar (ReadsPair keys values) es ps (e ∷ r)) (sym (c.0 ∙ a.0)) h) (a.2, c.2)
+module _ {K V D : Type 0} (keys : Source → Result K Fault → Type 0) (values : Source → Result V Fault → Type 0) (source : D → Source) (es : List Entry) (ps : List (K × V)) where
+  abbrev SoFar : List Entry → Type 0
+  SoFar l = ReadsSoFar (ReadsPair keys values) es ps l
 
-  pair_ends : (es : List Entry) (ps : List (K × V)) (l l2 : List Entry) (p p2 : Option Source) → ReadsSoFar (ReadsPair keys values) es ps l → NextKey fault keys l p l2 p2 (Ok None) → ReadsEach (ReadsPair keys values) es (Ok ps)
-  pair_ends es ps [] l2 p p2 h a = so_far_all (ReadsPair keys values) es ps h
-  pair_ends es ps (e ∷ l) l2 p p2 h a = absurd a.2
+  pair_more : (l new : List Entry) (d : D × D) (k : K) (v : V) → SoFar l → TakesEntry source l new (Some d) → keys (source d.0) (Ok k) → values (source d.1) (Ok v) → ReadsSoFar (ReadsPair keys values) es (ps ++ (k, v) ∷ []) new
+  pair_more [] new d k v h t a b = cc
+  pair_more (e ∷ l) new d k v h t a b =
+      so_far_more (ReadsPair keys values) es ps e new (k, v) (subst (λ r. SoFar (e ∷ r)) (sym t.0) h) (subst (λ s. keys s (Ok k)) t.1 a, subst (λ s. values s (Ok v)) t.2 b)
 
-  key_fails : (es : List Entry) (ps : List (K × V)) (l l2 : List Entry) (p p2 : Option Source) (x : E) → ReadsSoFar (ReadsPair keys values) es ps l → NextKey fault keys l p l2 p2 (Err x) → (fault x ≡ out_of_memory) ⊎ ReadsEach {T = K × V} (ReadsPair keys values) es (Err (fault x))
-  key_fails es ps [] l2 p p2 x h a = cc
-  key_fails es ps (e ∷ l) l2 p p2 x h a = elim a.2 [ inl o ↦ inl o | inr r ↦ inr (so_far_fails (ReadsPair keys values) es ps e l (fault x) h (inl r)) ]
+  pair_ends : (l new : List Entry) → SoFar l → TakesEntry source l new None → ReadsEach (ReadsPair keys values) es (Ok ps)
+  pair_ends [] new h t = so_far_all (ReadsPair keys values) es ps h
+  pair_ends (e ∷ l) new h t = absurd t
 
-  value_fails : (es : List Entry) (ps : List (K × V)) (l l2 l3 : List Entry) (p p2 p3 : Option Source) (k : K) (x : E) → ReadsSoFar (ReadsPair keys values) es ps l → NextKey fault keys l p l2 p2 (Ok (Some k)) → NextValue fault values l2 p2 l3 p3 (Err x) → (fault x ≡ out_of_memory) ⊎ ReadsEach {T = K × V} (ReadsPair keys values) es (Err (fault x))
-  value_fails es ps [] l2 l3 p p2 p3 k x h a b = cc
-  value_fails es ps (e ∷ l) l2 l3 p p2 p3 k x h a b =
-      let c = subst (λ w. NextValue fault values l2 w l3 p3 (Err x)) a.1 b in
-      elim c.2 [ inl o ↦ inl o | inr r ↦ inr (so_far_fails (ReadsPair keys values) es ps e l (fault x) h (inr (k, a.2, r))) ]
+  key_fails : (l new : List Entry) (d : D × D) (f : Fault) → SoFar l → TakesEntry source l new (Some d) → keys (source d.0) (Err f) → ReadsEach {T = K × V} (ReadsPair keys values) es (Err f)
+  key_fails [] new d f h t a = cc
+  key_fails (e ∷ l) new d f h t a = so_far_fails (ReadsPair keys values) es ps e l f h (inl (subst (λ s. keys s (Err f)) t.1 a))
 
-  -- an entry that was read is gone
-  pub key_falls : (l l2 l3 : List Entry) (p p2 p3 : Option Source) (k : K) (v : V) → NextKey fault keys l p l2 p2 (Ok (Some k)) → NextValue fault values l2 p2 l3 p3 (Ok v) → length l3 < length l
-  key_falls [] l2 l3 p p2 p3 k v a b = cc
-  key_falls (e ∷ l) l2 l3 p p2 p3 k v a b =
-      let c = subst (λ w. NextValue fault values l2 w l3 p3 (Ok v)) a.1 b in
-      rw (c.0, a.0) (omega arith)
+  value_fails : (l new : List Entry) (d : D × D) (k : K) (f : Fault) → SoFar l → TakesEntry source l new (Some d) → keys (source d.0) (Ok k) → values (source d.1) (Err f) → ReadsEach {T = K × V} (ReadsPair keys values) es (Err f)
+  value_fails [] new d k f h t a b = cc
+  value_fails (e ∷ l) new d k f h t a b = so_far_fails (ReadsPair keys values) es ps e l f h (inr (k, subst (λ s. keys s (Ok k)) t.1 a, subst (λ s. values s (Err f)) t.2 b))
 
-module _ {K V E M : Type 0} (get : M → K → Option V) (eq : K → K → Bool) (keys : Source → Result K Fault → Type 0) (values : Source → Result V Fault → Type 0) (fault : E → Fault) where
-  pub map_more : (es : List Entry) (m n : M) (l l2 l3 : List Entry) (p p2 p3 : Option Source) (k : K) (v : V) → MapSoFar get eq keys values es m l → NextKey fault keys l p l2 p2 (Ok (Some k)) → NextValue fault values l2 p2 l3 p3 (Ok v)
-      → ((q : K) → get n q ≡ cond (eq k q) (Some v) (get m q)) → MapSoFar get eq keys values es n l3
+module _ {K V D M : Type 0} (get : M → K → Option V) (eq : K → K → Bool) (keys : Source → Result K Fault → Type 0) (values : Source → Result V Fault → Type 0) (source : D → Source) (es : List Entry) (m : M) (l new : List Entry) (so_far : MapSoFar get eq keys values es m l) where
+  pub map_more : (n : M) (d : D × D) (k : K) (v : V) → TakesEntry source l new (Some d) → keys (source d.0) (Ok k) → values (source d.1) (Ok v) → ((q : K) → get n q ≡ cond (eq k q) (Some v) (get m q)) → MapSoFar get eq keys values es n new
   unfolding MapSoFar
-  map_more es m n l l2 l3 p p2 p3 k v h a b u = (h.0 ++ (k, v) ∷ [], pair_more keys values fault es h.0 l l2 l3 p p2 p3 k v h.1 a b, λ q. u q ∙ update_all_push eq (λ _. None) (get m) h.0 (k, v) q (h.2 q))
+  map_more n d k v t a b u =
+      (so_far.0 ++ (k, v) ∷ [], pair_more keys values source es so_far.0 l new d k v so_far.1 t a b, λ q. u q ∙ update_all_push eq (λ _. None) (get m) so_far.0 (k, v) q (so_far.2 q))
 
-  pub map_ends : (es : List Entry) (m : M) (l l2 : List Entry) (p p2 : Option Source) → MapSoFar get eq keys values es m l → NextKey fault keys l p l2 p2 (Ok None) → ReadsMap get eq keys values es (Ok m)
+  pub map_ends : TakesEntry source l new None → ReadsMap get eq keys values es (Ok m)
   unfolding MapSoFar ReadsMap
-  map_ends es m l l2 p p2 h a = (h.0, pair_ends keys values fault es h.0 l l2 p p2 h.1 a, h.2)
+  map_ends t = (so_far.0, pair_ends keys values source es so_far.0 l new so_far.1 t, so_far.2)
 
-  pub map_key_fails : (es : List Entry) (m : M) (l l2 : List Entry) (p p2 : Option Source) (x : E) → MapSoFar get eq keys values es m l → NextKey fault keys l p l2 p2 (Err x) → (fault x ≡ out_of_memory) ⊎ ReadsMap get eq keys values es (Err (fault x))
-  unfolding MapSoFar ReadsMap
-  map_key_fails es m l l2 p p2 x h a = key_fails keys values fault es h.0 l l2 p p2 x h.1 a
+  module _ {E : Type 0} (fault : E → Fault) (d : D × D) (taken : TakesEntry source l new (Some d)) (x : E) where
+    pub map_key_fails : Meets {V = K} fault (keys (source d.0)) (Err x) → Meets fault (ReadsMap get eq keys values es) (Err x)
+    unfolding MapSoFar ReadsMap
+    map_key_fails (inl lacks) = inl lacks
+    map_key_fails (inr a) = inr (key_fails keys values source es so_far.0 l new d (fault x) so_far.1 taken a)
 
-  pub map_value_fails : (es : List Entry) (m : M) (l l2 l3 : List Entry) (p p2 p3 : Option Source) (k : K) (x : E) → MapSoFar get eq keys values es m l → NextKey fault keys l p l2 p2 (Ok (Some k)) → NextValue fault values l2 p2 l3 p3 (Err x) → (fault x ≡ out_of_memory) ⊎ ReadsMap get eq keys values es (Err (fault x))
-  unfolding MapSoFar ReadsMap
-  map_value_fails es m l l2 l3 p p2 p3 k x h a b = value_fails keys values fault es h.0 l l2 l3 p p2 p3 k x h.1 a b
+    pub map_value_fails : (k : K) → keys (source d.0) (Ok k) → Meets {V = V} fault (values (source d.1)) (Err x) → Meets fault (ReadsMap get eq keys values es) (Err x)
+    unfolding MapSoFar ReadsMap
+    map_value_fails k a (inl lacks) = inl lacks
+    map_value_fails k a (inr b) = inr (value_fails keys values source es so_far.0 l new d k (fault x) so_far.1 taken a b)
 
 pub map_starts : {K V M : Type 0} (get : M → K → Option V) (eq : K → K → Bool) (keys : Source → Result K Fault → Type 0) (values : Source → Result V Fault → Type 0) (es : List Entry) (m : M) → ((q : K) → get m q ≡ None) → MapSoFar get eq keys values es m es
 unfolding MapSoFar

@@ -1,14 +1,12 @@
 -- Answers, and what comes after them.
-use Rattle.std.proofs.Common.{◌≡◌, List, Option, Some, None, Result, Ok, Err, refl, sym, ap, subst, inl, inr}
+use Rattle.std.proofs.Common.{◌≡◌, Result, Ok, Err, refl, sym, subst}
 use Rattle.dynamo_value.specs.Fault.{Fault}
 use Rattle.dynamo_ser.specs.Datum.{Datum}
-use Rattle.dynamo_de.specs.Access.{NextValue}
 use Rattle.dynamo_de.specs.Answer as answer
-use Rattle.dynamo_de.specs.Answer.{Answer, After}
-use Rattle.dynamo_de.specs.Source.{Source, Entry}
+use Rattle.dynamo_de.specs.Answer.{Answer, After, Gives}
+use Rattle.dynamo_de.specs.Meets.{Meets}
 use Rattle.dynamo_shape.specs.Laws.{AnswersByShape}
 use Rattle.dynamo_shape.specs.Same.{Same}
-use Rattle.dynamo_shape.proofs.Scalars.{no_fault, same_fault}
 use Rattle.dynamo_shape.proofs.Results.{value_same}
 use Rattle.dynamo_record.specs.Listed.{IfRead}
 
@@ -40,19 +38,7 @@ pub after_err : {A V W : Type 0} (a : Answer A) (P : A → V → Type 0) (Q : A 
 after_err (Ok x) P Q f h = h
 after_err (Err g) P Q f h = h
 
--- ---- the pending value, read as a part
-
-module _ {V W E : Type 0} (fault : E → Fault) (P : Source → Result V Fault → Type 0) (Q : Source → Result W Fault → Type 0) (l l2 : List Entry) (p p2 : Option Source) where
-  pub value_taken : (v : V) (w : W) → ((s : Source) → P s (Ok v) → Q s (Ok w)) → NextValue fault P l p l2 p2 (Ok v) → NextValue fault Q l p l2 p2 (Ok w)
-  value_taken v w more h = along p h
-    where
-      along : (p : Option Source) → NextValue fault P l p l2 p2 (Ok v) → NextValue fault Q l p l2 p2 (Ok w)
-      along None h = absurd (no_fault h.2)
-      along (Some s) h = (h.0, h.1, more s h.2)
-
-  pub value_refused : (e : E) → ((s : Source) (f : Fault) → P s (Err f) → Q s (Err f)) → NextValue fault P l p l2 p2 (Err e) → NextValue fault Q l p l2 p2 (Err e)
-  value_refused e more h = along p h
-    where
-      along : (p : Option Source) → NextValue fault P l p l2 p2 (Err e) → NextValue fault Q l p l2 p2 (Err e)
-      along None h = (h.0, h.1, elim h.2 [ inl lacks ↦ inl lacks | inr refused ↦ inr (ap Err (same_fault refused)) ])
-      along (Some s) h = (h.0, h.1, elim h.2 [ inl lacks ↦ inl lacks | inr refused ↦ inr (more s (fault e) refused) ])
+-- what comes after what is read
+pub goes_on : {A T V E : Type 0} (fault : E → Fault) (seen : T → A) (a : Answer A) (next : A → Result V Fault → Type 0) (t : T) (r : Result V E) → Gives seen a (Ok t) → Meets fault (next (seen t)) r → Meets fault (After a next) r
+goes_on fault seen (Ok x) next t r is h = subst (λ y. Meets fault (next y) r) is h
+goes_on fault seen (Err g) next t r is h = absurd is

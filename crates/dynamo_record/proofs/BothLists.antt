@@ -1,10 +1,11 @@
 -- Two lists of fields, one behind the other.
-use Rattle.std.proofs.Common.{◌≡◌, ℕ, ◌+◌, List, Option, Some, None, Result, Ok, Err, sym, ap, subst, ◌∙◌, inl, inr}
+use Rattle.std.proofs.Common.{◌≡◌, ℕ, ◌+◌, Option, Some, None, Result, Ok, Err, sym, ap, subst, ◌∙◌, inl, inr}
 use Rattle.dynamo_value.specs.Fault.{Fault}
-use Rattle.dynamo_de.specs.Access.{NextValue}
 use Rattle.dynamo_de.specs.Answer as answer
 use Rattle.dynamo_de.specs.Answer.{Answer, After}
-use Rattle.dynamo_de.specs.Source.{Source, Entry, Text}
+use Rattle.dynamo_de.specs.Meets.{Meets}
+use Rattle.dynamo_de.specs.Source.{Source, Text}
+use Rattle.dynamo_de.proofs.Meets.{meets_more}
 use Rattle.dynamo_shape.specs.Permits.{Permits}
 use Rattle.dynamo_shape.specs.Read.{into}
 use Rattle.dynamo_shape.proofs.Answered.{stops}
@@ -12,7 +13,7 @@ use Rattle.dynamo_shape.proofs.ByHand.{into_into}
 use Rattle.dynamo_shape.proofs.FieldsByName.{Slots, fill_slot}
 use Rattle.dynamo_record.specs.Fields.{SameData, read_nth}
 use Rattle.dynamo_record.specs.Listed.{Shapes, Data, AboutList, both_shapes, both_told, Makes, MakesOrFails, Completes, Holds, HoldsBoth, HoldsBehind, ReadBehind, Fills, IfRead}
-use Rattle.dynamo_record.proofs.Answering.{after_more, after_err, value_taken, value_refused}
+use Rattle.dynamo_record.proofs.Answering.{after_more, after_err}
 
 -- ---- what both are made of
 
@@ -53,28 +54,26 @@ module _ {L R N E : Type 0} (l : AboutList L) (r : AboutList R) (fault : E → F
 
 -- ---- a value of the one or of the other
 
-module _ {X Y E : Type 0} (fault : E → Fault) (a b : ℕ) (hl : Holds X) (hr : Holds Y) (l2s : Shapes) (os rest more : Slots) (l l2 : List Entry) (p p2 : Option Source) where
-  pub left_filled : (i : ℕ) (x : X) (y : Y) (r : Result (Unit {0}) E) → hr y rest more → NextValue fault (Fills hl l2s i os rest x) l p l2 p2 r → NextValue fault (Fills (HoldsBoth hl hr) l2s i os more (x, y)) l p l2 p2 r
-  left_filled i x y (Ok tt) h n =
-      value_taken fault (Fills hl l2s i os rest x) (Fills (HoldsBoth hl hr) l2s i os more (x, y)) l l2 p p2 tt tt
-      (λ source k. after_more (read_nth i l2s source) (λ d _. hl x (fill_slot i d os) rest) (λ d _. HoldsBoth hl hr (x, y) (fill_slot i d os) more) tt tt (λ d held. (rest, held, h)) k) n
-  left_filled i x y (Err e) h n =
-      value_refused fault (Fills hl l2s i os rest x) (Fills (HoldsBoth hl hr) l2s i os more (x, y)) l l2 p p2 e
-      (λ source f k. after_err (read_nth i l2s source) (λ d _. hl x (fill_slot i d os) rest) (λ d _. HoldsBoth hl hr (x, y) (fill_slot i d os) more) f k) n
+module _ {X Y : Type 0} (left : Holds X) (right : Holds Y) (os rest more : Slots) (source : Source) (x : X) (y : Y) where
+  abbrev Both : Shapes → ℕ → Result (Unit {0}) Fault → Type 0
+  Both ss i = Fills (HoldsBoth left right) ss i os more (x, y) source
 
-  module _ (behind : HoldsBehind a hl) (shapes : Shapes → Shapes) (read_behind : ReadBehind a shapes) (ss : Shapes) where
-    abbrev Both : ℕ → X → Y → Source → Result (Unit {0}) Fault → Type 0
-    Both i x y = Fills (HoldsBoth hl hr) (shapes ss) i os more (x, y)
+  left_fills : (ss : Shapes) (i : ℕ) → right y rest more → (r : Result (Unit {0}) Fault) → Fills left ss i os rest x source r → Both ss i r
+  left_fills ss i h (Ok tt) k = after_more (read_nth i ss source) (λ d _. left x (fill_slot i d os) rest) (λ d _. HoldsBoth left right (x, y) (fill_slot i d os) more) tt tt (λ d held. (rest, held, h)) k
+  left_fills ss i h (Err f) k = after_err (read_nth i ss source) (λ d _. left x (fill_slot i d os) rest) (λ d _. HoldsBoth left right (x, y) (fill_slot i d os) more) f k
 
-    there : (j : ℕ) (x : X) (y : Y) (r : Result (Unit {0}) E) → hl x os rest → NextValue fault (Fills hr ss j rest more y) l p l2 p2 r → NextValue fault (Both (a + j) x y) l p l2 p2 r
-    there j x y (Ok tt) h n =
-        value_taken fault (Fills hr ss j rest more y) (Both (a + j) x y) l l2 p p2 tt tt
-        (λ source k. subst (λ q. After {V = Unit {0}} q (λ d. IfRead (λ _. HoldsBoth hl hr (x, y) (fill_slot (a + j) d os) more)) (Ok tt)) (sym (read_behind ss j source))
-        (after_more (read_nth j ss source) (λ d _. hr y (fill_slot j d rest) more) (λ d _. HoldsBoth hl hr (x, y) (fill_slot (a + j) d os) more) tt tt (λ d held. (fill_slot j d rest, behind x os rest j d h, held)) k)) n
-    there j x y (Err e) h n =
-        value_refused fault (Fills hr ss j rest more y) (Both (a + j) x y) l l2 p p2 e
-        (λ source f k. subst (λ q. After {V = Unit {0}} q (λ d. IfRead (λ _. HoldsBoth hl hr (x, y) (fill_slot (a + j) d os) more)) (Err f)) (sym (read_behind ss j source))
-        (after_err (read_nth j ss source) (λ d _. hr y (fill_slot j d rest) more) (λ d _. HoldsBoth hl hr (x, y) (fill_slot (a + j) d os) more) f k)) n
+  pub left_filled : {E : Type 0} (fault : E → Fault) (ss : Shapes) (i : ℕ) (r : Result (Unit {0}) E) → right y rest more → Meets fault (Fills left ss i os rest x source) r → Meets fault (Both ss i) r
+  left_filled fault ss i r h k = meets_more fault (Fills left ss i os rest x source) (Both ss i) (left_fills ss i h) r k
 
-    pub right_filled : (i j : ℕ) (x : X) (y : Y) (r : Result (Unit {0}) E) → a + j ≡ i → hl x os rest → NextValue fault (Fills hr ss j rest more y) l p l2 p2 r → NextValue fault (Both i x y) l p l2 p2 r
-    right_filled i j x y r at h n = subst (λ k. NextValue fault (Both k x y) l p l2 p2 r) at (there j x y r h n)
+  module _ (a : ℕ) (behind : HoldsBehind a left) (shapes : Shapes → Shapes) (read_behind : ReadBehind a shapes) (ss : Shapes) where
+    read_later : (j : ℕ) (r : Result (Unit {0}) Fault) → After (read_nth j ss source) (λ d. IfRead (λ (_ : Unit {0}). HoldsBoth left right (x, y) (fill_slot (a + j) d os) more)) r → Both (shapes ss) (a + j) r
+    read_later j r k = subst (λ q. After {V = Unit {0}} q (λ d. IfRead (λ _. HoldsBoth left right (x, y) (fill_slot (a + j) d os) more)) r) (sym (read_behind ss j source)) k
+
+    right_fills : (j : ℕ) → left x os rest → (r : Result (Unit {0}) Fault) → Fills right ss j rest more y source r → Both (shapes ss) (a + j) r
+    right_fills j h (Ok tt) k =
+        read_later j (Ok tt) (after_more (read_nth j ss source) (λ d _. right y (fill_slot j d rest) more) (λ d _. HoldsBoth left right (x, y) (fill_slot (a + j) d os) more) tt tt (λ d held. (fill_slot j d rest, behind x os rest j d h, held)) k)
+    right_fills j h (Err f) k =
+        read_later j (Err f) (after_err (read_nth j ss source) (λ d _. right y (fill_slot j d rest) more) (λ d _. HoldsBoth left right (x, y) (fill_slot (a + j) d os) more) f k)
+
+    pub right_filled : {E : Type 0} (fault : E → Fault) (i j : ℕ) (r : Result (Unit {0}) E) → a + j ≡ i → left x os rest → Meets fault (Fills right ss j rest more y source) r → Meets fault (Both (shapes ss) i) r
+    right_filled fault i j r at h k = subst (λ n. Meets fault (Both (shapes ss) n) r) at (meets_more fault (Fills right ss j rest more y source) (Both (shapes ss) (a + j)) (right_fills j h) r k)

@@ -1,25 +1,24 @@
 -- One entry of a struct: it fills the field of its name, or is ignored.
-use Rattle.std.proofs.Common.{ℕ, List, [], Option, Some, None, Result, Ok, Err, length, ◌<◌, ◌≤◌, sym, subst}
+use Rattle.std.proofs.Common.{◌≡◌, ℕ, [], Result, Ok, Err, String, Global, string_bytes, length, ◌<◌, ◌≤◌, sym, subst, inl, inr}
 use Rattle.dynamo_value.specs.Fault.{Fault}
 use Rattle.dynamo_ser.specs.Datum as datum
 use Rattle.dynamo_ser.specs.Datum.{Datum}
-use Rattle.dynamo_de.specs.Access.{NextValue}
 use Rattle.dynamo_de.specs.Answer.{Answer, After, Gives}
 use Rattle.dynamo_de.specs.Ignored.{read_ignored}
-use Rattle.dynamo_de.specs.Source.{Source, Entry}
-use Rattle.dynamo_de.proofs.Meets.{meets_more}
+use Rattle.dynamo_de.specs.Meets.{Meets}
+use Rattle.dynamo_de.specs.Reading.{read_identifier}
+use Rattle.dynamo_de.specs.Source.{Source, Text, key_text}
 use Rattle.dynamo_shape.specs.Read.{into}
 use Rattle.dynamo_shape.proofs.FieldsByName.{Slots, fill_slot}
 use Rattle.dynamo_record.specs.Entries.{read_one, fill_one, read_at, FillsAt}
 use Rattle.dynamo_record.specs.Fields.{Defaults, field_shapes}
 use Rattle.dynamo_record.specs.Listed.{Shapes, Holds, Fills, IfRead}
 use Rattle.dynamo_record.specs.Names.{Names}
-use Rattle.dynamo_record.proofs.Answering.{value_taken, value_refused}
 use Rattle.dynamo_record.proofs.Described.{read_there, filled_there, past}
 
-pub next_more : {V E : Type 0} (fault : E → Fault) (P Q : Source → Result V Fault → Type 0) → ((s : Source) (r : Result V Fault) → P s r → Q s r) → (l l2 : List Entry) (p p2 : Option Source) (r : Result V E) → NextValue fault P l p l2 p2 r → NextValue fault Q l p l2 p2 r
-next_more fault P Q more l l2 None p2 r h = h
-next_more fault P Q more l l2 (Some s) p2 r h = (h.0, h.1, meets_more fault (P s) (Q s) (more s) r h.2)
+-- a key is read as its text
+pub key_read : (s : Source) (t : Text) (name : String Global) → s ≡ key_text t → Gives string_bytes (read_identifier s) (Ok name) → string_bytes name ≡ t
+key_read s t name is given = subst (λ s. Gives string_bytes (read_identifier s) (Ok name)) is given
 
 module _ {X : Type 0} (holds : Holds X) (ns : Names) (ss : Shapes) (gs : Defaults) (os : Slots) (new : X) (i : ℕ) where
   abbrev pub front : X → Slots → Type 0
@@ -34,19 +33,20 @@ module _ {X : Type 0} (holds : Holds X) (ns : Names) (ss : Shapes) (gs : Default
   back : length ss ≤ i → (s : Source) (r : Result (Unit {0}) Fault) → After (into (λ _. datum.unit) (read_ignored s)) (λ d. IfRead (λ _. front new os)) r → FillsAt front i (field_shapes ns ss gs) os new s r
   back beyond s r k = subst (λ fs. After {V = Unit {0}} (read_one fs s) (λ d. IfRead (λ _. front new (fill_one fs i d os))) r) (sym (past i ns ss gs beyond)) k
 
-  module _ {E : Type 0} (T : Type 0) (fault : E → Fault) (beyond : length ss ≤ i) (l l2 : List Entry) (p p2 : Option Source) where
-    abbrev Ignored : Source → Result T Fault → Type 0
-    Ignored s = Gives (λ (_ : T). tt) (read_ignored s)
+  module _ (T : Type 0) (beyond : length ss ≤ i) (s : Source) where
+    abbrev pub Ignored : Result T Fault → Type 0
+    Ignored = Gives (λ (_ : T). tt) (read_ignored s)
 
-    pub ignored : front new os → (v : T) → NextValue fault Ignored l p l2 p2 (Ok v) → NextValue fault (FillsAt front i (field_shapes ns ss gs) os new) l p l2 p2 (Ok tt)
-    ignored held v a = value_taken fault Ignored (FillsAt front i (field_shapes ns ss gs) os new) l l2 p p2 v tt (λ s k. back beyond s (Ok tt) (along (read_ignored s) k)) a
+    pub ignored : front new os → (v : T) → Ignored (Ok v) → FillsAt front i (field_shapes ns ss gs) os new s (Ok tt)
+    ignored held v k = back beyond s (Ok tt) (along (read_ignored s) k)
       where
         along : (a : Answer (Unit {0})) → Gives (λ (_ : T). tt) a (Ok v) → After (into (λ _. datum.unit) a) (λ d. IfRead (λ (_ : Unit {0}). front new os)) (Ok tt)
         along (Ok x) h = held
         along (Err f) h = absurd h
 
-    pub not_ignored : (e : E) → NextValue {V = T} fault Ignored l p l2 p2 (Err e) → NextValue fault (FillsAt front i (field_shapes ns ss gs) os new) l p l2 p2 (Err e)
-    not_ignored e a = value_refused fault Ignored (FillsAt front i (field_shapes ns ss gs) os new) l l2 p p2 e (λ s f k. back beyond s (Err f) (along (read_ignored s) f k)) a
+    pub not_ignored : {E : Type 0} (fault : E → Fault) (e : E) → Meets fault Ignored (Err e) → Meets fault (FillsAt front i (field_shapes ns ss gs) os new s) (Err e)
+    not_ignored fault e (inl lacks) = inl lacks
+    not_ignored fault e (inr k) = inr (back beyond s (Err (fault e)) (along (read_ignored s) (fault e) k))
       where
         along : (a : Answer (Unit {0})) (f : Fault) → Gives (λ (_ : T). tt) a (Err f) → After (into (λ _. datum.unit) a) (λ d. IfRead (λ (_ : Unit {0}). front new os)) (Err f)
         along (Ok x) f h = absurd h

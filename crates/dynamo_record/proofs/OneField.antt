@@ -1,24 +1,21 @@
 -- One field: what is read of it, and what it is made of.
-use Rattle.std.proofs.Common.{◌≡◌, ◌⊎◌, ℕ, List, [], ◌∷◌, Option, Some, None, Result, Ok, Err, refl, inl, inr}
+use Rattle.std.proofs.Common.{◌≡◌, ◌⊎◌, List, [], ◌∷◌, Option, Some, None, Result, Ok, Err, refl, subst, inl, inr}
 use Rattle.dynamo_value.specs.Fault.{Fault, message, out_of_memory}
 use Rattle.dynamo_ser.specs.Datum.{Datum}
-use Rattle.dynamo_de.specs.Access.{NextElement, NextValue}
 use Rattle.dynamo_de.specs.Answer as answer
 use Rattle.dynamo_de.specs.Answer.{value_or}
-use Rattle.dynamo_value.specs.Steps.{◌>>=◌}
-use Rattle.dynamo_de.specs.Source.{Source, Entry}
+use Rattle.dynamo_de.specs.Shows.{TakesElement}
+use Rattle.dynamo_de.specs.Source.{Source}
 use Rattle.dynamo_shape.specs.Conforms.{conforms}
 use Rattle.dynamo_shape.specs.Laws.{ReadsByShape}
-use Rattle.dynamo_shape.specs.Read.{read, missing}
+use Rattle.dynamo_shape.specs.Read.{missing}
 use Rattle.dynamo_shape.specs.Same.{Same}
 use Rattle.dynamo_shape.specs.Shape.{Shape}
 use Rattle.dynamo_shape.proofs.Alike.{same_refl}
-use Rattle.dynamo_shape.proofs.Answered.{stops}
 use Rattle.dynamo_shape.proofs.FieldsByName.{Slots, first_slot, other_slots}
-use Rattle.dynamo_record.specs.Fields.{SameData, Defaults, complete, missed_name, read_fields}
-use Rattle.dynamo_record.specs.Listed.{Shapes, Data, AlikeFront, MakesOrFails, Completes, IsRead, HoldsField, Fills}
+use Rattle.dynamo_record.specs.Fields.{Defaults, complete, missed_name, read_fields}
+use Rattle.dynamo_record.specs.Listed.{Shapes, Data, AlikeFront, Makes, Completes, IsRead, HoldsField}
 use Rattle.dynamo_record.specs.Names.{Names, first_name, other_names, missing_text}
-use Rattle.dynamo_record.proofs.Answering.{after_read, after_more, after_err, value_taken, value_refused}
 
 -- a datum in front of what follows
 abbrev pub front_of : Datum → Data → Data
@@ -68,43 +65,9 @@ module _ {T : Type 0} (s : Shape) (tells : T → Datum) where
 
   -- ---- the field in order
 
-  module _ {E : Type 0} (fault : E → Fault) (reads : Source → Result T Fault → Type 0) (by_shape : ReadsByShape s tells reads) (ss : Shapes) (left new : List Source) where
-    abbrev Listed : List Source → Result (Option T) E → Type 0
-    Listed xs r = MakesOrFails fault shapes told (read_fields (s ∷ ss) xs) (read_fields ss new) r
-
-    pub element_read : (v : T) → NextElement fault reads left new (Ok (Some v)) → Listed left (Ok (Some v))
-    element_read v h = along left h
-      where
-        along : (xs : List Source) → NextElement fault reads xs new (Ok (Some v)) → Listed xs (Ok (Some v))
-        along [] h = cc
-        along (x ∷ xs) h = let a = by_shape x (Ok v) h.1 in (front_of a.0, rw (a.1, h.0) refl, alike v a.0 a.2)
-
-    pub element_lacks : NextElement fault reads left new (Ok None) → Listed left (Ok None)
-    element_lacks h = along left h
-      where
-        along : (xs : List Source) → NextElement fault reads xs new (Ok None) → Listed xs (Ok None)
-        along [] h = refl
-        along (x ∷ xs) h = absurd h.1
-
-    pub element_fails : (e : E) → NextElement fault reads left new (Err e) → Listed left (Err e)
-    element_fails e h = along left h
-      where
-        along : (xs : List Source) → NextElement fault reads xs new (Err e) → Listed xs (Err e)
-        along [] h = cc
-        along (x ∷ xs) h = elim h.1 [ inl lacks ↦ inl lacks | inr failed ↦ inr (stops Same SameData (read s x) (λ d. read_fields ss xs >>= λ ds. answer.value (d ∷ ds)) (fault e) (by_shape x (Err (fault e)) failed)) ]
-
--- ---- the field's value
-
-module _ {T E : Type 0} (fault : E → Fault) (s : Shape) (tells : T → Datum) (reads : Source → Result T Fault → Type 0) (by_shape : ReadsByShape s tells reads) (ss : Shapes) (os more : Slots) (l l2 : List Entry) (p p2 : Option Source) (x : Option T) where
-  abbrev Filled : Option T → ℕ → Source → Result (Unit {0}) Fault → Type 0
-  Filled new i = Fills (HoldsField s tells) (s ∷ ss) i os more new
-
-  pub value_read : (v : T) → HoldsField s tells x os more → NextValue fault reads l p l2 p2 (Ok v) → NextValue fault (Filled (Some v) 0) l p l2 p2 (Ok tt)
-  value_read v h a =
-      value_taken fault reads (Filled (Some v) 0) l l2 p p2 v tt
-      (λ source k. after_more (read s source) (λ d v. conforms s (tells v) → Same d (tells v)) (λ d _. HoldsField s tells (Some v) (Some d ∷ other_slots os) more) v tt (λ d same. (same, h.1)) (after_read (conforms s) tells (read s source) (Ok v) (by_shape source (Ok v) k))) a
-
-  pub value_fails : (new : Option T) (e : E) → NextValue fault reads l p l2 p2 (Err e) → NextValue fault (Filled new 0) l p l2 p2 (Err e)
-  value_fails new e a =
-      value_refused fault reads (Filled new 0) l l2 p p2 e
-      (λ source f k. after_err (read s source) (λ d v. conforms s (tells v) → Same d (tells v)) (λ d _. HoldsField s tells new (Some d ∷ other_slots os) more) f (after_read (conforms s) tells (read s source) (Err f) (by_shape source (Err f) k))) a
+  pub element_read : {D : Type 0} (source : D → Source) (reads : Source → Result T Fault → Type 0) (by_shape : ReadsByShape s tells reads) (ss : Shapes) (left new : List Source) (d : D) (v : T) → TakesElement source left new (Some d)
+      → reads (source d) (Ok v) → Makes shapes told (read_fields (s ∷ ss) left) (read_fields ss new) (Some v)
+  element_read source reads by_shape ss [] new d v taken h = cc
+  element_read source reads by_shape ss (x ∷ xs) new d v taken h =
+      let a = by_shape x (Ok v) (subst (λ s. reads s (Ok v)) taken.1 h) in
+      (front_of a.0, rw (a.1, taken.0) refl, alike v a.0 a.2)

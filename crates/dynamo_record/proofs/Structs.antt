@@ -1,22 +1,22 @@
 -- A described struct, entry by entry.
-use Rattle.std.proofs.Common.{◌≡◌, ℕ, List, [], Option, Some, None, Result, Ok, Err, length, ◌<◌, sym, subst, inl, inr}
-use Rattle.dynamo_value.specs.Fault.{Fault, out_of_memory}
+use Rattle.std.proofs.Common.{◌≡◌, List, [], Option, Some, None, Result, Ok, Err, sym, subst, inl, inr}
+use Rattle.dynamo_value.specs.Fault.{Fault}
 use Rattle.dynamo_ser.specs.Datum as datum
-use Rattle.dynamo_de.specs.Access.{NextKey, NextValue}
 use Rattle.dynamo_de.specs.Answer as answer
 use Rattle.dynamo_de.specs.Answer.{Answer, After}
 use Rattle.dynamo_de.specs.Visitors.{by_name, in_order}
-use Rattle.dynamo_de.specs.Fields.{NamesOne}
 use Rattle.dynamo_de.specs.Meets.{Meets, IsMessage}
+use Rattle.dynamo_de.specs.Shows.{TakesEntry}
 use Rattle.dynamo_de.specs.Source.{Source, Entry, Text}
 use Rattle.dynamo_shape.specs.Read.{into}
 use Rattle.dynamo_shape.proofs.FieldsByName.{Slots}
-use Rattle.dynamo_record.specs.Entries.{FillsAt, finish, StructSoFar}
+use Rattle.dynamo_record.specs.Entries.{IsEntry, Enters, finish, StructSoFar}
 use Rattle.dynamo_record.specs.Fields.{unread, complete, read_fields}
 use Rattle.dynamo_record.specs.Listed.{Data, Holds, Completes, MakesOrFails}
-use Rattle.dynamo_record.specs.Names.{place_of, missing_text}
+use Rattle.dynamo_record.specs.Names.{Names, place_of, missing_text}
 use Rattle.dynamo_record.specs.Records.{AboutRecord, AreNamed, record_fields, FromParts, RecordAnswers, IsAlike, place_in}
-use Rattle.dynamo_record.proofs.Described.{names_differ, place_named, empty_unread, close_complete, in_order_listed, answer_of, struct_made, struct_missed, struct_fails, after_struct, by_entries}
+use Rattle.dynamo_record.proofs.Described.{names_differ, empty_unread, close_complete, in_order_listed, answer_of, struct_made, struct_missed, struct_fails, after_struct, by_entries}
+use Rattle.dynamo_record.proofs.Described as described
 use Rattle.dynamo_record.proofs.Entries as entries
 
 module _ {V L : Type 0} (a : AboutRecord V L) where
@@ -44,46 +44,36 @@ module _ {V L : Type 0} (a : AboutRecord V L) where
 
   -- ---- by entries
 
-  module _ {X E : Type 0} (named : AreNamed a) (holds : Holds X) (fault : E → Fault) (es : List Entry) where
+  -- the place of a name among the names is that of its field
+  pub place_named : AreNamed a → (names : Names) (key name : Text) → names ≡ a.names → key ≡ name → place_of 0 names key ≡ place_in 0 (record_fields a) name
+  place_named named names key name same is = rw (same, is) (sym (described.place_named 0 a.names (a.list.shapes []) (a.list.defaults []) name named.1))
+
+  module _ {X : Type 0} (named : AreNamed a) (holds : Holds X) (es : List Entry) where
     abbrev front : X → Slots → Type 0
     front x os = holds x os []
-
-    places : place_of 0 a.names ≡ place_in 0 (record_fields a)
-    places i t = sym (place_named 0 a.names (a.list.shapes []) (a.list.defaults []) t named.1) i
-
-    by_place : (l l2 : List Entry) (p p2 : Option Source) (r : Result (Option ℕ) E) → NextKey fault (NamesOne (place_of 0 a.names)) l p l2 p2 r → NextKey fault (NamesOne (place_in 0 (record_fields a))) l p l2 p2 r
-    by_place l l2 p p2 r k = subst (λ f. NextKey fault (NamesOne f) l p l2 p2 r) places k
 
     whole : (r : Result V Fault) → After (entries.answered (datum.struct a.name) (record_fields a) es) (IsAlike a) r → FromParts a (by_name es) r
     whole r h = by_entries a (names_differ a.names (a.list.shapes []) (a.list.defaults []) named.0 named.1) es r h
 
     pub starts : (x : X) → holds x (unread (a.list.shapes [])) [] → StructSoFar a holds x es es
-    starts x h = entries.starts fault (datum.struct a.name) (record_fields a) (IsAlike a) front es x (subst (front x) (sym (empty_unread a.names (a.list.shapes []) (a.list.defaults []))) h)
+    starts x h = entries.starts (datum.struct a.name) (record_fields a) (IsAlike a) front es x (subst (front x) (sym (empty_unread a.names (a.list.shapes []) (a.list.defaults []))) h)
 
-    module _ (l l2 : List Entry) (p p2 : Option Source) (x : X) (so_far : StructSoFar a holds x l es) where
-      abbrev Key : Option ℕ → Type 0
-      Key o = NextKey fault (NamesOne (place_of 0 a.names)) l p l2 p2 (Ok o)
-
-      module _ (i : ℕ) (y : X) (l3 : List Entry) (p3 : Option Source) (key : Key (Some i)) where
+    module _ {D E : Type 0} (source : D → Source) (fault : E → Fault) (l new : List Entry) (x : X) (so_far : StructSoFar a holds x l es) where
+      -- the next entry
+      module _ (d : D × D) (taken : TakesEntry source l new (Some d)) (y : X) where
         abbrev Reads : Result (Unit {0}) E → Type 0
-        Reads r = (os : Slots) → holds x os [] → NextValue fault (FillsAt front i (record_fields a) os y) l2 p2 l3 p3 r
+        Reads r = (e : Entry) (os : Slots) → IsEntry source d e → holds x os [] → Meets fault (Enters front (record_fields a) os y e) r
 
-        pub reads_entry : Reads (Ok tt) → StructSoFar a holds y l3 es
-        reads_entry h = entries.reads_entry fault (datum.struct a.name) (record_fields a) (IsAlike a) front es l l2 p p2 x i y l3 p3 so_far (by_place l l2 p p2 (Ok (Some i)) key) h
-
-        pub entry_gone : Reads (Ok tt) → length l3 < length l
-        entry_gone h = entries.entry_gone fault (datum.struct a.name) (record_fields a) (IsAlike a) front es l l2 p p2 x i y l3 p3 so_far (by_place l l2 p p2 (Ok (Some i)) key) h
+        pub entry_read : Reads (Ok tt) → StructSoFar a holds y new es
+        entry_read h = entries.entry_read (datum.struct a.name) (record_fields a) (IsAlike a) front es source l new x so_far fault d taken y h
 
         pub entry_fails : (e : E) → Reads (Err e) → Meets {V = V} fault (FromParts a (by_name es)) (Err e)
-        entry_fails e h = elim (entries.entry_fails fault (datum.struct a.name) (record_fields a) (IsAlike a) front es l l2 p p2 x i y l3 p3 e so_far (by_place l l2 p p2 (Ok (Some i)) key) h) [ inl lacks ↦ inl lacks | inr failed ↦ inr (whole (Err (fault e)) failed) ]
-
-      pub key_lacks : (e : E) → NextKey {V = ℕ} fault (NamesOne (place_of 0 a.names)) l p l2 p2 (Err e) → fault e ≡ out_of_memory
-      key_lacks e k = entries.key_lacks fault (datum.struct a.name) (record_fields a) (IsAlike a) front es l l2 p p2 x e (by_place l l2 p p2 (Err e) k)
+        entry_fails e h = elim (entries.entry_fails (datum.struct a.name) (record_fields a) (IsAlike a) front es source l new x so_far fault d taken y e h) [ inl lacks ↦ inl lacks | inr failed ↦ inr (whole (Err (fault e)) failed) ]
 
       -- after the last entry
-      module _ (key : Key None) where
+      module _ (taken : TakesEntry source l new None) where
         last : (os : Slots) × front x os × ((r : Result V Fault) → After (finish (datum.struct a.name) (record_fields a) os) (IsAlike a) r → After (entries.answered (datum.struct a.name) (record_fields a) es) (IsAlike a) r)
-        last = entries.ends fault (datum.struct a.name) (record_fields a) (IsAlike a) front es l l2 p p2 x so_far (by_place l l2 p p2 (Ok None) key)
+        last = entries.ends (datum.struct a.name) (record_fields a) (IsAlike a) front es source l new x so_far taken
 
         closed : (r : Result V Fault) → RecordAnswers a (answer_of a (complete (a.list.shapes []) (a.list.defaults []) last.0)) r → FromParts a (by_name es) r
         closed r h =

@@ -1,5 +1,5 @@
 -- The entries of a map, read one after another as the fields of a struct.
-use Rattle.std.specs.Prelude.{ℕ, suc, List, [], Result}
+use Rattle.std.specs.Prelude.{◌≡◌, ℕ, suc, List, [], Result}
 use Rattle.std.proofs.Common.{zero}
 use Rattle.dynamo_value.specs.Av.{Av}
 use Rattle.dynamo_value.specs.Fault.{Fault}
@@ -8,7 +8,7 @@ use Rattle.dynamo_ser.specs.Datum.{Datum, Fields}
 use Rattle.dynamo_de.specs.Answer.{Answer, After}
 use Rattle.dynamo_de.specs.Fields.{read_fields, LeadsTo}
 use Rattle.dynamo_de.specs.Ignored.{read_ignored}
-use Rattle.dynamo_de.specs.Source.{Source, Entry, attribute}
+use Rattle.dynamo_de.specs.Source.{Source, Entry, attribute, key_text}
 use Rattle.dynamo_shape.specs.Read.{read, into}
 use Rattle.dynamo_shape.specs.Shape.{FieldShapes, no_field_shapes, field_shape}
 use Rattle.dynamo_shape.proofs.FieldsByName.{Slots, behind, fill, empty, close}
@@ -42,6 +42,14 @@ abbrev pub FillsAt : {X : Type 0} → (X → Slots → Type 0) → ℕ → Field
 FillsAt holds i fs os new source r = After (read_at i fs source) (λ d. IfRead (λ _. holds new (fill_at i fs d os))) r
 
 -- ---- entry by entry
+
+-- the readers of an entry's key and of its value
+abbrev pub IsEntry : {D : Type 0} → (D → Source) → D × D → Entry → Type 0
+IsEntry source d e = (source d.0 ≡ key_text e.0) × (source d.1 ≡ attribute e.1)
+
+-- The entry is read as the field of its name, which is then held; under any other name it is ignored.
+abbrev pub Enters : {X : Type 0} → (X → Slots → Type 0) → FieldShapes → Slots → X → Entry → Result (Unit {0}) Fault → Type 0
+Enters holds fs os new e r = FillsAt holds (place_in 0 fs e.0) fs os new (attribute e.1) r
 
 abbrev pub entry_at : FieldShapes → ℕ → Slots → Av → Answer Slots
 entry_at fs i os a = into (λ d. fill_at i fs d os) (read_at i fs (attribute a))

@@ -12,7 +12,7 @@ ghost use Rattle.dynamo_record.specs.Names.{too_few_text};
 ghost use Rattle.dynamo_record.specs.Variants.{about_content};
 
 use crate::{FieldList, FieldType, VariantList};
-use dynamo_de::{Error, Reader, ReaderSeqAccess, Request, SeqAccess, VariantAccess, elements_of};
+use dynamo_de::{Error, Reader, Request, VariantAccess, elements_of};
 use std::alloc::Global;
 
 /// The content of a unit variant.
@@ -91,14 +91,14 @@ pub(crate) fn too_few<E: Error>(alloc: Global, expecting: &str) -> E
 }
 
 /// Reads the fields one after another.
-pub(crate) fn read_elements<L: FieldList + Drop, A: SeqAccess>(
-    mut seq: A,
+fn read_elements<L: FieldList + Drop, R: Reader>(
+    mut elements: R::Elements,
     alloc: Global,
     expecting: &str,
-) -> Result<L, A::Error>
-    ensures { Meets A.Error.fault (ReadsInOrder L.about (A.left seq)) result }
+) -> Result<L, R::Error>
+    ensures { Meets R.Error.fault (ReadsInOrder L.about (R.elements elements)) result }
 {
-    match L::read_in_order(&mut seq, alloc) {
+    match L::read_in_order::<R>(&mut elements, alloc) {
         Ok(Some(fields)) => Ok(fields),
         Ok(None) => Err(too_few(alloc, expecting)),
         Err(error) => Err(error),
@@ -115,7 +115,7 @@ pub(crate) fn read_fields<L: FieldList + Drop, R: Reader>(
     ensures { Meets R.Error.fault (After (taken_from claims_seq take_elements request (R.source reader)) (ReadsInOrder L.about)) result }
 {
     let elements = elements_of(alloc, request, reader, expecting)?;
-    read_elements(ReaderSeqAccess::<R>::new(elements), alloc, expecting)
+    read_elements::<L, R>(elements, alloc, expecting)
 }
 
 /// Reads the fields of a tuple variant.

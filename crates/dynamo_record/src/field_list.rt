@@ -1,6 +1,6 @@
 ghost use Rattle.std.specs.Prelude.{◌≡◌, ◌⊎◌, ◌<◌, ◌≤◌, ◌+◌, ◌^◌, map};
 ghost use Rattle.dynamo_value.specs.Fault.{message, out_of_memory};
-ghost use Rattle.dynamo_de.specs.Access.{NextValue};
+ghost use Rattle.dynamo_de.specs.Meets.{Meets};
 ghost use Rattle.dynamo_shape.proofs.FieldsByName.{Slots};
 ghost use Rattle.dynamo_record.specs.Fields.{Defaults, unread, complete, missed_name, read_fields};
 ghost use Rattle.dynamo_record.specs.Listed.{AboutList, about_field, about_both, Shapes, Holds, HoldsField, HoldsBoth, HoldsBehind, ReadBehind, Counts, Fills, Completes, MakesOrFails};
@@ -9,7 +9,7 @@ ghost use Rattle.dynamo_record.specs.Names.{missing_text};
 
 use crate::names::first_of;
 use crate::{Field, FieldType};
-use dynamo_de::{Error, MapAccess, SeqAccess};
+use dynamo_de::{Deserialize, Error, Reader};
 use std::alloc::Global;
 
 /// The fields of a struct, a tuple struct or a variant, by their types: one [`Field`], or a pair of lists.
@@ -35,14 +35,14 @@ pub trait FieldList: Sized {
     fn unread() -> Self::Slots
         ensures { (ss : Shapes) → holds result (unread (about.shapes ss)) (unread ss) };
 
-    /// Reads the value that is pending as the field of this number.
-    fn read_value<A: MapAccess>(
+    /// Reads a value as the field of this number.
+    fn read_value<D: Reader>(
         slots: &mut Self::Slots,
         place: usize,
-        map: &mut A,
+        value: D,
         alloc: Global,
-    ) -> Result<(), A::Error>
-        ensures { place < about.count → place + 1 < 2 ^ 64 → (ss : Shapes) (os more : Slots) → holds slots.old os more → NextValue A.Error.fault (Fills holds (about.shapes ss) place os more slots.new) (A.left map.old) (A.pending map.old) (A.left map.new) (A.pending map.new) result };
+    ) -> Result<(), D::Error>
+        ensures { place < about.count → place + 1 < 2 ^ 64 → (ss : Shapes) (os more : Slots) → holds slots.old os more → Meets D.Error.fault (Fills holds (about.shapes ss) place os more slots.new (D.source value)) result };
 
     /// The fields, where none is missed, and the names behind theirs, with which these names begin.
     ///
@@ -57,8 +57,11 @@ pub trait FieldList: Sized {
         ensures { (ss : Shapes) (gs : Defaults) (os more : Slots) → holds slots os more → Completes E.fault about.shapes about.told (complete (about.shapes ss) (about.defaults gs) os) (complete ss gs more) (missed_name (map (λ n. n.now) names.now) (about.shapes ss) (about.defaults gs) os) (λ others. missed_name (map (λ n. n.now) others.now) ss gs more) result };
 
     /// Reads the fields in order; none where the elements end before.
-    fn read_in_order<A: SeqAccess>(seq: &mut A, alloc: Global) -> Result<Option<Self>, A::Error>
-        ensures { (ss : Shapes) → MakesOrFails A.Error.fault about.shapes about.told (read_fields (about.shapes ss) (A.left seq.old)) (read_fields ss (A.left seq.new)) result };
+    fn read_in_order<D: Reader>(
+        elements: &mut D::Elements,
+        alloc: Global,
+    ) -> Result<Option<Self>, D::Error>
+        ensures { (ss : Shapes) → MakesOrFails D.Error.fault about.shapes about.told (read_fields (about.shapes ss) (D.elements elements.old)) (read_fields ss (D.elements elements.new)) result };
 
     /// Lets go of what was read.
     fn discard_slots(slots: Self::Slots);
@@ -107,14 +110,14 @@ impl<F: FieldType> FieldList for Field<F> {
         None
     }
 
-    fn read_value<A: MapAccess>(
+    fn read_value<D: Reader>(
         slots: &mut Option<F::Value>,
         _place: usize,
-        map: &mut A,
+        value: D,
         alloc: Global,
-    ) -> Result<(), A::Error> {
-        let value = map.next_value::<F::Value>(alloc)?;
-        *slots = Some(value);
+    ) -> Result<(), D::Error> {
+        let read = F::Value::deserialize(alloc, value)?;
+        *slots = Some(read);
         Ok(())
     }
 
@@ -134,14 +137,13 @@ impl<F: FieldType> FieldList for Field<F> {
         }
     }
 
-    fn read_in_order<A: SeqAccess>(
-        seq: &mut A,
+    fn read_in_order<D: Reader>(
+        elements: &mut D::Elements,
         alloc: Global,
-    ) -> Result<Option<Field<F>>, A::Error> {
-        match seq.next_element::<F::Value>(alloc) {
-            Ok(Some(value)) => Ok(Some(Field(value))),
-            Ok(None) => Ok(None),
-            Err(error) => Err(error),
+    ) -> Result<Option<Field<F>>, D::Error> {
+        match D::next_element(elements) {
+            None => Ok(None),
+            Some(element) => Ok(Some(Field(F::Value::deserialize(alloc, element)?))),
         }
     }
 
@@ -176,17 +178,17 @@ impl<L: FieldList, R: FieldList> FieldList for (L, R) {
         (L::unread(), R::unread())
     }
 
-    fn read_value<A: MapAccess>(
+    fn read_value<D: Reader>(
         slots: &mut (L::Slots, R::Slots),
         place: usize,
-        map: &mut A,
+        value: D,
         alloc: Global,
-    ) -> Result<(), A::Error> {
+    ) -> Result<(), D::Error> {
         let first = L::count();
         if place < first {
-            L::read_value(&mut slots.0, place, map, alloc)
+            L::read_value(&mut slots.0, place, value, alloc)
         } else {
-            R::read_value(&mut slots.1, place - first, map, alloc)
+            R::read_value(&mut slots.1, place - first, value, alloc)
         }
     }
 
@@ -217,9 +219,12 @@ impl<L: FieldList, R: FieldList> FieldList for (L, R) {
         }
     }
 
-    fn read_in_order<A: SeqAccess>(seq: &mut A, alloc: Global) -> Result<Option<(L, R)>, A::Error> {
-        match L::read_in_order(seq, alloc) {
-            Ok(Some(left)) => match R::read_in_order(seq, alloc) {
+    fn read_in_order<D: Reader>(
+        elements: &mut D::Elements,
+        alloc: Global,
+    ) -> Result<Option<(L, R)>, D::Error> {
+        match L::read_in_order::<D>(elements, alloc) {
+            Ok(Some(left)) => match R::read_in_order::<D>(elements, alloc) {
                 Ok(Some(right)) => Ok(Some((left, right))),
                 Ok(None) => {
                     left.discard();

@@ -5,7 +5,7 @@ ghost use Rattle.dynamo_record.specs.Flat.{about_four, about_eight};
 ghost use Rattle.dynamo_record.specs.Listed.{HoldsBoth, Shapes};
 
 use crate::FieldList;
-use dynamo_de::{Error, MapAccess, SeqAccess};
+use dynamo_de::{Error, Reader};
 use std::alloc::Global;
 
 impl<A: FieldList, B: FieldList, C: FieldList, D: FieldList> FieldList for (A, B, C, D) {
@@ -29,13 +29,13 @@ impl<A: FieldList, B: FieldList, C: FieldList, D: FieldList> FieldList for (A, B
         <((A, B), (C, D)) as FieldList>::unread()
     }
 
-    fn read_value<M: MapAccess>(
+    fn read_value<X: Reader>(
         slots: &mut ((A::Slots, B::Slots), (C::Slots, D::Slots)),
         place: usize,
-        map: &mut M,
+        value: X,
         alloc: Global,
-    ) -> Result<(), M::Error> {
-        <((A, B), (C, D)) as FieldList>::read_value(slots, place, map, alloc)
+    ) -> Result<(), X::Error> {
+        <((A, B), (C, D)) as FieldList>::read_value(slots, place, value, alloc)
     }
 
     fn complete<X: Error>(
@@ -52,11 +52,11 @@ impl<A: FieldList, B: FieldList, C: FieldList, D: FieldList> FieldList for (A, B
         }
     }
 
-    fn read_in_order<Q: SeqAccess>(
-        seq: &mut Q,
+    fn read_in_order<X: Reader>(
+        elements: &mut X::Elements,
         alloc: Global,
-    ) -> Result<Option<(A, B, C, D)>, Q::Error> {
-        match <((A, B), (C, D)) as FieldList>::read_in_order(seq, alloc) {
+    ) -> Result<Option<(A, B, C, D)>, X::Error> {
+        match <((A, B), (C, D)) as FieldList>::read_in_order::<X>(elements, alloc) {
             Ok(Some(halves)) => {
                 let ((a, b), (c, d)) = halves;
                 Ok(Some((a, b, c, d)))
@@ -112,16 +112,16 @@ impl<
         <((A, B, C, D), (E, F, G, H)) as FieldList>::unread()
     }
 
-    fn read_value<M: MapAccess>(
+    fn read_value<X: Reader>(
         slots: &mut (
             ((A::Slots, B::Slots), (C::Slots, D::Slots)),
             ((E::Slots, F::Slots), (G::Slots, H::Slots)),
         ),
         place: usize,
-        map: &mut M,
+        value: X,
         alloc: Global,
-    ) -> Result<(), M::Error> {
-        <((A, B, C, D), (E, F, G, H)) as FieldList>::read_value(slots, place, map, alloc)
+    ) -> Result<(), X::Error> {
+        <((A, B, C, D), (E, F, G, H)) as FieldList>::read_value(slots, place, value, alloc)
     }
 
     fn complete<X: Error>(
@@ -141,11 +141,11 @@ impl<
         }
     }
 
-    fn read_in_order<Q: SeqAccess>(
-        seq: &mut Q,
+    fn read_in_order<X: Reader>(
+        elements: &mut X::Elements,
         alloc: Global,
-    ) -> Result<Option<(A, B, C, D, E, F, G, H)>, Q::Error> {
-        match <((A, B, C, D), (E, F, G, H)) as FieldList>::read_in_order(seq, alloc) {
+    ) -> Result<Option<(A, B, C, D, E, F, G, H)>, X::Error> {
+        match <((A, B, C, D), (E, F, G, H)) as FieldList>::read_in_order::<X>(elements, alloc) {
             Ok(Some(halves)) => {
                 let ((a, b, c, d), (e, f, g, h)) = halves;
                 Ok(Some((a, b, c, d, e, f, g, h)))

@@ -1,30 +1,27 @@
 ghost use Rattle.std.specs.Prelude.{◌≡◌, ◌++◌, codes, map, []};
 ghost use Rattle.dynamo_ser.specs.Datum as datum;
 ghost use Rattle.dynamo_ser.specs.Writes.{Writes};
-ghost use Rattle.dynamo_de.specs.Access.{NextValue};
 ghost use Rattle.dynamo_de.specs.Answer.{After};
-ghost use Rattle.dynamo_de.specs.Fields.{NamesOne};
 ghost use Rattle.dynamo_de.specs.Meets.{Meets};
 ghost use Rattle.dynamo_de.specs.Reading as reading;
+ghost use Rattle.dynamo_de.specs.Source.{Entry};
 ghost use Rattle.dynamo_de.specs.Visitors.{by_name, in_order};
 ghost use Rattle.dynamo_shape.specs.Conforms.{conforms};
 ghost use Rattle.dynamo_shape.specs.Shape.{struct};
 ghost use Rattle.dynamo_shape.proofs.FieldsByName.{Slots};
-ghost use Rattle.dynamo_record.specs.Entries.{FillsAt};
+ghost use Rattle.dynamo_record.specs.Entries.{IsEntry, Enters};
 ghost use Rattle.dynamo_record.specs.Fields.{field_shapes, named_fields};
-ghost use Rattle.dynamo_record.specs.Names.{place_of};
 ghost use Rattle.dynamo_record.specs.Records.{AboutRecord, listed, record_fields, record_reads, FromParts, AreNamed, AsLong};
 
 use crate::content::too_few;
 use crate::names::place_of;
 use crate::{FieldList, RefList};
 use dynamo_de::{
-    DeserializeSeed, Deserializer, IgnoredAny, MapAccess, Reader, ReaderMapAccess, ReaderSeqAccess,
-    Request, SeqAccess, Showing, entries_of, identifier_of, invalid_type,
+    Deserialize, Deserializer, IgnoredAny, Reader, Request, Showing, entries_of, identifier_of,
+    invalid_type,
 };
 use dynamo_ser::{SerializeStruct, Serializer};
 use std::alloc::Global;
-use std::marker::PhantomData;
 
 /// A struct, described by the list of its fields.
 pub trait Record: Sized + Drop {
@@ -55,85 +52,59 @@ pub trait Record: Sized + Drop {
     ghost named: { AreNamed about };
 }
 
-/// The place of the field that a key names.
-#[derive(Drop)]
-struct PlaceSeed<R> {
-    alloc: Global,
-    of: PhantomData<R>,
-}
-
-impl<R: Record> DeserializeSeed for PlaceSeed<R> {
-    type Value = usize;
-
-    ghost reads = { λ _. NamesOne (place_of 0 R.about.names) };
-
-    fn deserialize<D: Deserializer>(self, deserializer: D) -> Result<usize, D::Error> {
-        let name = identifier_of(self.alloc, deserializer, "field identifier")?;
-        Ok(place_of(R::names(), name.as_str()))
-    }
-}
-
-/// Reads the value that is pending as the field at this place; behind the last it is ignored.
-fn read_entry<R: Record, A: MapAccess>(
+/// Reads an entry as the field that its key names; under any other key its value is ignored.
+fn read_entry<R: Record, D: Reader>(
     slots: &mut <R::Fields as FieldList>::Slots,
-    place: usize,
-    map: &mut A,
+    key: D,
+    value: D,
     alloc: Global,
-) -> Result<(), A::Error>
+) -> Result<(), D::Error>
 where
     R::Fields: FieldList,
     requires { AreNamed (listed R.about R.Fields.about) }
-    ensures { (os : Slots) → R.Fields.holds slots.old os [] → NextValue A.Error.fault (FillsAt (λ x os. R.Fields.holds x os []) place (record_fields (listed R.about R.Fields.about)) os slots.new) (A.left map.old) (A.pending map.old) (A.left map.new) (A.pending map.new) result }
+    ensures { (e : Entry) (os : Slots) → IsEntry D.source (key, value) e → R.Fields.holds slots.old os [] → Meets D.Error.fault (Enters (λ x os. R.Fields.holds x os []) (record_fields (listed R.about R.Fields.about)) os slots.new e) result }
 {
-    if place < R::names().len() {
-        <R::Fields as FieldList>::read_value(slots, place, map, alloc)
+    let name = identifier_of(alloc, key, "field identifier")?;
+    let names = R::names();
+    let place = place_of(names, name.as_str());
+    if place < names.len() {
+        <R::Fields as FieldList>::read_value(slots, place, value, alloc)
     } else {
-        map.next_value::<IgnoredAny>(alloc)?;
+        IgnoredAny::deserialize(alloc, value)?;
         Ok(())
     }
 }
 
 /// Reads the entries of a map as the fields of a struct.
-fn read_entries<R: Record, A: MapAccess>(alloc: Global, mut map: A) -> Result<R, A::Error>
+fn read_entries<R: Record, D: Reader>(alloc: Global, mut entries: D::Entries) -> Result<R, D::Error>
 where
     R::Fields: FieldList,
     requires { AreNamed (listed R.about R.Fields.about) }
-    ensures { Meets A.Error.fault (FromParts (listed R.about R.Fields.about) (by_name (A.left map))) result }
+    ensures { Meets D.Error.fault (FromParts (listed R.about R.Fields.about) (by_name (D.entries entries))) result }
 {
     let mut slots = <R::Fields as FieldList>::unread();
-    loop {
-        let seed = PlaceSeed::<R> {
-            alloc,
-            of: PhantomData,
-        };
-        let next = match map.next_key_seed(seed) {
-            Ok(next) => next,
-            Err(error) => {
-                <R::Fields as FieldList>::discard_slots(slots);
-                return Err(error);
-            }
-        };
-        let Some(place) = next else {
-            break;
-        };
-        if let Err(error) = read_entry::<R, A>(&mut slots, place, &mut map, alloc) {
+    while let Some((key, value)) = D::next_entry(&mut entries) {
+        if let Err(error) = read_entry::<R, D>(&mut slots, key, value, alloc) {
             <R::Fields as FieldList>::discard_slots(slots);
             return Err(error);
         }
     }
-    match <R::Fields as FieldList>::complete::<A::Error>(slots, R::names(), alloc) {
+    match <R::Fields as FieldList>::complete::<D::Error>(slots, R::names(), alloc) {
         Ok(completed) => Ok(R::make(completed.0)),
         Err(error) => Err(error),
     }
 }
 
 /// Reads the elements of a sequence as the fields of a struct, in order.
-fn read_in_order<R: Record, A: SeqAccess>(alloc: Global, mut seq: A) -> Result<R, A::Error>
+fn read_in_order<R: Record, D: Reader>(
+    alloc: Global,
+    mut elements: D::Elements,
+) -> Result<R, D::Error>
 where
     R::Fields: FieldList,
-    ensures { Meets A.Error.fault (FromParts (listed R.about R.Fields.about) (in_order (A.left seq))) result }
+    ensures { Meets D.Error.fault (FromParts (listed R.about R.Fields.about) (in_order (D.elements elements))) result }
 {
-    match <R::Fields as FieldList>::read_in_order(&mut seq, alloc)? {
+    match <R::Fields as FieldList>::read_in_order::<D>(&mut elements, alloc)? {
         Some(fields) => Ok(R::make(fields)),
         None => Err(too_few(alloc, R::expecting())),
     }
@@ -147,7 +118,7 @@ where
     ensures { Meets D.Error.fault (After (reading.read_entries (D.source reader)) (λ es. FromParts (listed R.about R.Fields.about) (by_name es))) result }
 {
     let entries = entries_of(alloc, reader, R::expecting())?;
-    read_entries::<R, ReaderMapAccess<D>>(alloc, ReaderMapAccess::new(entries))
+    read_entries::<R, D>(alloc, entries)
 }
 
 /// Reads a struct by the names of its fields from a map, or in order from a sequence.
@@ -158,12 +129,8 @@ where
     ensures { Meets D.Error.fault (After (reading.read_parts (D.source reader)) (FromParts (listed R.about R.Fields.about))) result }
 {
     match reader.show(Request::Struct)? {
-        Showing::Map(entries) => {
-            read_entries::<R, ReaderMapAccess<D>>(alloc, ReaderMapAccess::new(entries))
-        }
-        Showing::Sequence(elements) => {
-            read_in_order::<R, ReaderSeqAccess<D>>(alloc, ReaderSeqAccess::new(elements))
-        }
+        Showing::Map(entries) => read_entries::<R, D>(alloc, entries),
+        Showing::Sequence(elements) => read_in_order::<R, D>(alloc, elements),
         other => Err(invalid_type(alloc, other.kind(), R::expecting())),
     }
 }

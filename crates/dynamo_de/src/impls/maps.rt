@@ -7,9 +7,8 @@ ghost use Rattle.dynamo_de.specs.Meets.{Meets};
 ghost use Rattle.dynamo_de.specs.Reading as reading;
 ghost use Rattle.dynamo_de.specs.Reads.{ReadsMap};
 
-use crate::reader_access::ReaderMapAccess;
 use crate::taken::entries_of;
-use crate::{Deserialize, Deserializer, Error, MapAccess, Reader};
+use crate::{Deserialize, Deserializer, Error, Reader};
 use std::alloc::{AllocError, Global};
 use std::collections::{BTreeMap, HashMap};
 use std::hash::Hash;
@@ -60,18 +59,19 @@ impl<K: Ord + Drop, V: Drop> FromEntries<K, V> for BTreeMap<K, V> {
 }
 
 // The map of entries, each read as it comes. Of equal keys the last value stays.
-#[tactic(auto, using(crate::proofs::Pairs::map_starts, crate::proofs::Pairs::map_more, crate::proofs::Pairs::map_ends, crate::proofs::Pairs::map_key_fails, crate::proofs::Pairs::map_value_fails, crate::proofs::Pairs::key_falls))]
-fn from_entries<K: Deserialize, V: Deserialize, M: FromEntries<K, V>, A: MapAccess>(
+#[tactic(auto, using(crate::proofs::Pairs::map_starts, crate::proofs::Pairs::map_ends, crate::proofs::Pairs::map_key_fails))]
+fn from_entries<K: Deserialize, V: Deserialize, M: FromEntries<K, V>, R: Reader>(
     alloc: Global,
-    mut entries: A,
-) -> Result<M, A::Error>
-    ensures { A.pending entries ≡ None → Meets A.Error.fault (ReadsMap M.get M.eq K.reads V.reads (A.left entries)) result }
+    mut entries: R::Entries,
+) -> Result<M, R::Error>
+    ensures { Meets R.Error.fault (ReadsMap M.get M.eq K.reads V.reads (R.entries entries)) result }
 {
     let mut map = M::without_entries(alloc);
-    while let Some(key) = entries.next_key::<K>(alloc)? {
-        let value = entries.next_value::<V>(alloc)?;
+    while let Some((key, value)) = R::next_entry(&mut entries) {
+        let key = K::deserialize(alloc, key)?;
+        let value = V::deserialize(alloc, value)?;
         if map.put(key, value).is_err() {
-            return Err(A::Error::out_of_memory());
+            return Err(R::Error::out_of_memory());
         }
     }
     Ok(map)
@@ -85,7 +85,7 @@ fn read_map<K: Deserialize, V: Deserialize, M: FromEntries<K, V>, R: Reader>(
     ensures { Meets R.Error.fault (After (reading.read_entries (R.source reader)) (ReadsMap M.get M.eq K.reads V.reads)) result }
 {
     let entries = entries_of(alloc, reader, "a map")?;
-    from_entries::<K, V, M, ReaderMapAccess<R>>(alloc, ReaderMapAccess::new(entries))
+    from_entries::<K, V, M, R>(alloc, entries)
 }
 
 impl<K: Deserialize + Eq + Hash, V: Deserialize> Deserialize for HashMap<K, V> {

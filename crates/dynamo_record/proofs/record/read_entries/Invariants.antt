@@ -4,8 +4,8 @@ use Rattle.dynamo_record.specs.Records.{listed}
 use Rattle.dynamo_record.proofs.record.read_entries.Given as goal
 
 -- what is answered on what is left, after the fields that were read, is answered on the whole
-abbrev pub invariant-loop-next : goal.invariant-loop-next
-invariant-loop-next g l = StructSoFar (listed g.R.Record.about g.R.Fields.FieldList.about) g.R.Fields.FieldList.holds l.slots (g.A.MapAccess.left l.map) (g.A.MapAccess.left l.fn.map)
+abbrev pub invariant-loop-key : goal.invariant-loop-key
+invariant-loop-key g l = StructSoFar (listed g.R.Record.about g.R.Fields.FieldList.about) g.R.Fields.FieldList.holds l.slots (g.D.Reader.entries l.entries) (g.D.Reader.entries l.initial.entries)
 
-abbrev pub decreases-loop-next : goal.decreases-loop-next
-decreases-loop-next g l = length (g.A.MapAccess.left l.map)
+abbrev pub decreases-loop-key : goal.decreases-loop-key
+decreases-loop-key g l = length (g.D.Reader.entries l.entries)
