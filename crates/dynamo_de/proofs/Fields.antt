@@ -2,7 +2,7 @@
 use Rattle.std.proofs.Common.{◌≡◌, ◌⊎◌, ℕ, List, [], ◌∷◌, map, Option, Some, None, Result, Ok, Err, length, ◌<◌, ap, sym, subst, inl, inr, arith, ◌∙◌}
 use Rattle.dynamo_value.specs.Av.{Av}
 use Rattle.dynamo_value.specs.Fault.{Fault, out_of_memory}
-use Rattle.dynamo_de.specs.Access.{NextElement, NextKey, NextValue}
+use Rattle.dynamo_de.specs.Access.{NextElement, MapLeft, KeyOf, NextKey, ValueOf, NextValue}
 use Rattle.std.specs.declared.alloc.Global.{Global}
 use Rattle.std.specs.declared.vec.Vec.{Vec}
 use Rattle.dynamo_de.specs.Answer as answer
@@ -81,9 +81,12 @@ element_more fault P Q more (s ∷ ss) new (Ok None) h = h
 element_more fault P Q more (s ∷ ss) new (Ok (Some v)) h = (h.0, more s (Ok v) h.1)
 element_more fault P Q more (s ∷ ss) new (Err e) h = (h.0, elim h.1 [ inl lacks ↦ inl lacks | inr failed ↦ inr (more s (Err (fault e)) failed) ])
 
-pub value_more : {T E : Type 0} (fault : E → Fault) (P Q : Source → Result T Fault → Type 0) → ((s : Source) (r : Result T Fault) → P s r → Q s r) → (l l2 : List Entry) (p p2 : Option Source) (r : Result T E) → NextValue fault P l p l2 p2 r → NextValue fault Q l p l2 p2 r
-value_more fault P Q more l l2 None p2 r h = h
-value_more fault P Q more l l2 (Some s) p2 r h = (h.0, h.1, meets_more fault (P s) (Q s) (more s) r h.2)
+pub value_more : {T E : Type 0} (fault : E → Fault) (P Q : Source → Result T Fault → Type 0) → ((s : Source) (r : Result T Fault) → P s r → Q s r) → (old new : MapLeft) (r : Result T E) → NextValue fault P old new r → NextValue fault Q old new r
+value_more fault P Q more old new r h = along old.pending h
+  where
+    along : (p : Option Source) → ValueOf fault P p old new r → ValueOf fault Q p old new r
+    along None h = h
+    along (Some s) h = (h.0, h.1, meets_more fault (P s) (Q s) (more s) r h.2)
 
 -- what a list reads, made of what its elements read
 pub list_made : {T A B : Type 0} (seen : T → A) (make : A → B) (reads : Source → Answer A) (s : Source) (r : Result (Vec T Global) Fault) → After (read_elements s) (ReadsList (λ s. Gives seen (reads s))) r
@@ -112,48 +115,48 @@ list_made {T} seen make reads s r h = along (read_elements s) r h
 
 -- ---- by name
 
-module _ {F S A V E : Type 0} (fault : E → Fault) (named : List ℕ → F) (entry : F → S → Av → Answer S) (finish : S → Answer A) (next : A → Result V Fault → Type 0) (es : List Entry) (start so_far : S) (l l2 : List Entry) (p p2 : Option Source) where
+module _ {F S A V E : Type 0} (fault : E → Fault) (named : List ℕ → F) (entry : F → S → Av → Answer S) (finish : S → Answer A) (next : A → Result V Fault → Type 0) (es : List Entry) (start so_far : S) (old new : MapLeft) where
   abbrev Leads : S → List Entry → Type 0
   Leads st left = LeadsTo next (read_fields named entry finish st left) (read_fields named entry finish start es)
 
   -- a field is read
-  pub field_read : {T B : Type 0} (seen : T → B) (reads : Source → Answer B) (set : B → S) (f : F) (l3 : List Entry) (p3 : Option Source) (v : T)
+  pub field_read : {T B : Type 0} (seen : T → B) (reads : Source → Answer B) (set : B → S) (f : F) (last : MapLeft) (v : T)
       → ((a : Av) → entry f so_far a ≡ (reads (attribute a) >>= λ x. answer.value (set x)))
-      → Leads so_far l → NextKey fault (NamesOne named) l p l2 p2 (Ok (Some f)) → NextValue fault (λ s. Gives seen (reads s)) l2 p2 l3 p3 (Ok v) → Leads (set (seen v)) l3
+      → Leads so_far old.entries → NextKey fault (NamesOne named) old new (Ok (Some f)) → NextValue fault (λ s. Gives seen (reads s)) new last (Ok v) → Leads (set (seen v)) last.entries
   unfolding LeadsTo read_fields
-  field_read seen reads set f l3 p3 v is h key value = along l h key
+  field_read seen reads set f last v is h key value = along old.entries h key
     where
       again : (x : Answer _) (f : S → Answer A) (r : Result V Fault) → Gives seen x (Ok v) → After (f (set (seen v))) next r → After ((x >>= λ y. answer.value (set y)) >>= f) next r
       again (Ok y) f r given k = subst (λ z. After (f (set z)) next r) given k
       again (Err g) f r given k = absurd given
 
-      along : (k : List Entry) → LeadsTo next (read_fields named entry finish so_far k) (read_fields named entry finish start es) → NextKey fault (NamesOne named) k p l2 p2 (Ok (Some f))
-          → LeadsTo next (read_fields named entry finish (set (seen v)) l3) (read_fields named entry finish start es)
+      along : (k : List Entry) → LeadsTo next (read_fields named entry finish so_far k) (read_fields named entry finish start es) → KeyOf fault (NamesOne named) k old new (Ok (Some f))
+          → LeadsTo next (read_fields named entry finish (set (seen v)) last.entries) (read_fields named entry finish start es)
       along [] h a = cc
       along (e ∷ k) h a =
-          let c = subst (λ w. NextValue fault (λ s. Gives seen (reads s)) l2 w l3 p3 (Ok v)) a.1 value in
+          let c = subst (λ w. ValueOf fault (λ s. Gives seen (reads s)) w new last (Ok v)) a.1 value in
           let name : f ≡ named e.0 = ok_same f (named e.0) a.2 in
           λ r rest. h r (subst (λ g. After (entry g so_far e.1 >>= λ new. read_fields named entry finish new k) next r) name
           (subst (λ x. After (x >>= λ new. read_fields named entry finish new k) next r) (sym (is e.1))
           (again (reads (attribute e.1)) (λ new. read_fields named entry finish new k) r c.2 (subst (λ xs. After (read_fields named entry finish (set (seen v)) xs) next r) (c.0 ∙ a.0) rest))))
 
   -- a field's fault is the struct's
-  pub field_fails : {T B : Type 0} (seen : T → B) (reads : Source → Answer B) (set : B → S) (f : F) (l3 : List Entry) (p3 : Option Source) (x : E)
+  pub field_fails : {T B : Type 0} (seen : T → B) (reads : Source → Answer B) (set : B → S) (f : F) (last : MapLeft) (x : E)
       → ((a : Av) → entry f so_far a ≡ (reads (attribute a) >>= λ y. answer.value (set y)))
-      → Leads so_far l → NextKey fault (NamesOne named) l p l2 p2 (Ok (Some f)) → NextValue {V = T} fault (λ s. Gives seen (reads s)) l2 p2 l3 p3 (Err x)
+      → Leads so_far old.entries → NextKey fault (NamesOne named) old new (Ok (Some f)) → NextValue {V = T} fault (λ s. Gives seen (reads s)) new last (Err x)
       → (fault x ≡ out_of_memory) ⊎ After (read_fields named entry finish start es) next (Err (fault x))
   unfolding LeadsTo read_fields
-  field_fails {T} {B} seen reads set f l3 p3 x is h key value = along l h key
+  field_fails {T} {B} seen reads set f last x is h key value = along old.entries h key
     where
       again : (y : Answer B) (f : S → Answer A) → Gives seen y (Err (fault x)) → After ((y >>= λ z. answer.value (set z)) >>= f) next (Err (fault x))
       again (Ok z) f given = absurd given
       again (Err g) f given = given
 
-      along : (k : List Entry) → LeadsTo next (read_fields named entry finish so_far k) (read_fields named entry finish start es) → NextKey fault (NamesOne named) k p l2 p2 (Ok (Some f))
+      along : (k : List Entry) → LeadsTo next (read_fields named entry finish so_far k) (read_fields named entry finish start es) → KeyOf fault (NamesOne named) k old new (Ok (Some f))
           → (fault x ≡ out_of_memory) ⊎ After (read_fields named entry finish start es) next (Err (fault x))
       along [] h a = cc
       along (e ∷ k) h a =
-          let c = subst (λ w. NextValue {V = T} fault (λ s. Gives seen (reads s)) l2 w l3 p3 (Err x)) a.1 value in
+          let c = subst (λ w. ValueOf {V = T} fault (λ s. Gives seen (reads s)) w new last (Err x)) a.1 value in
           let name : f ≡ named e.0 = ok_same f (named e.0) a.2 in
           elim c.2 [
             | inl lacks ↦ inl lacks
@@ -163,30 +166,30 @@ module _ {F S A V E : Type 0} (fault : E → Fault) (named : List ℕ → F) (en
           ]
 
   -- a key is read from every text
-  pub key_lacks : (x : E) → NextKey {V = F} fault (NamesOne named) l p l2 p2 (Err x) → fault x ≡ out_of_memory
-  key_lacks x a = along l a
+  pub key_lacks : (x : E) → NextKey {V = F} fault (NamesOne named) old new (Err x) → fault x ≡ out_of_memory
+  key_lacks x a = along old.entries a
     where
-      along : (k : List Entry) → NextKey {V = F} fault (NamesOne named) k p l2 p2 (Err x) → fault x ≡ out_of_memory
+      along : (k : List Entry) → KeyOf {V = F} fault (NamesOne named) k old new (Err x) → fault x ≡ out_of_memory
       along [] a = cc
       along (e ∷ k) a = elim a.2 [ inl lacks ↦ lacks | inr failed ↦ cc ]
 
   -- after the last entry the struct is made
-  pub fields_end : (r : Result V Fault) → Leads so_far l → NextKey fault (NamesOne named) l p l2 p2 (Ok None) → After (finish so_far) next r → After (read_fields named entry finish start es) next r
+  pub fields_end : (r : Result V Fault) → Leads so_far old.entries → NextKey fault (NamesOne named) old new (Ok None) → After (finish so_far) next r → After (read_fields named entry finish start es) next r
   unfolding LeadsTo read_fields
-  fields_end r h a k = along l h a
+  fields_end r h a k = along old.entries h a
     where
-      along : (j : List Entry) → LeadsTo next (read_fields named entry finish so_far j) (read_fields named entry finish start es) → NextKey fault (NamesOne named) j p l2 p2 (Ok None)
+      along : (j : List Entry) → LeadsTo next (read_fields named entry finish so_far j) (read_fields named entry finish start es) → KeyOf fault (NamesOne named) j old new (Ok None)
           → After (read_fields named entry finish start es) next r
       along [] h a = h r k
       along (e ∷ j) h a = absurd a.2
 
   -- an entry that was read is gone
-  pub entry_falls : {T : Type 0} (reads : Source → Result T Fault → Type 0) (f : F) (l3 : List Entry) (p3 : Option Source) (v : T) → NextKey fault (NamesOne named) l p l2 p2 (Ok (Some f)) → NextValue fault reads l2 p2 l3 p3 (Ok v) → length l3 < length l
-  entry_falls reads f l3 p3 v a b = along l a
+  pub entry_falls : {T : Type 0} (reads : Source → Result T Fault → Type 0) (f : F) (last : MapLeft) (v : T) → NextKey fault (NamesOne named) old new (Ok (Some f)) → NextValue fault reads new last (Ok v) → length last.entries < length old.entries
+  entry_falls reads f last v a b = along old.entries a
     where
-      along : (k : List Entry) → NextKey fault (NamesOne named) k p l2 p2 (Ok (Some f)) → length l3 < length k
+      along : (k : List Entry) → KeyOf fault (NamesOne named) k old new (Ok (Some f)) → length last.entries < length k
       along [] a = cc
-      along (e ∷ k) a = let c = subst (λ w. NextValue fault reads l2 w l3 p3 (Ok v)) a.1 b in rw (c.0, a.0) (omega arith)
+      along (e ∷ k) a = let c = subst (λ w. ValueOf fault reads w new last (Ok v)) a.1 b in rw (c.0, a.0) (omega arith)
 
 pub fields_start : {A V : Type 0} (next : A → Result V Fault → Type 0) (x : Answer A) → LeadsTo next x x
 unfolding LeadsTo

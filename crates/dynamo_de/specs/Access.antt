@@ -15,16 +15,27 @@ abbrev pub NextElement : {V E : Type 0} → (E → Fault) → (Source → Result
 NextElement fault reads [] new r = (new ≡ []) × (r ≡ Ok None)
 NextElement fault reads (s ∷ ss) new r = (new ≡ ss) × Element fault (reads s) r
 
+-- What a map access has left: the entries that aren't read yet, and the source of a value whose key was read.
+pub record MapLeft : Type 0 where
+  pub entries : List Entry
+  pub pending : Option Source
+
 -- The next key is read. Its value is then pending, also where the key fails, in the place of one that was pending before.
 -- Where no entry is left, a pending value stays.
-abbrev pub NextKey : {V E : Type 0} → (E → Fault) → (Source → Result V Fault → Type 0) → List Entry → Option Source → List Entry → Option Source → Result (Option V) E → Type 0
-NextKey fault reads [] pending new waits r = (new ≡ []) × (waits ≡ pending) × (r ≡ Ok None)
-NextKey fault reads (e ∷ es) pending new waits r = (new ≡ es) × (waits ≡ Some (attribute e.1)) × Element fault (reads (key_text e.0)) r
+abbrev pub KeyOf : {V E : Type 0} → (E → Fault) → (Source → Result V Fault → Type 0) → List Entry → MapLeft → MapLeft → Result (Option V) E → Type 0
+KeyOf fault reads [] old new r = (new.entries ≡ []) × (new.pending ≡ old.pending) × (r ≡ Ok None)
+KeyOf fault reads (e ∷ es) old new r = (new.entries ≡ es) × (new.pending ≡ Some (attribute e.1)) × Element fault (reads (key_text e.0)) r
+
+abbrev pub NextKey : {V E : Type 0} → (E → Fault) → (Source → Result V Fault → Type 0) → MapLeft → MapLeft → Result (Option V) E → Type 0
+NextKey fault reads old new r = KeyOf fault reads old.entries old new r
 
 -- The pending value is taken and then read, so that a failing one is gone. With none pending nothing changes.
-abbrev pub NextValue : {V E : Type 0} → (E → Fault) → (Source → Result V Fault → Type 0) → List Entry → Option Source → List Entry → Option Source → Result V E → Type 0
-NextValue fault reads es None new waits r = (new ≡ es) × (waits ≡ None) × Meets fault (λ a. a ≡ Err map_value_before_key) r
-NextValue fault reads es (Some s) new waits r = (new ≡ es) × (waits ≡ None) × Meets fault (reads s) r
+abbrev pub ValueOf : {V E : Type 0} → (E → Fault) → (Source → Result V Fault → Type 0) → Option Source → MapLeft → MapLeft → Result V E → Type 0
+ValueOf fault reads None old new r = (new.entries ≡ old.entries) × (new.pending ≡ None) × Meets fault (λ a. a ≡ Err map_value_before_key) r
+ValueOf fault reads (Some s) old new r = (new.entries ≡ old.entries) × (new.pending ≡ None) × Meets fault (reads s) r
+
+abbrev pub NextValue : {V E : Type 0} → (E → Fault) → (Source → Result V Fault → Type 0) → MapLeft → MapLeft → Result V E → Type 0
+NextValue fault reads old new r = ValueOf fault reads old.pending old new r
 
 -- a key, and then its value
 abbrev pub ReadsPair : {K V : Type 0} → (Source → Result K Fault → Type 0) → (Source → Result V Fault → Type 0) → Entry → Result (K × V) Fault → Type 0
@@ -41,11 +52,14 @@ ValueFails {K} fault keys values e waits x = (waits ≡ None) × ((k : K) × key
 
 -- The next key with its value. Where an entry is left, both are read, and none is pending; or its key fails, or its value does.
 -- Where none is left, a pending value stays.
-abbrev pub NextEntry : {K V E : Type 0} → (E → Fault) → (Source → Result K Fault → Type 0) → (Source → Result V Fault → Type 0) → List Entry → Option Source → List Entry → Option Source → Result (Option (K × V)) E → Type 0
-NextEntry fault keys values [] pending new waits r = (new ≡ []) × (waits ≡ pending) × (r ≡ Ok None)
-NextEntry fault keys values (e ∷ es) pending new waits (Ok None) = ⊥
-NextEntry fault keys values (e ∷ es) pending new waits (Ok (Some p)) = (new ≡ es) × (waits ≡ None) × ReadsPair keys values e (Ok p)
-NextEntry fault keys values (e ∷ es) pending new waits (Err x) = (new ≡ es) × (KeyFails fault keys e waits x ⊎ ValueFails fault keys values e waits x)
+abbrev pub EntryOf : {K V E : Type 0} → (E → Fault) → (Source → Result K Fault → Type 0) → (Source → Result V Fault → Type 0) → List Entry → MapLeft → MapLeft → Result (Option (K × V)) E → Type 0
+EntryOf fault keys values [] old new r = (new.entries ≡ []) × (new.pending ≡ old.pending) × (r ≡ Ok None)
+EntryOf fault keys values (e ∷ es) old new (Ok None) = ⊥
+EntryOf fault keys values (e ∷ es) old new (Ok (Some p)) = (new.entries ≡ es) × (new.pending ≡ None) × ReadsPair keys values e (Ok p)
+EntryOf fault keys values (e ∷ es) old new (Err x) = (new.entries ≡ es) × (KeyFails fault keys e new.pending x ⊎ ValueFails fault keys values e new.pending x)
+
+abbrev pub NextEntry : {K V E : Type 0} → (E → Fault) → (Source → Result K Fault → Type 0) → (Source → Result V Fault → Type 0) → MapLeft → MapLeft → Result (Option (K × V)) E → Type 0
+NextEntry fault keys values old new r = EntryOf fault keys values old.entries old new r
 
 -- The name is read, and the content is left; or the fault that asking for the variant meets.
 abbrev pub ReadsVariant : {T C E : Type 0} → (E → Fault) → (Source → Result T Fault → Type 0) → (C → Option Source) → Result (List ℕ × Option Source) Fault → Result (T × C) E → Type 0

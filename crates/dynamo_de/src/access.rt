@@ -1,6 +1,6 @@
 ghost use Rattle.std.specs.Prelude.{◌≡◌, ℕ, List, Option, Result, IsOk};
 ghost use Rattle.dynamo_value.specs.Fault.{Fault};
-ghost use Rattle.dynamo_de.specs.Access.{NextElement, NextKey, NextValue, NextEntry, ReadsVariant, OfContent, Hints};
+ghost use Rattle.dynamo_de.specs.Access.{MapLeft, NextElement, NextKey, NextValue, NextEntry, ReadsVariant, OfContent, Hints};
 ghost use Rattle.dynamo_de.specs.Meets.{Meets};
 ghost use Rattle.dynamo_de.specs.Shown.{shown};
 ghost use Rattle.dynamo_de.specs.Shows.{IsReaderOf};
@@ -45,9 +45,7 @@ pub trait MapAccess: Sized + Drop {
     type Error: Error;
 
     // The entries that are left, and the source of a value whose key was read.
-    ghost left: { Self → List Entry };
-
-    ghost pending: { Self → Option Source };
+    ghost left: { Self → MapLeft };
 
     /// The next key, read by a seed; none after the last. Its value is pending from now on, also where the key fails; a
     /// value that was pending before is dropped.
@@ -55,12 +53,12 @@ pub trait MapAccess: Sized + Drop {
         &mut self,
         seed: K,
     ) -> Result<Option<K::Value>, Self::Error>
-        ensures { NextKey Self.Error.fault (K.reads seed) (left self.old) (pending self.old) (left self.new) (pending self.new) result };
+        ensures { NextKey Self.Error.fault (K.reads seed) (left self.old) (left self.new) result };
 
     /// The pending value, read by a seed. It is taken before it is read, so a failing one is gone. With none pending it
     /// refuses by `MapValueBeforeKey`, and nothing changes.
     fn next_value_seed<V: DeserializeSeed>(&mut self, seed: V) -> Result<V::Value, Self::Error>
-        ensures { NextValue Self.Error.fault (V.reads seed) (left self.old) (pending self.old) (left self.new) (pending self.new) result };
+        ensures { NextValue Self.Error.fault (V.reads seed) (left self.old) (left self.new) result };
 
     /// The next key and its value, each read by a seed; none after the last. Where the key fails its value is pending, where
     /// the value fails it is gone.
@@ -69,7 +67,7 @@ pub trait MapAccess: Sized + Drop {
         key_seed: K,
         value_seed: V,
     ) -> Result<Option<(K::Value, V::Value)>, Self::Error>
-        ensures { NextEntry Self.Error.fault (K.reads key_seed) (V.reads value_seed) (left self.old) (pending self.old) (left self.new) (pending self.new) result }
+        ensures { NextEntry Self.Error.fault (K.reads key_seed) (V.reads value_seed) (left self.old) (left self.new) result }
     {
         match self.next_key_seed(key_seed)? {
             None => Ok(None),
@@ -82,14 +80,14 @@ pub trait MapAccess: Sized + Drop {
 
     /// The next key, read by its type; none after the last.
     fn next_key<K: Deserialize>(&mut self, alloc: Global) -> Result<Option<K>, Self::Error>
-        ensures { NextKey Self.Error.fault K.reads (left self.old) (pending self.old) (left self.new) (pending self.new) result }
+        ensures { NextKey Self.Error.fault K.reads (left self.old) (left self.new) result }
     {
         self.next_key_seed(TypeSeed::<K>::new(alloc))
     }
 
     /// The pending value, read by its type.
     fn next_value<V: Deserialize>(&mut self, alloc: Global) -> Result<V, Self::Error>
-        ensures { NextValue Self.Error.fault V.reads (left self.old) (pending self.old) (left self.new) (pending self.new) result }
+        ensures { NextValue Self.Error.fault V.reads (left self.old) (left self.new) result }
     {
         self.next_value_seed(TypeSeed::<V>::new(alloc))
     }
@@ -99,14 +97,14 @@ pub trait MapAccess: Sized + Drop {
         &mut self,
         alloc: Global,
     ) -> Result<Option<(K, V)>, Self::Error>
-        ensures { NextEntry Self.Error.fault K.reads V.reads (left self.old) (pending self.old) (left self.new) (pending self.new) result }
+        ensures { NextEntry Self.Error.fault K.reads V.reads (left self.old) (left self.new) result }
     {
         self.next_entry_seed(TypeSeed::<K>::new(alloc), TypeSeed::<V>::new(alloc))
     }
 
     /// How many entries are left, where that is known.
     fn size_hint(&self) -> Option<usize>
-        ensures { Hints (left self.now) result }
+        ensures { Hints (left self.now).entries result }
     {
         None
     }

@@ -94,9 +94,7 @@ impl<R: Reader> ReaderMapAccess<R> {
 impl<R: Reader> MapAccess for ReaderMapAccess<R> {
     type Error = R::Error;
 
-    ghost left = { λ a. R.entries a.entries };
-
-    ghost pending = { λ a. content_of R.source a.pending };
+    ghost left = { λ a. record { entries = R.entries a.entries; pending = content_of R.source a.pending } };
 
     fn next_key_seed<K: DeserializeSeed>(&mut self, seed: K) -> Result<Option<K::Value>, R::Error> {
         match R::next_entry(&mut self.entries) {

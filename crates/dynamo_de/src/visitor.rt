@@ -276,7 +276,7 @@ pub trait Visitor: Sized + Drop {
 
     /// The entries of a map, none of whose values is pending.
     fn visit_map<A: MapAccess>(self, map: A) -> Result<Self::Value, A::Error>
-        ensures { A.pending map ≡ None → Visits A.Error.fault (claimed self) (takes self) (sight.entries (A.left map)) result }
+        ensures { (A.left map).pending ≡ None → Visits A.Error.fault (claimed self) (takes self) (sight.entries (A.left map).entries) result }
     {
         refuse(
             self.alloc(),

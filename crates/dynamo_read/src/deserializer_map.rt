@@ -3,7 +3,7 @@ ghost use Rattle.dynamo_value.specs.Fault.{out_of_memory};
 ghost use Rattle.dynamo_value.specs.Kind.{fault_of};
 ghost use Rattle.dynamo_value.specs.View.{entries_view};
 ghost use Rattle.dynamo_de.specs.Access.{Hints};
-ghost use Rattle.dynamo_read.specs.Accesses.{map_left, map_pending};
+ghost use Rattle.dynamo_read.specs.Accesses.{map_left};
 
 use crate::deserializer::Deserializer;
 use crate::unread::Entries;
@@ -26,8 +26,8 @@ impl DeserializerMap {
     /// Where no memory is found for the list, the error is [`OutOfMemory`](dynamo_value::ErrorImpl::OutOfMemory), and the
     /// item holds what it held.
     pub fn from_item(alloc: Global, item: &mut HashMap<String, AttributeValue>) -> Result<Self>
-        ensures left { IfOk result (λ map. map_left map ≡ entries_view item.old.entries) }
-        ensures pending { IfOk result (λ map. map_pending map ≡ None) }
+        ensures left { IfOk result (λ map. (map_left map).entries ≡ entries_view item.old.entries) }
+        ensures pending { IfOk result (λ map. (map_left map).pending ≡ None) }
         ensures empty { OnOk result (item.new.entries ≡ []) }
         ensures err { IfErr result (λ e. fault_of e ≡ out_of_memory) }
         ensures unchanged { OnErr result (item.new ≡ item.old) }
@@ -43,8 +43,6 @@ impl MapAccess for DeserializerMap {
 
     ghost left = { map_left };
 
-    ghost pending = { map_pending };
-
     fn next_key_seed<K: DeserializeSeed>(&mut self, seed: K) -> Result<Option<K::Value>> {
         self.access.next_key_seed(seed)
     }
@@ -55,8 +53,8 @@ impl MapAccess for DeserializerMap {
 
     /// How many entries are left, exactly.
     fn size_hint(&self) -> Option<usize>
-        ensures hint { Hints (map_left self.now) result }
-        ensures exact { result ≡ Some (length (map_left self.now)) }
+        ensures hint { Hints (map_left self.now).entries result }
+        ensures exact { result ≡ Some (length (map_left self.now).entries) }
     {
         Deserializer::entries_left(self.access.entries())
     }

@@ -5,7 +5,7 @@ use Rattle.dynamo_value.specs.Fault.{Fault, out_of_memory}
 use Rattle.dynamo_value.specs.Integer.{u8}
 use Rattle.serde_dynamo.specs.Datum as datum
 use Rattle.serde_dynamo.specs.Datum.{Datum}
-use Rattle.dynamo_de.specs.Access.{NextElement, NextKey, NextValue}
+use Rattle.dynamo_de.specs.Access.{NextElement, MapLeft, NextKey, NextValue}
 use Rattle.dynamo_de.specs.Answer.{Answer, After, Is, Gives}
 use Rattle.dynamo_de.specs.Reading.{read_content, read_string, read_integer}
 use Rattle.dynamo_de.specs.Fields.{NamesOne, read_first, read_fields, LeadsTo}
@@ -68,33 +68,33 @@ Whole es r = After (read_fields gauge_field gauge_entry finish_gauge no_gauge es
 pub starts : (es : List Entry) → Leads None None es es
 starts es = fields_start (Is gauge_told) (read_fields gauge_field gauge_entry finish_gauge no_gauge es)
 
-module _ {E : Type 0} (fault : E → Fault) (es l l2 : List Entry) (p p2 : Option Source) (id reading : Option Datum) where
+module _ {E : Type 0} (fault : E → Fault) (es : List Entry) (old new : MapLeft) (id reading : Option Datum) where
   abbrev so_far : GaugeFields
   so_far = record { id = id; reading = reading }
 
-  pub id_read : (l3 : List Entry) (p3 : Option Source) (v : String Global) → Leads id reading l es → NextKey fault (NamesOne gauge_field) l p l2 p2 (Ok (Some Field.Id)) → NextValue fault ReadsId l2 p2 l3 p3 (Ok v) → Leads (Some (told_id v)) reading l3 es
-  id_read l3 p3 v h k w = field_read fault gauge_field gauge_entry finish_gauge (Is gauge_told) es no_gauge so_far l l2 p p2 told_id (read shape.string) (λ d. record { id = Some d; reading = reading }) Field.Id l3 p3 v (λ _. refl) h k (value_more fault _ (λ s. Gives told_id (read shape.string s)) id_told l2 l3 p2 p3 (Ok v) w)
+  pub id_read : (last : MapLeft) (v : String Global) → Leads id reading old.entries es → NextKey fault (NamesOne gauge_field) old new (Ok (Some Field.Id)) → NextValue fault ReadsId new last (Ok v) → Leads (Some (told_id v)) reading last.entries es
+  id_read last v h k w = field_read fault gauge_field gauge_entry finish_gauge (Is gauge_told) es no_gauge so_far old new told_id (read shape.string) (λ d. record { id = Some d; reading = reading }) Field.Id last v (λ _. refl) h k (value_more fault _ (λ s. Gives told_id (read shape.string s)) id_told new last (Ok v) w)
 
-  pub id_refused : (l3 : List Entry) (p3 : Option Source) (x : E) → Leads id reading l es → NextKey fault (NamesOne gauge_field) l p l2 p2 (Ok (Some Field.Id)) → NextValue {V = String Global} fault ReadsId l2 p2 l3 p3 (Err x) → (fault x ≡ out_of_memory) ⊎ Whole es (Err (fault x))
-  id_refused l3 p3 x h k w = field_fails fault gauge_field gauge_entry finish_gauge (Is gauge_told) es no_gauge so_far l l2 p p2 {T = String Global} told_id (read shape.string) (λ d. record { id = Some d; reading = reading }) Field.Id l3 p3 x (λ _. refl) h k (value_more fault _ (λ s. Gives told_id (read shape.string s)) id_told l2 l3 p2 p3 (Err x) w)
+  pub id_refused : (last : MapLeft) (x : E) → Leads id reading old.entries es → NextKey fault (NamesOne gauge_field) old new (Ok (Some Field.Id)) → NextValue {V = String Global} fault ReadsId new last (Err x) → (fault x ≡ out_of_memory) ⊎ Whole es (Err (fault x))
+  id_refused last x h k w = field_fails fault gauge_field gauge_entry finish_gauge (Is gauge_told) es no_gauge so_far old new {T = String Global} told_id (read shape.string) (λ d. record { id = Some d; reading = reading }) Field.Id last x (λ _. refl) h k (value_more fault _ (λ s. Gives told_id (read shape.string s)) id_told new last (Err x) w)
 
-  pub reading_read : (l3 : List Entry) (p3 : Option Source) (v : Option ℕ) → Leads id reading l es → NextKey fault (NamesOne gauge_field) l p l2 p2 (Ok (Some Field.Reading)) → NextValue fault ReadsReading l2 p2 l3 p3 (Ok v) → Leads id (Some (told_reading v)) l3 es
-  reading_read l3 p3 v h k w = field_read fault gauge_field gauge_entry finish_gauge (Is gauge_told) es no_gauge so_far l l2 p p2 told_reading (read reading_shape) (λ d. record { id = id; reading = Some d }) Field.Reading l3 p3 v (λ _. refl) h k (value_more fault _ (λ s. Gives told_reading (read reading_shape s)) reading_told l2 l3 p2 p3 (Ok v) w)
+  pub reading_read : (last : MapLeft) (v : Option ℕ) → Leads id reading old.entries es → NextKey fault (NamesOne gauge_field) old new (Ok (Some Field.Reading)) → NextValue fault ReadsReading new last (Ok v) → Leads id (Some (told_reading v)) last.entries es
+  reading_read last v h k w = field_read fault gauge_field gauge_entry finish_gauge (Is gauge_told) es no_gauge so_far old new told_reading (read reading_shape) (λ d. record { id = id; reading = Some d }) Field.Reading last v (λ _. refl) h k (value_more fault _ (λ s. Gives told_reading (read reading_shape s)) reading_told new last (Ok v) w)
 
-  pub reading_refused : (l3 : List Entry) (p3 : Option Source) (x : E) → Leads id reading l es → NextKey fault (NamesOne gauge_field) l p l2 p2 (Ok (Some Field.Reading)) → NextValue {V = Option ℕ} fault ReadsReading l2 p2 l3 p3 (Err x) → (fault x ≡ out_of_memory) ⊎ Whole es (Err (fault x))
-  reading_refused l3 p3 x h k w = field_fails fault gauge_field gauge_entry finish_gauge (Is gauge_told) es no_gauge so_far l l2 p p2 {T = Option ℕ} told_reading (read reading_shape) (λ d. record { id = id; reading = Some d }) Field.Reading l3 p3 x (λ _. refl) h k (value_more fault _ (λ s. Gives told_reading (read reading_shape s)) reading_told l2 l3 p2 p3 (Err x) w)
+  pub reading_refused : (last : MapLeft) (x : E) → Leads id reading old.entries es → NextKey fault (NamesOne gauge_field) old new (Ok (Some Field.Reading)) → NextValue {V = Option ℕ} fault ReadsReading new last (Err x) → (fault x ≡ out_of_memory) ⊎ Whole es (Err (fault x))
+  reading_refused last x h k w = field_fails fault gauge_field gauge_entry finish_gauge (Is gauge_told) es no_gauge so_far old new {T = Option ℕ} told_reading (read reading_shape) (λ d. record { id = id; reading = Some d }) Field.Reading last x (λ _. refl) h k (value_more fault _ (λ s. Gives told_reading (read reading_shape s)) reading_told new last (Err x) w)
 
-  pub other_read : (l3 : List Entry) (p3 : Option Source) (v : IgnoredAny) → Leads id reading l es → NextKey fault (NamesOne gauge_field) l p l2 p2 (Ok (Some Field.Other)) → NextValue fault (λ s. Gives (λ _. tt) (read_ignored s)) l2 p2 l3 p3 (Ok v) → Leads id reading l3 es
-  other_read l3 p3 v h k w = field_read fault gauge_field gauge_entry finish_gauge (Is gauge_told) es no_gauge so_far l l2 p p2 (λ _. tt) read_ignored (λ _. so_far) Field.Other l3 p3 v (λ _. refl) h k w
+  pub other_read : (last : MapLeft) (v : IgnoredAny) → Leads id reading old.entries es → NextKey fault (NamesOne gauge_field) old new (Ok (Some Field.Other)) → NextValue fault (λ s. Gives (λ _. tt) (read_ignored s)) new last (Ok v) → Leads id reading last.entries es
+  other_read last v h k w = field_read fault gauge_field gauge_entry finish_gauge (Is gauge_told) es no_gauge so_far old new (λ _. tt) read_ignored (λ _. so_far) Field.Other last v (λ _. refl) h k w
 
-  pub other_refused : (l3 : List Entry) (p3 : Option Source) (x : E) → Leads id reading l es → NextKey fault (NamesOne gauge_field) l p l2 p2 (Ok (Some Field.Other)) → NextValue {V = IgnoredAny} fault (λ s. Gives (λ _. tt) (read_ignored s)) l2 p2 l3 p3 (Err x) → (fault x ≡ out_of_memory) ⊎ Whole es (Err (fault x))
-  other_refused l3 p3 x h k w = field_fails fault gauge_field gauge_entry finish_gauge (Is gauge_told) es no_gauge so_far l l2 p p2 {T = IgnoredAny} (λ _. tt) read_ignored (λ _. so_far) Field.Other l3 p3 x (λ _. refl) h k w
+  pub other_refused : (last : MapLeft) (x : E) → Leads id reading old.entries es → NextKey fault (NamesOne gauge_field) old new (Ok (Some Field.Other)) → NextValue {V = IgnoredAny} fault (λ s. Gives (λ _. tt) (read_ignored s)) new last (Err x) → (fault x ≡ out_of_memory) ⊎ Whole es (Err (fault x))
+  other_refused last x h k w = field_fails fault gauge_field gauge_entry finish_gauge (Is gauge_told) es no_gauge so_far old new {T = IgnoredAny} (λ _. tt) read_ignored (λ _. so_far) Field.Other last x (λ _. refl) h k w
 
-  pub key_lacks : (x : E) → NextKey {V = Field} fault (NamesOne gauge_field) l p l2 p2 (Err x) → fault x ≡ out_of_memory
-  key_lacks x k = fields.key_lacks fault gauge_field gauge_entry finish_gauge (Is {A = Datum} gauge_told) es no_gauge so_far l l2 p p2 x k
+  pub key_lacks : (x : E) → NextKey {V = Field} fault (NamesOne gauge_field) old new (Err x) → fault x ≡ out_of_memory
+  key_lacks x k = fields.key_lacks fault gauge_field gauge_entry finish_gauge (Is {A = Datum} gauge_told) es no_gauge so_far old new x k
 
-  pub ends : (r : Result Gauge Fault) → Leads id reading l es → NextKey fault (NamesOne gauge_field) l p l2 p2 (Ok None) → After (finish_gauge so_far) (Is gauge_told) r → Whole es r
-  ends r h k w = fields_end fault gauge_field gauge_entry finish_gauge (Is {A = Datum} gauge_told) es no_gauge so_far l l2 p p2 r h k w
+  pub ends : (r : Result Gauge Fault) → Leads id reading old.entries es → NextKey fault (NamesOne gauge_field) old new (Ok None) → After (finish_gauge so_far) (Is gauge_told) r → Whole es r
+  ends r h k w = fields_end fault gauge_field gauge_entry finish_gauge (Is {A = Datum} gauge_told) es no_gauge so_far old new r h k w
 
-  pub falls : {T : Type 0} (reads : Source → Result T Fault → Type 0) (f : Field) (l3 : List Entry) (p3 : Option Source) (v : T) → NextKey fault (NamesOne gauge_field) l p l2 p2 (Ok (Some f)) → NextValue fault reads l2 p2 l3 p3 (Ok v) → length l3 < length l
-  falls reads f l3 p3 v k w = entry_falls fault gauge_field gauge_entry finish_gauge (Is {A = Datum} gauge_told) es no_gauge so_far l l2 p p2 reads f l3 p3 v k w
+  pub falls : {T : Type 0} (reads : Source → Result T Fault → Type 0) (f : Field) (last : MapLeft) (v : T) → NextKey fault (NamesOne gauge_field) old new (Ok (Some f)) → NextValue fault reads new last (Ok v) → length last.entries < length old.entries
+  falls reads f last v k w = entry_falls fault gauge_field gauge_entry finish_gauge (Is {A = Datum} gauge_told) es no_gauge so_far old new reads f last v k w
