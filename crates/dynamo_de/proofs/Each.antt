@@ -2,9 +2,8 @@
 use Rattle.std.proofs.Common.{◌≡◌, ◌⊎◌, List, [], ◌∷◌, ◌++◌, Some, None, Result, Ok, Err, refl, sym, subst, inl, inr}
 use Rattle.dynamo_value.specs.Fault.{Fault, out_of_memory}
 use Rattle.dynamo_de.specs.Source.{Source}
-use Rattle.dynamo_de.specs.Meets.{IsMessage}
 use Rattle.dynamo_de.specs.Reads.{ReadsEach, ReadsSoFar, ReadsFirst}
-use Rattle.dynamo_de.specs.Access.{NextElement}
+use Rattle.dynamo_de.specs.Access.{NextElement, RequiredElement}
 
 pub so_far_more : {X T : Type 0} (reads : X → Result T Fault → Type 0) (ss : List X) (vs : List T) (s : X) (left : List X) (v : T) → ReadsSoFar reads ss vs (s ∷ left) → reads s (Ok v) → ReadsSoFar reads ss (vs ++ v ∷ []) left
 so_far_more reads ss [] s left v h r = subst (λ xs. ReadsSoFar reads xs (v ∷ []) left) (sym h) (r, refl)
@@ -36,34 +35,26 @@ each_fails reads fault ss vs (s ∷ left) new e h k = elim k.1 [ inl o ↦ inl o
 -- ---- the first of several, and the rest
 
 module _ {T V E : Type 0} (fault : E → Fault) (reads : Source → Result T Fault → Type 0) (next : T → List Source → Result V Fault → Type 0) (left new : List Source) where
-  pub first_read : (v : T) (w : V) → NextElement fault reads left new (Ok (Some v)) → next v new (Ok w) → ReadsFirst reads next left (Ok w)
+  pub first_read : (v : T) (w : V) → RequiredElement fault reads left new (Ok v) → next v new (Ok w) → ReadsFirst reads next left (Ok w)
   unfolding ReadsFirst
   first_read v w h k = along left h
     where
-      along : (l : List Source) → NextElement fault reads l new (Ok (Some v)) → ReadsFirst reads next l (Ok w)
-      along [] a = cc
+      along : (l : List Source) → RequiredElement fault reads l new (Ok v) → ReadsFirst reads next l (Ok w)
+      along [] a = absurd a
       along (s ∷ ss) a = (v, a.1, subst (λ l. next v l (Ok w)) a.0 k)
 
-  pub later_fails : (v : T) (f : Fault) → NextElement fault reads left new (Ok (Some v)) → next v new (Err f) → ReadsFirst reads next left (Err f)
+  pub later_fails : (v : T) (f : Fault) → RequiredElement fault reads left new (Ok v) → next v new (Err f) → ReadsFirst reads next left (Err f)
   unfolding ReadsFirst
   later_fails v f h k = along left h
     where
-      along : (l : List Source) → NextElement fault reads l new (Ok (Some v)) → ReadsFirst reads next l (Err f)
-      along [] a = cc
+      along : (l : List Source) → RequiredElement fault reads l new (Ok v) → ReadsFirst reads next l (Err f)
+      along [] a = absurd a
       along (s ∷ ss) a = inr (v, a.1, subst (λ l. next v l (Err f)) a.0 k)
 
-  pub first_lacks : (f : Fault) → NextElement fault reads left new (Ok None) → IsMessage {V = V} (Err f) → ReadsFirst reads next left (Err f)
-  unfolding ReadsFirst
-  first_lacks f h m = along left h
-    where
-      along : (l : List Source) → NextElement fault reads l new (Ok None) → ReadsFirst reads next l (Err f)
-      along [] a = m
-      along (s ∷ ss) a = absurd a.1
-
-  pub first_fails : (e : E) → NextElement fault reads left new (Err e) → (fault e ≡ out_of_memory) ⊎ ReadsFirst reads next left (Err (fault e))
+  pub first_fails : (e : E) → RequiredElement fault reads left new (Err e) → (fault e ≡ out_of_memory) ⊎ ReadsFirst reads next left (Err (fault e))
   unfolding ReadsFirst
   first_fails e h = along left h
     where
-      along : (l : List Source) → NextElement fault reads l new (Err e) → (fault e ≡ out_of_memory) ⊎ ReadsFirst reads next l (Err (fault e))
-      along [] a = cc
+      along : (l : List Source) → RequiredElement fault reads l new (Err e) → (fault e ≡ out_of_memory) ⊎ ReadsFirst reads next l (Err (fault e))
+      along [] a = a
       along (s ∷ ss) a = elim a.1 [ inl o ↦ inl o | inr r ↦ inr (inl r) ]

@@ -1,10 +1,11 @@
 -- The steps by which a JSON value is read.
-use Rattle.std.proofs.Common.{◌≡◌, ℕ, ◌≤◌, List, [], ◌∷◌, ◌++◌, Option, Some, None, Result, Ok, String, Vec, BTreeMap, Global, string_bytes, refl, ap, sym, subst, ◌∙◌, arith, Err}
+use Rattle.std.proofs.Common.{◌≡◌, ℕ, ◌≤◌, List, [], ◌∷◌, ◌++◌, Option, Some, None, Result, Ok, String, Vec, BTreeMap, Global, string_bytes, string_cmp, refl, ap, sym, subst, ◌∙◌, arith, Err}
+use Rattle.std.specs.BTreeMap.{insert_entry}
 use Rattle.serde_json.specs.Data as json
 use Rattle.serde_json.specs.Data.{put}
 use Rattle.serde_json.specs.View.{view, items_view, members_view}
 use Rattle.serde_json.specs.declared.value.Value.{Value, Array, Object}
-use Rattle.serde_json.proofs.Views.{view-Array, view-Object}
+use Rattle.serde_json.proofs.Views.{view-Array, view-Object, members_view-insert_entry}
 use Rattle.dynamo_value.specs.Fault.{Fault}
 use Rattle.dynamo_de.specs.Answer as answer
 use Rattle.dynamo_de.specs.Answer.{Answer, Gives}
@@ -43,10 +44,10 @@ module _ {D : Type 0} (source : D → Source) where
   taken [] new d t = cc
   taken (s ∷ ss) new d t = λ i. sym t.1 i ∷ sym t.0 i
 
-  pub items_step : (all : Answer json.Items) (vs : List Value) (v : Value) (ss new : List Source) (d : D) → TakesElement source ss new (Some d)
-      → ItemsFrom vs ss ≡ all → Gives view (read_json (source d)) (Ok v) → ItemsFrom (vs ++ v ∷ []) new ≡ all
-  items_step all vs v ss new d t so_far given =
-      sym (item_read vs v (source d) new (answered view (read_json (source d)) v given)) ∙ ap (ItemsFrom vs) (sym (taken ss new d t)) ∙ so_far
+  pub items_step : (all : Answer json.Items) (vs ws : List Value) (v : Value) (ss new : List Source) (d : D) → TakesElement source ss new (Some d)
+      → ws ≡ vs ++ v ∷ [] → ItemsFrom vs ss ≡ all → Gives view (read_json (source d)) (Ok v) → ItemsFrom ws new ≡ all
+  items_step all vs ws v ss new d t pushed so_far given =
+      ap (λ xs. ItemsFrom xs new) pushed ∙ sym (item_read vs v (source d) new (answered view (read_json (source d)) v given)) ∙ ap (ItemsFrom vs) (sym (taken ss new d t)) ∙ so_far
 
   pub items_lower : (ss new : List Source) (d : D) → TakesElement source ss new (Some d) → (source_height (source d) ≤ sources_height ss) × (sources_height new ≤ sources_height ss)
   items_lower ss new d t = rw (taken ss new d t) (omega arith, omega arith)
@@ -58,14 +59,16 @@ module _ {D : Type 0} (source : D → Source) where
 
   -- ---- entries
 
-  pub members_step : (all : Answer json.Members) (so_far : json.Members) (name : String Global) (v : Value) (es new : List Entry) (d : D × D) → TakesEntry source es new (Some d)
-      → read_entries so_far es ≡ all → Gives string_bytes (read_string (source d.0)) (Ok name) → Gives view (read_json (source d.1)) (Ok v)
-      → read_entries (put (string_bytes name) (view v) so_far) new ≡ all
-  members_step all so_far name v [] new d t is named given = cc
-  members_step all so_far name v (e ∷ es) new d t is named given =
+  pub members_step : (all : Answer json.Members) (old put_in : List (String Global × Value)) (name : String Global) (v : Value) (es new : List Entry) (d : D × D) → TakesEntry source es new (Some d)
+      → put_in ≡ insert_entry string_cmp old name v → read_entries (members_view old) es ≡ all → Gives string_bytes (read_string (source d.0)) (Ok name) → Gives view (read_json (source d.1)) (Ok v)
+      → read_entries (members_view put_in) new ≡ all
+  members_step all old put_in name v [] new d t inserted is named given = cc
+  members_step all old put_in name v (e ∷ es) new d t inserted is named given =
+      let so_far = members_view old in
       let same_name : e.0 ≡ string_bytes name = value_same (answered string_bytes (read_string (key_text e.0)) name (subst (λ s. Gives string_bytes (read_string s) (Ok name)) t.1 named)) in
       let same_value : read_value e.1 ≡ answer.value (view v) = answered view (read_json (attribute e.1)) v (subst (λ s. Gives view (read_json s) (Ok v)) t.2 given) in
-      (λ i. read_entries (put (sym same_name i) (view v) so_far) (t.0 i)) ∙ sym (ap (λ x. x >>= λ j. read_entries (put e.0 j so_far) es) same_value) ∙ is
+      ap (λ ms. read_entries (members_view ms) new) inserted ∙ ap (λ ms. read_entries ms new) (members_view-insert_entry old name v)
+      ∙ (λ i. read_entries (put (sym same_name i) (view v) so_far) (t.0 i)) ∙ sym (ap (λ x. x >>= λ j. read_entries (put e.0 j so_far) es) same_value) ∙ is
     where
       value_same : {x y : List ℕ} → answer.value x ≡ answer.value y → x ≡ y
       value_same h = cc

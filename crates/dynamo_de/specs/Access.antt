@@ -15,6 +15,11 @@ abbrev pub NextElement : {V E : Type 0} → (E → Fault) → (Source → Result
 NextElement fault reads [] new r = (new ≡ []) × (r ≡ Ok None)
 NextElement fault reads (s ∷ ss) new r = (new ≡ ss) × Element fault (reads s) r
 
+-- The next element where one is required: where none is left, a message.
+abbrev pub RequiredElement : {V E : Type 0} → (E → Fault) → (Source → Result V Fault → Type 0) → List Source → List Source → Result V E → Type 0
+RequiredElement fault reads [] new r = Meets fault IsMessage r
+RequiredElement fault reads (s ∷ ss) new r = (new ≡ ss) × Meets fault (reads s) r
+
 -- What a map access has left: the entries that aren't read yet, and the source of a value whose key was read.
 pub record MapLeft : Type 0 where
   pub entries : List Entry

@@ -16,6 +16,7 @@ use Rattle.dynamo_value.specs.Steps.{◌>>=◌}
 use Rattle.dynamo_de.specs.Number.{parse, is_float_text}
 use Rattle.dynamo_de.specs.Shown.{Shown}
 use Rattle.dynamo_de.specs.Sight as sight
+use Rattle.dynamo_de.specs.Sight.{Sight}
 use Rattle.dynamo_de.specs.Source.{Source, attribute, key_text, number_text, plain_text, byte_string, Entry}
 
 abbrev pub number : ℤ → Data
@@ -98,15 +99,19 @@ narrow i128 z = answer.refused
 narrow u128 z = answer.refused
 narrow kind z = answer.value (number z)
 
+-- of what is shown where nothing lies inside
+abbrev pub read_scalar : Sight → Answer Data
+read_scalar (sight.boolean b) = answer.value (json.boolean b)
+read_scalar (sight.integer kind z) = narrow kind z
+read_scalar (sight.char c) = answer.value (json.string (encode_utf8 c))
+read_scalar (sight.text t) = answer.value (json.string t)
+read_scalar sight.none = answer.value json.null
+read_scalar sight.unit = answer.value json.null
+read_scalar _ = answer.refused
+
 abbrev pub read_shown : Shown → Answer Data
 read_shown (Err f) = answer.fault f
-read_shown (Ok (sight.boolean b)) = answer.value (json.boolean b)
-read_shown (Ok (sight.integer kind z)) = narrow kind z
-read_shown (Ok (sight.char c)) = answer.value (json.string (encode_utf8 c))
-read_shown (Ok (sight.text t)) = answer.value (json.string t)
-read_shown (Ok sight.none) = answer.value json.null
-read_shown (Ok sight.unit) = answer.value json.null
 read_shown (Ok (sight.some s)) = read_json s
 read_shown (Ok (sight.sequence ss)) = read_sources ss >>= λ js. answer.value (json.array js)
 read_shown (Ok (sight.entries es)) = read_entries json.no_members es >>= λ ms. answer.value (json.object ms)
-read_shown (Ok _) = answer.refused
+read_shown (Ok scalar) = read_scalar scalar

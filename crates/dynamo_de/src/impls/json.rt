@@ -2,12 +2,13 @@ ghost use Rattle.std.specs.Prelude.{◌≡◌};
 ghost use Rattle.serde_json.specs.Data as json;
 ghost use Rattle.serde_json.specs.View.{view, items_view, members_view};
 ghost use Rattle.dynamo_de.specs.Answer.{Gives};
-ghost use Rattle.dynamo_de.specs.Meets.{Meets, IsMessage};
-ghost use Rattle.dynamo_de.specs.ReadJson.{read_json, read_sources, read_entries};
+ghost use Rattle.dynamo_de.specs.Meets.{Meets};
+ghost use Rattle.dynamo_de.specs.ReadJson.{read_json, read_scalar, read_sources, read_entries};
+ghost use Rattle.dynamo_de.specs.Shows.{seen};
 
 use super::texts::char_text;
 use crate::taken::invalid_type;
-use crate::{Deserialize, Deserializer, Error, Kind, Reader, Request, Showing};
+use crate::{Deserialize, Deserializer, Error, Reader, Request, Showing};
 use serde_json::{Map, Value};
 use std::alloc::Global;
 
@@ -26,6 +27,22 @@ fn read<R: Reader>(alloc: Global, reader: R) -> Result<Value, R::Error>
     ensures { Meets R.Error.fault (Gives view (read_json (R.source reader))) result }
 {
     match reader.show(Request::Any)? {
+        Showing::Some(content) => read(alloc, content),
+        Showing::Sequence(elements) => Ok(Value::Array(read_elements::<R>(alloc, elements)?)),
+        Showing::Map(entries) => Ok(Value::Object(read_members::<R>(alloc, entries)?)),
+        other => scalar::<R>(alloc, other),
+    }
+}
+
+// The JSON value of what is shown where nothing lies inside.
+#[inline(never)]
+fn scalar<R: Reader>(
+    alloc: Global,
+    shown: Showing<R, R::Elements, R::Entries, R::Choice>,
+) -> Result<Value, R::Error>
+    ensures { Meets R.Error.fault (Gives view (read_scalar (seen R.source R.elements R.entries R.chosen shown))) result }
+{
+    match shown {
         Showing::Bool(v) => Ok(Value::Bool(v)),
         Showing::I8(v) => Ok(Value::from(v)),
         Showing::I16(v) => Ok(Value::from(v)),
@@ -39,16 +56,7 @@ fn read<R: Reader>(alloc: Global, reader: R) -> Result<Value, R::Error>
         Showing::Text(v) => Ok(Value::String(v)),
         Showing::None => Ok(Value::Null),
         Showing::Unit => Ok(Value::Null),
-        Showing::Some(content) => read(alloc, content),
-        Showing::Sequence(elements) => Ok(Value::Array(read_elements::<R>(alloc, elements)?)),
-        Showing::Map(entries) => Ok(Value::Object(read_members::<R>(alloc, entries)?)),
-        Showing::I128(_) => refuse_json(alloc, Kind::I128),
-        Showing::U128(_) => refuse_json(alloc, Kind::U128),
-        Showing::NumberText(_) => refuse_json(alloc, Kind::NumberText),
-        Showing::FirstChar(_) => refuse_json(alloc, Kind::Char),
-        Showing::Bytes(_) => refuse_json(alloc, Kind::Bytes),
-        Showing::Newtype(_) => refuse_json(alloc, Kind::NewtypeStruct),
-        Showing::Enum(_) => refuse_json(alloc, Kind::Enum),
+        other => Err(invalid_type(alloc, other.kind(), "any valid JSON value")),
     }
 }
 
@@ -85,10 +93,4 @@ fn read_members<R: Reader>(
         }
     }
     Ok(members)
-}
-
-fn refuse_json<E: Error>(alloc: Global, shown: Kind) -> Result<Value, E>
-    ensures { Meets E.fault IsMessage result }
-{
-    Err(invalid_type(alloc, shown, "any valid JSON value"))
 }

@@ -1,5 +1,6 @@
 ghost use Rattle.std.specs.Prelude.{◌≡◌, ◌⊎◌, List, Result, Err};
 ghost use Rattle.dynamo_value.specs.Fault.{Fault, out_of_memory};
+ghost use Rattle.dynamo_de.specs.Access.{RequiredElement};
 ghost use Rattle.dynamo_de.specs.Answer.{After};
 ghost use Rattle.dynamo_de.specs.Meets.{Meets, IsMessage};
 ghost use Rattle.dynamo_de.specs.Reading.{taken_from, read_elements};
@@ -63,11 +64,16 @@ impl<T: Deserialize> Deserialize for Vec<T> {
     }
 }
 
-/// The refusal of a sequence that ends before a tuple has its elements.
-fn too_short<E: Error>(alloc: Global) -> E
-    ensures { (E.fault result ≡ out_of_memory) ⊎ IsMessage {V = E} (Err (E.fault result)) }
+/// The next element, which a tuple has to have.
+fn required<T: Deserialize, A: SeqAccess>(alloc: Global, seq: &mut A) -> Result<T, A::Error>
+    ensures { RequiredElement A.Error.fault T.reads (A.left seq.old) (A.left seq.new) result }
 {
-    E::custom(alloc, "invalid length: too few elements, expected a tuple")
+    match seq.next_element(alloc)? {
+        Some(element) => Ok(element),
+        None => {
+            Err(A::Error::custom(alloc, "invalid length: too few elements, expected a tuple"))
+        }
+    }
 }
 
 impl<A: Deserialize, B: Deserialize> FromElements for (A, B) {
@@ -77,14 +83,10 @@ impl<A: Deserialize, B: Deserialize> FromElements for (A, B) {
         "a tuple of 2 elements"
     }
 
-    #[tactic(auto, using(crate::proofs::Each::first_read, crate::proofs::Each::later_fails, crate::proofs::Each::first_lacks, crate::proofs::Each::first_fails))]
+    #[tactic(auto, using(crate::proofs::Each::first_read, crate::proofs::Each::later_fails, crate::proofs::Each::first_fails))]
     fn from_elements<Q: SeqAccess>(alloc: Global, mut seq: Q) -> Result<(A, B), Q::Error> {
-        let Some(first) = seq.next_element::<A>(alloc)? else {
-            return Err(too_short(alloc));
-        };
-        let Some(second) = seq.next_element::<B>(alloc)? else {
-            return Err(too_short(alloc));
-        };
+        let first = required(alloc, &mut seq)?;
+        let second = required(alloc, &mut seq)?;
         Ok((first, second))
     }
 }
@@ -104,17 +106,11 @@ impl<A: Deserialize, B: Deserialize, C: Deserialize> FromElements for (A, B, C) 
         "a tuple of 3 elements"
     }
 
-    #[tactic(auto, using(crate::proofs::Each::first_read, crate::proofs::Each::later_fails, crate::proofs::Each::first_lacks, crate::proofs::Each::first_fails))]
+    #[tactic(auto, using(crate::proofs::Each::first_read, crate::proofs::Each::later_fails, crate::proofs::Each::first_fails))]
     fn from_elements<Q: SeqAccess>(alloc: Global, mut seq: Q) -> Result<(A, B, C), Q::Error> {
-        let Some(first) = seq.next_element::<A>(alloc)? else {
-            return Err(too_short(alloc));
-        };
-        let Some(second) = seq.next_element::<B>(alloc)? else {
-            return Err(too_short(alloc));
-        };
-        let Some(third) = seq.next_element::<C>(alloc)? else {
-            return Err(too_short(alloc));
-        };
+        let first = required(alloc, &mut seq)?;
+        let second = required(alloc, &mut seq)?;
+        let third = required(alloc, &mut seq)?;
         Ok((first, second, third))
     }
 }
@@ -134,20 +130,12 @@ impl<A: Deserialize, B: Deserialize, C: Deserialize, D: Deserialize> FromElement
         "a tuple of 4 elements"
     }
 
-    #[tactic(auto, using(crate::proofs::Each::first_read, crate::proofs::Each::later_fails, crate::proofs::Each::first_lacks, crate::proofs::Each::first_fails))]
+    #[tactic(auto, using(crate::proofs::Each::first_read, crate::proofs::Each::later_fails, crate::proofs::Each::first_fails))]
     fn from_elements<Q: SeqAccess>(alloc: Global, mut seq: Q) -> Result<(A, B, C, D), Q::Error> {
-        let Some(first) = seq.next_element::<A>(alloc)? else {
-            return Err(too_short(alloc));
-        };
-        let Some(second) = seq.next_element::<B>(alloc)? else {
-            return Err(too_short(alloc));
-        };
-        let Some(third) = seq.next_element::<C>(alloc)? else {
-            return Err(too_short(alloc));
-        };
-        let Some(fourth) = seq.next_element::<D>(alloc)? else {
-            return Err(too_short(alloc));
-        };
+        let first = required(alloc, &mut seq)?;
+        let second = required(alloc, &mut seq)?;
+        let third = required(alloc, &mut seq)?;
+        let fourth = required(alloc, &mut seq)?;
         Ok((first, second, third, fourth))
     }
 }
