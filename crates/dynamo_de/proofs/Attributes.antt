@@ -83,10 +83,6 @@ unfolding as_list as_elements
 listed (Ok values) = refl
 listed (Err rs) = refl
 
-in_two : {A B C : Type 0} (x : Reading A) (f : A → Reading B) (g : B → Reading C) → ((x >>= f) >>= g) ≡ (x >>= λ y. f y >>= g)
-in_two (Ok y) f g = refl
-in_two (Err rs) f g = refl
-
 -- what is opened whole is the value
 in_whole : {A : Type 0} (x : Reading A) (f : A → Av) → (x >>= λ y. Ok (f y)) ≡ ((x >>= λ y. Ok (whole (f y))) >>= read_opened)
 in_whole (Ok y) f = refl

@@ -88,31 +88,6 @@ value_more fault P Q more old new r h = along old.pending h
     along None h = h
     along (Some s) h = (h.0, h.1, meets_more fault (P s) (Q s) (more s) r h.2)
 
--- what a list reads, made of what its elements read
-pub list_made : {T A B : Type 0} (seen : T → A) (make : A → B) (reads : Source → Answer A) (s : Source) (r : Result (Vec T Global) Fault) → After (read_elements s) (ReadsList (λ s. Gives seen (reads s))) r
-    → Gives (λ v. map (λ x. make (seen x)) v.items) (read_elements s >>= read_all (λ s. reads s >>= λ x. answer.value (make x))) r
-list_made {T} seen make reads s r h = along (read_elements s) r h
-  where
-    each : (ss : List Source) (r : Result (List T) Fault) → ReadsEach (λ s. Gives seen (reads s)) ss r → ReadsEach (λ s. Gives (λ x. make (seen x)) (reads s >>= λ x. answer.value (make x))) ss r
-    each [] (Ok vs) h = h
-    each [] (Err f) h = h
-    each (s ∷ ss) (Ok vs) h = (h.0, h.1, h.2, made seen make (reads s) (Ok h.0) h.3, each ss (Ok h.1) h.4)
-    each (s ∷ ss) (Err f) h = elim h [ inl failed ↦ inl (made seen make (reads s) (Err f) failed) | inr later ↦ inr (later.0, made seen make (reads s) (Ok later.0) later.1, each ss (Err f) later.2) ]
-
-    along : (x : Answer (List Source)) (r : Result (Vec T Global) Fault) → After x (ReadsList (λ s. Gives seen (reads s))) r
-        → Gives (λ v. map (λ x. make (seen x)) v.items) (x >>= read_all (λ s. reads s >>= λ x. answer.value (make x))) r
-    along (Ok ss) (Ok v) h = listed (read_all (λ s. reads s >>= λ x. answer.value (make x)) ss) v (each_gives (λ x. make (seen x)) (λ s. reads s >>= λ x. answer.value (make x)) ss (Ok v.items) (each ss (Ok v.items) h))
-      where
-        listed : (y : Answer (List _)) (v : Vec T Global) → Gives (λ vs. map (λ x. make (seen x)) vs) y (Ok v.items) → Gives (λ v. map (λ x. make (seen x)) v.items) y (Ok v)
-        listed (Ok ws) v h = h
-        listed (Err g) v h = h
-    along (Ok ss) (Err f) h = failed (read_all (λ s. reads s >>= λ x. answer.value (make x)) ss) (each_gives (λ x. make (seen x)) (λ s. reads s >>= λ x. answer.value (make x)) ss (Err f) (each ss (Err f) h))
-      where
-        failed : (y : Answer (List _)) → Gives (λ (vs : List T). map (λ x. make (seen x)) vs) y (Err f) → Gives (λ (v : Vec T Global). map (λ x. make (seen x)) v.items) y (Err f)
-        failed (Ok ws) h = h
-        failed (Err g) h = h
-    along (Err g) r h = h
-
 -- ---- by name
 
 module _ {F S A V E : Type 0} (fault : E → Fault) (named : List ℕ → F) (entry : F → S → Av → Answer S) (finish : S → Answer A) (next : A → Result V Fault → Type 0) (es : List Entry) (start so_far : S) (old new : MapLeft) where

@@ -91,10 +91,6 @@ one_more : (ds : List Data) (d : Data) (o : Option (Items × List Token)) → pa
 one_more ds d None = refl
 one_more ds d (Some p) = ap (λ js. Some (js, p.1)) (before_one ds d p.0)
 
-none_before : (o : Option (Items × List Token)) → o ≡ parse_map (before []) o
-none_before None = refl
-none_before (Some p) = refl
-
 with_item : (j : json.Json) (d : Data) → of_json j ≡ Some d → (o : Option (json.Items × List Token)) → converted of_items (parse_map (json.item j) o) ≡ parse_map (item d) (converted of_items o)
 with_item j d e None = refl
 with_item j d e (Some p) = rw e (twice (item d) p.1 (of_items p.0))
@@ -111,9 +107,6 @@ all_and P (b ∷ as') a all here = (all.0, all_and P as' a all.1 here)
 abbrev pub ItemsLeft : ℕ → List Token → List Data → List Token → Type 0
 ItemsLeft depth all ds ts = (n : ℕ) × (length ts ≤ n) × (length ts ≤ length all)
     × (converted of_items (items (value depth) (length all) all) ≡ parse_map (before ds) (converted of_items (items (value depth) n ts)))
-
-pub items_begin : (depth : ℕ) (all : List Token) → ItemsLeft depth all [] all
-items_begin depth all = (length all, omega arith, omega arith, none_before _)
 
 pub items_next : (depth : ℕ) (all : List Token) (ds : List Data) (ts r : List Token) (d : Data) (more : List Data) → ItemsLeft depth all ds ts → after_end_array ts ≡ None
     → Stands depth ts d r → length r < length ts → more ≡ ds ++ d ∷ [] → ItemsLeft depth all more r

@@ -131,26 +131,3 @@ pub name_past : {A : Type 0} (f : A → Text) (xs : List A) (i : ℕ) → length
 name_past f [] i h = none_there i
 name_past f (y ∷ ys) zero h = absurd (let k : ⊥ = omega arith in k)
 name_past f (y ∷ ys) (suc i) h = name_past f ys i (let k : length ys ≤ i = omega arith in k)
-
--- The place of a name that none has before place i.
-module _ {A : Type 0} (f : A → Text) (t : Text) where
-  abbrev pub StillPlaced : List A → ℕ → Type 0
-  StillPlaced xs i = place_of 0 (map f xs) t ≡ place_of i (map f (drop i xs)) t
-
-  stays : (xs : List A) (i : ℕ) (d : A) (b : Bool) → i < length xs → b ≡ bytes_eq t (f (get_or xs i d)) → StillPlaced xs i → place_of 0 (map f xs) t ≡ (if b then i else place_of (suc i) (map f (drop (suc i) xs)) t)
-  stays xs i d b h is so_far = so_far ∙ ap (λ ys. place_of i (map f ys) t) (drop-cons xs i d h) ∙ ap (λ b. if b then i else place_of (suc i) (map f (drop (suc i) xs)) t) (sym is)
-
-  pub placed_here : (xs : List A) (i : ℕ) (d : A) → i < length xs → true ≡ bytes_eq t (f (get_or xs i d)) → StillPlaced xs i → place_of 0 (map f xs) t ≡ i
-  placed_here xs i d h is so_far = stays xs i d true h is so_far
-
-  pub placed_behind : (xs : List A) (i : ℕ) (d : A) → i < length xs → false ≡ bytes_eq t (f (get_or xs i d)) → StillPlaced xs i → StillPlaced xs (i + 1)
-  placed_behind xs i d h is so_far = let next : suc i ≡ i + 1 = omega arith in subst (StillPlaced xs) next (stays xs i d false h is so_far)
-
-  none_left : (xs : List A) (i : ℕ) → length xs ≤ i → drop i xs ≡ []
-  none_left [] zero h = refl
-  none_left [] (suc i) h = refl
-  none_left (x ∷ xs) zero h = absurd (let k : ⊥ = omega arith in k)
-  none_left (x ∷ xs) (suc i) h = none_left xs i (let k : length xs ≤ i = omega arith in k)
-
-  pub placed_nowhere : (xs : List A) (i : ℕ) → length xs ≤ i → StillPlaced xs i → place_of 0 (map f xs) t ≡ i
-  placed_nowhere xs i h so_far = so_far ∙ ap (λ ys. place_of i (map f ys) t) (none_left xs i h)

@@ -12,9 +12,6 @@ use Rattle.dynamo_serde.specs.declared.tape.Token as tape
 use Rattle.dynamo_serde.specs.declared.tape.Token.TheVariants as token
 use Rattle.dynamo_serde.proofs.Logged.{map_push}
 
-pub row_push : (old new : List tape.Token) (t : tape.Token) → new ≡ old ++ t ∷ [] → row new ≡ row old ++ token_of t ∷ []
-row_push old new t is = ap row is ∙ map_push token_of old t
-
 -- what stands between two ends
 between : (first last : Token) (inside old begun mid new : List Token) → begun ≡ old ++ first ∷ [] → mid ≡ begun ++ inside → new ≡ mid ++ last ∷ []
     → new ≡ old ++ (first ∷ (inside ++ last ∷ []))
@@ -27,13 +24,6 @@ module _ {A : Type 0} (make : List ℕ → Token) (f : A → List ℕ) where
   -- of all, those before i are laid
   abbrev pub LaidUpTo : List A → ℕ → List Token → List Token → Type 0
   LaidUpTo xs i old new = new ≡ old ++ map make (map f (take i xs))
-
-  pub laid_more : (xs : List A) (i : ℕ) (x : A) (old mid new : List Token) → i < length xs → x ≡ get_or xs i x → LaidUpTo xs i old mid → new ≡ mid ++ make (f x) ∷ [] → LaidUpTo xs (i + 1) old new
-  laid_more xs i x old mid new lt is h k =
-      let taken : take (i + 1) xs ≡ take i xs ++ x ∷ [] = take_more xs i x lt ∙ ap (λ y. take i xs ++ y ∷ []) (sym is) in
-      let same : map make (map f (take (i + 1) xs)) ≡ map make (map f (take i xs)) ++ make (f x) ∷ [] =
-      ap (λ ys. map make (map f ys)) taken ∙ ap (map make) (map_push f (take i xs) x) ∙ map_push make (map f (take i xs)) (f x) in
-      k ∙ ap (λ ts. ts ++ make (f x) ∷ []) h ∙ append_assoc old (map make (map f (take i xs))) (make (f x) ∷ []) ∙ ap (λ ts. old ++ ts) (sym same)
 
   pub laid_all : (xs ys : List A) (i : ℕ) (first last : Token) (old begun mid new : List Token) → ys ≡ xs → length ys ≤ i
       → begun ≡ old ++ first ∷ [] → LaidUpTo ys i begun mid → new ≡ mid ++ last ∷ [] → new ≡ old ++ (first ∷ (map make (map f xs) ++ last ∷ []))

@@ -15,11 +15,6 @@ use Rattle.dynamo_serde.proofs.Told.{is_written}
 pub written_so : (writes : Log → Log → Type 0) (d : Datum) (a : Av) → Sends writes d → IsTold d → (log : Log) × writes (Some []) log × IsValueOf log a → written d ≡ Ok a
 written_so writes d a sends is h = is_written d a is (subst (λ log. IsValueOf log a) (sends [] h.0 h.1) h.2)
 
-pub option_sends : {A : Type 0} (w : A → Log → Log → Type 0) (tell : A → Datum) → ((x : A) → Sends (w x) (tell x)) → (o : Option A)
-    → Sends (WritesOption w o) (elim o [ None ↦ datum.none | Some x ↦ datum.some (tell x) ])
-option_sends w tell each None es new h = h
-option_sends w tell each (Some x) es new h = each x es new h
-
 counted : {A : Type 0} (tell : A → Datum) (xs : List A) → elements_count (elements_of (map tell xs)) ≡ length xs
 counted tell [] = refl
 counted tell (x ∷ xs) = omega (arith, counted tell xs)

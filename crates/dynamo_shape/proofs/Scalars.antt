@@ -15,15 +15,8 @@ use Rattle.dynamo_shape.specs.Same.{Same}
 use Rattle.dynamo_shape.specs.Shape as shape
 use Rattle.dynamo_shape.proofs.Alike.{same_refl}
 
-abbrev fault_or : {T : Type 0} → Result T Fault → Fault → Fault
-fault_or (Ok v) f = f
-fault_or (Err g) f = g
-
 pub no_fault : {T : Type 0} {v : T} {f : Fault} → ◌≡◌ {A = Result T Fault} (Ok v) (Err f) → ⊥
 no_fault h = true≢false (ap is_ok h)
-
-pub same_fault : {T : Type 0} {f g : Fault} → ◌≡◌ {A = Result T Fault} (Err g) (Err f) → g ≡ f
-same_fault {f = f} h = ap (λ r. fault_or r f) h
 
 -- a call that gives what is read gives what is read by shape
 pub given : {A T : Type 0} (C : Datum → Type 0) (seen : T → A) (make : A → Datum) (a : Answer A) (r : Result T Fault) → Gives seen a r → AnswersByShape C Same (λ v. make (seen v)) (into make a) r
