@@ -3,15 +3,12 @@ use Rattle.std.proofs.Common.{◌≡◌, ◌⊎◌, ℕ, List, [], ◌∷◌, ma
 use Rattle.dynamo_value.specs.Av.{Av}
 use Rattle.dynamo_value.specs.Fault.{Fault, out_of_memory}
 use Rattle.dynamo_de.specs.Access.{NextElement, MapLeft, KeyOf, NextKey, ValueOf, NextValue}
-use Rattle.std.specs.declared.alloc.Global.{Global}
-use Rattle.std.specs.declared.vec.Vec.{Vec}
 use Rattle.dynamo_de.specs.Answer as answer
 use Rattle.dynamo_de.specs.Answer.{Answer, After, Is, Gives}
 use Rattle.dynamo_value.specs.Steps.{◌>>=◌}
-use Rattle.dynamo_de.specs.Reading.{read_elements}
 use Rattle.dynamo_de.specs.Fields.{NamesOne, read_first, read_fields, read_all, LeadsTo}
 use Rattle.dynamo_de.specs.Meets.{IsMessage}
-use Rattle.dynamo_de.specs.Reads.{ReadsEach, ReadsList}
+use Rattle.dynamo_de.specs.Reads.{ReadsEach}
 use Rattle.dynamo_de.specs.Source.{Source, Entry, attribute}
 use Rattle.dynamo_de.proofs.Meets.{meets_more}
 

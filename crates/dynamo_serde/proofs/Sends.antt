@@ -1,7 +1,7 @@
 -- The events of serde's own impls: those of the datum that the library's own impl tells for the same value.
-use Rattle.std.proofs.Common.{◌≡◌, arith, List, [], ◌∷◌, ◌++◌, map, length, Option, Some, None, refl, sym, ap, ◌∙◌, subst, append_assoc, append-nil}
+use Rattle.std.proofs.Common.{◌≡◌, arith, List, [], ◌∷◌, ◌++◌, map, length, Some, refl, sym, ap, ◌∙◌, subst, append_assoc, append-nil}
 use Rattle.serde.specs.Event as event
-use Rattle.serde.specs.Event.{Event, Log, WritesEach, WritesSeq, WritesOption}
+use Rattle.serde.specs.Event.{Event, Log, WritesEach, WritesSeq}
 use Rattle.dynamo_value.specs.Av.{Av}
 use Rattle.dynamo_ser.specs.Datum as datum
 use Rattle.dynamo_ser.specs.Datum.{Datum, elements_of}
