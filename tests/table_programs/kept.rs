@@ -20,6 +20,16 @@ fn print_life<S: Alter + Drop>(
     Ok(())
 }
 
+// The same items without the type.
+fn print_items<S: Alter + Drop>(
+    rt: &HostRuntime,
+    mut store: TypedStore<Member, S>,
+) -> anyhow::Result<()> {
+    store.put(&member(rt.alloc(), "a2", "Arthur", 42)?)?;
+    println!(rt; "items {}", store.into_items().count()?)?;
+    Ok(())
+}
+
 /// Prints what calls on a table of members in a database in memory answer.
 ///
 /// # Errors
@@ -28,5 +38,6 @@ fn print_life<S: Alter + Drop>(
 pub fn print_calls(rt: &HostRuntime) -> anyhow::Result<()> {
     let conn = Connection::open_in_memory(rt.alloc())?;
     let mut store: TypedStore<Member, MemStore> = TypedStore::create(rt.alloc(), conn, "members")?;
-    print_life(rt, &mut store)
+    print_life(rt, &mut store)?;
+    print_items(rt, store)
 }

@@ -1,3 +1,7 @@
+ghost use Rattle.std.specs.Prelude.{◌≡◌, IfOk};
+ghost use Rattle.table_key.specs.KeyOf.{words_of};
+ghost use Rattle.table_store.specs.Content.{schema_of};
+
 use crate::TableStore;
 use sqlite::{Connection, File, FileStore, MemStore};
 use std::alloc::Global;
@@ -13,7 +17,9 @@ pub fn create_in_memory(
     alloc: Global,
     name: &str,
     schema: KeySchema,
-) -> Result<TableStore<MemStore>, StoreError> {
+) -> Result<TableStore<MemStore>, StoreError>
+    ensures { IfOk result (λ store. words_of (schema_of store) ≡ words_of schema) }
+{
     let conn = Connection::open_in_memory(alloc)?;
     TableStore::create(alloc, conn, name, schema)
 }
@@ -29,7 +35,9 @@ pub fn create_at(
     path: &str,
     name: &str,
     schema: KeySchema,
-) -> Result<TableStore<FileStore<File>>, StoreError> {
+) -> Result<TableStore<FileStore<File>>, StoreError>
+    ensures { IfOk result (λ store. words_of (schema_of store) ≡ words_of schema) }
+{
     TableStore::create(rt.alloc(), connect(rt, path)?, name, schema)
 }
 

@@ -1,5 +1,5 @@
-ghost use Rattle.std.specs.Prelude.{◌≡◌};
-ghost use Rattle.table_key.specs.KeyOf.{ReadsKey};
+ghost use Rattle.std.specs.Prelude.{◌≡◌, IfOk};
+ghost use Rattle.table_key.specs.KeyOf.{ReadsKey, words_of};
 ghost use Rattle.table_store.specs.Content.{NeedsKey, schema_of};
 
 use crate::depth::is_kept;
@@ -20,7 +20,7 @@ pub struct TableStore<S: Alter + Drop> {
 }
 
 impl<S: Alter + Drop> TableStore<S> {
-    /// The table of this name in a database, made where there is none.
+    /// The table of this name in a database, with these keys, made where there is none.
     ///
     /// # Errors
     ///
@@ -30,7 +30,9 @@ impl<S: Alter + Drop> TableStore<S> {
         mut conn: Connection<S>,
         name: &str,
         schema: KeySchema,
-    ) -> Result<TableStore<S>, StoreError> {
+    ) -> Result<TableStore<S>, StoreError>
+        ensures { IfOk result (λ store. words_of (schema_of store) ≡ words_of schema) }
+    {
         make_tables(&mut conn)?;
         if Definition::find(alloc, &mut conn, name)?.is_none() {
             Definition::add(alloc, &mut conn, name, &schema)?;

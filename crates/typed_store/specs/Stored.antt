@@ -11,11 +11,15 @@ use Rattle.table_key.specs.KeyOf.{ReadsKey}
 use Rattle.table_key.specs.declared.key.Key.{Key}
 use Rattle.table_key.specs.declared.schema.KeySchema.{KeySchema}
 use Rattle.table_store.specs.Content as store
+use Rattle.table_store.specs.declared.store.TableStore.{TableStore}
 use Rattle.typed_table.specs.Stored.{IsItemOf}
 use Rattle.typed_store.specs.declared.store.TypedStore.{TypedStore}
 
+abbrev pub store_of : {T S : Type 0} → TypedStore T S → TableStore S
+store_of t = t.store
+
 abbrev pub schema_of : {T S : Type 0} → TypedStore T S → KeySchema
-schema_of t = store.schema_of t.store
+schema_of t = store.schema_of (store_of t)
 
 -- the key is that of the item that the value is written as
 abbrev pub IsKeyOf : {T : Type 0} → Shape → (T → Datum) → KeySchema → T → Key → Type 0

@@ -1,5 +1,5 @@
-ghost use Rattle.std.specs.Prelude.{All, IfOk, IfSome};
-ghost use Rattle.typed_store.specs.Stored.{IsKeyOf, WasRead, schema_of};
+ghost use Rattle.std.specs.Prelude.{◌≡◌, All, IfOk, IfSome};
+ghost use Rattle.typed_store.specs.Stored.{IsKeyOf, WasRead, schema_of, store_of};
 
 use crate::TypedError;
 use dynamo_value::Item;
@@ -35,7 +35,9 @@ impl<T: Keyed, S: Alter + Drop> TypedStore<T, S> {
     }
 
     /// The table of the items, taken out.
-    pub fn into_items(self) -> TableStore<S> {
+    pub fn into_items(self) -> TableStore<S>
+        ensures { result ≡ store_of self }
+    {
         self.store
     }
 
@@ -45,7 +47,8 @@ impl<T: Keyed, S: Alter + Drop> TypedStore<T, S> {
     ///
     /// `Value` where the value isn't written as an item, and `Store` with the errors of [`TableStore::put`].
     pub fn put(&mut self, value: &T) -> Result<Key, TypedError>
-        ensures { IfOk result (IsKeyOf T.about.shape T.tells (schema_of self.old) value.now) }
+        ensures key { IfOk result (IsKeyOf T.about.shape T.tells (schema_of self.old) value.now) }
+        ensures schema { schema_of self.new ≡ schema_of self.old }
     {
         let item = item_of(self.alloc, value)?;
         let key = self.store.key_of(&item)?;
@@ -59,7 +62,8 @@ impl<T: Keyed, S: Alter + Drop> TypedStore<T, S> {
     ///
     /// `Value` with what reading the item permits, and `Store` with the errors of [`TableStore::get`].
     pub fn get(&mut self, key: &Key) -> Result<Option<T>, TypedError>
-        ensures { IfOk result (λ found. IfSome found (WasRead T.reads)) }
+        ensures read { IfOk result (λ found. IfSome found (WasRead T.reads)) }
+        ensures schema { schema_of self.new ≡ schema_of self.old }
     {
         match self.store.get(key)? {
             Some(item) => Ok(Some(value_of(self.alloc, &item)?)),
@@ -72,7 +76,9 @@ impl<T: Keyed, S: Alter + Drop> TypedStore<T, S> {
     /// # Errors
     ///
     /// `Store` with the errors of [`TableStore::delete`].
-    pub fn delete(&mut self, key: &Key) -> Result<bool, TypedError> {
+    pub fn delete(&mut self, key: &Key) -> Result<bool, TypedError>
+        ensures schema { schema_of self.new ≡ schema_of self.old }
+    {
         Ok(self.store.delete(key)?.is_some())
     }
 
@@ -82,7 +88,8 @@ impl<T: Keyed, S: Alter + Drop> TypedStore<T, S> {
     ///
     /// `Value` with what reading one of the items permits, and `Store` with the errors of [`TableStore::query`].
     pub fn query(&mut self, query: &Query<'_>) -> Result<Vec<T>, TypedError>
-        ensures { IfOk result (λ values. All (WasRead T.reads) values.items) }
+        ensures read { IfOk result (λ values. All (WasRead T.reads) values.items) }
+        ensures schema { schema_of self.new ≡ schema_of self.old }
     {
         let found = self.store.query(query)?;
         self.values_of(found.as_slice())
