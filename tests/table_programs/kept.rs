@@ -20,7 +20,7 @@ fn print_life<S: Alter + Drop>(
     Ok(())
 }
 
-// The same items without the type.
+// How many items there are, by the table that is taken out.
 fn print_items<S: Alter + Drop>(
     rt: &HostRuntime,
     mut store: TypedStore<Member, S>,

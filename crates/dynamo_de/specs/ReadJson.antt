@@ -99,7 +99,7 @@ narrow i128 z = answer.refused
 narrow u128 z = answer.refused
 narrow kind z = answer.value (number z)
 
--- of what is shown where nothing lies inside
+-- What a scalar that is shown is read as. Any other sight is refused.
 abbrev pub read_scalar : Sight → Answer Data
 read_scalar (sight.boolean b) = answer.value (json.boolean b)
 read_scalar (sight.integer kind z) = narrow kind z
@@ -109,6 +109,7 @@ read_scalar sight.none = answer.value json.null
 read_scalar sight.unit = answer.value json.null
 read_scalar _ = answer.refused
 
+-- What is read of what is shown: what lies inside, level by level, and else the scalar.
 abbrev pub read_shown : Shown → Answer Data
 read_shown (Err f) = answer.fault f
 read_shown (Ok (sight.some s)) = read_json s

@@ -15,6 +15,7 @@ use Rattle.table_store.specs.declared.store.TableStore.{TableStore}
 use Rattle.typed_table.specs.Stored.{IsItemOf}
 use Rattle.typed_store.specs.declared.store.TypedStore.{TypedStore}
 
+-- the table of the items, and what its keys are
 abbrev pub store_of : {T S : Type 0} → TypedStore T S → TableStore S
 store_of t = t.store
 

@@ -34,7 +34,7 @@ fn read<R: Reader>(alloc: Global, reader: R) -> Result<Value, R::Error>
     }
 }
 
-// The JSON value of what is shown where nothing lies inside.
+// The JSON value of a scalar. It isn't inlined, so that no scalar lies in the frame of a level.
 #[inline(never)]
 fn scalar<R: Reader>(
     alloc: Global,

@@ -1,8 +1,8 @@
-ghost use Rattle.std.specs.Prelude.{◌≡◌, ◌⊎◌, List, Result, Err};
-ghost use Rattle.dynamo_value.specs.Fault.{Fault, out_of_memory};
+ghost use Rattle.std.specs.Prelude.{◌≡◌, List, Result};
+ghost use Rattle.dynamo_value.specs.Fault.{Fault};
 ghost use Rattle.dynamo_de.specs.Access.{RequiredElement};
 ghost use Rattle.dynamo_de.specs.Answer.{After};
-ghost use Rattle.dynamo_de.specs.Meets.{Meets, IsMessage};
+ghost use Rattle.dynamo_de.specs.Meets.{Meets};
 ghost use Rattle.dynamo_de.specs.Reading.{taken_from, read_elements};
 ghost use Rattle.dynamo_de.specs.Reads.{ReadsList, ReadsTwo, ReadsThree, ReadsFour};
 ghost use Rattle.dynamo_de.specs.Source.{Source};
