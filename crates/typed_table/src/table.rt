@@ -1,4 +1,4 @@
-ghost use Rattle.std.specs.Prelude.{◌≡◌, ◌≢◌, ◌⊎◌, [], None, IfOk, IfErr, OnErr, OnOk, MatchOption, MatchResult};
+ghost use Rattle.std.specs.Prelude.{◌≡◌, ◌≢◌, ◌⊎◌, [], None, IfOk, IfErr, OnErr, OnOk, MatchOption, MatchResult, is_some};
 ghost use Rattle.std.specs.BTreeMap.{get, Updates};
 ghost use Rattle.std.specs.declared.cmp.Ordering.TheVariants.{Equal};
 ghost use Rattle.dynamo_value.specs.Fault.{out_of_memory};
@@ -89,6 +89,7 @@ impl<T: Keyed> TypedTable<T> {
 
     /// Takes out what is under a key, and answers whether there was anything.
     pub fn delete(&mut self, key: &Key) -> bool
+        ensures answer { result ≡ is_some (get key_cmp (items_of (table_of self.old)) key.now) }
         ensures updates { Updates key_cmp (items_of (table_of self.old)) (items_of (table_of self.new)) key.now None }
         ensures schema { schema_of (table_of self.new) ≡ schema_of (table_of self.old) }
     {
