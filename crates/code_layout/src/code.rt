@@ -1,6 +1,7 @@
 // Code, and its layout, which is that of `rt fmt`.
-use crate::layout::{each_on_a_line, filled, fits, joined};
+use crate::layout::{each_on_a_line, filled, fits};
 use std::alloc::{AllocError, Global};
+use std::convert::AsStr;
 
 // The width past which arguments, tuples and arrays stand on several lines.
 const LIST_WIDTH: usize = 60;
@@ -74,6 +75,21 @@ impl ListKind {
             ListKind::Arguments | ListKind::Tuple | ListKind::Array
         )
     }
+
+    // The lines of the items, which are laid out as these texts.
+    fn lines(
+        self,
+        alloc: Global,
+        indent: &str,
+        items: &[Code],
+        texts: &[String],
+    ) -> Result<String, AllocError> {
+        if self.fills() && items.iter().all(Code::is_short) {
+            filled(alloc, indent, texts)
+        } else {
+            each_on_a_line(alloc, indent, texts)
+        }
+    }
 }
 
 impl Code {
@@ -93,15 +109,15 @@ impl Code {
     }
 
     /// The list of these texts.
-    pub fn list_of_texts(
+    pub fn list_of_texts<S: AsStr>(
         alloc: Global,
         kind: ListKind,
         open: &str,
-        texts: &[String],
+        texts: &[S],
     ) -> Result<Code, AllocError> {
         let mut items = Vec::new(alloc);
         for text in texts {
-            items.push(Code::Text(text.clone()?))?;
+            items.push(Code::text(alloc, text.as_str())?)?;
         }
         Code::list(alloc, kind, open, items)
     }
@@ -135,7 +151,7 @@ impl Code {
                 for item in items {
                     lines.push(item.line(alloc)?)?;
                 }
-                let inside = joined(alloc, lines.as_slice(), ", ")?;
+                let inside = lines.join(alloc, ", ")?;
                 format!(in alloc; "{open}{padding}{inside}{padding}{close}")
             }
         }
@@ -156,6 +172,18 @@ impl Code {
         Ok(kind.allows(items.len(), columns))
     }
 
+    // Whether it may stand on one line, as this, between those.
+    fn fits_between(
+        &self,
+        alloc: Global,
+        before: &str,
+        line: &str,
+        behind: &str,
+    ) -> Result<bool, AllocError> {
+        let whole = format!(in alloc; "{before}{line}{behind}")?;
+        Ok(self.is_narrow(alloc)? && fits(whole.as_str()))
+    }
+
     /// The code on as many lines as it needs, the last of which is indented by this. Before the code this stands on the first
     /// line, and behind it that on the last.
     pub fn laid_out(
@@ -169,8 +197,7 @@ impl Code {
         let Code::List { kind, open, items } = self else {
             return Ok(line);
         };
-        let whole = format!(in alloc; "{before}{line}{behind}")?;
-        if self.is_narrow(alloc)? && fits(whole.as_str()) {
+        if self.fits_between(alloc, before, line.as_str(), behind)? {
             return Ok(line);
         }
         let close = kind.close();
@@ -185,11 +212,7 @@ impl Code {
         for item in items {
             texts.push(item.laid_out(alloc, deeper.as_str(), deeper.as_str(), ",")?)?;
         }
-        let lines = if kind.fills() && items.iter().all(Code::is_short) {
-            filled(alloc, deeper.as_str(), texts.as_slice())?
-        } else {
-            each_on_a_line(alloc, deeper.as_str(), texts.as_slice())?
-        };
+        let lines = kind.lines(alloc, deeper.as_str(), items.as_slice(), texts.as_slice())?;
         format!(in alloc; "{open}\n{lines}{indent}{close}")
     }
 }

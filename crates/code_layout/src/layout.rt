@@ -18,18 +18,6 @@ pub fn fits(line: &str) -> bool {
     line.chars().count() <= WIDTH
 }
 
-/// The texts, with this between them.
-pub fn joined(alloc: Global, texts: &[String], between: &str) -> Result<String, AllocError> {
-    let mut line = String::new(alloc);
-    for text in texts {
-        if !line.is_empty() {
-            line.push_str(between)?;
-        }
-        line.push_str(text.as_str())?;
-    }
-    Ok(line)
-}
-
 /// The texts in quotes.
 pub fn quoted(alloc: Global, texts: &[String]) -> Result<Vec<String>, AllocError> {
     let mut found = Vec::new(alloc);
@@ -46,11 +34,7 @@ pub fn signature(
     parameters: &[&str],
     answer: &str,
 ) -> Result<String, AllocError> {
-    let mut texts = Vec::new(alloc);
-    for parameter in parameters {
-        texts.push(String::from_str(alloc, parameter)?)?;
-    }
-    let code = Code::list_of_texts(alloc, ListKind::Parameters, open, texts.as_slice())?;
+    let code = Code::list_of_texts(alloc, ListKind::Parameters, open, parameters)?;
     let behind = format!(in alloc; " -> {answer} {{")?;
     let code = code.laid_out(alloc, "    ", "    ", behind.as_str())?;
     format!(in alloc; "    {code}{behind}")
@@ -77,20 +61,31 @@ pub fn binding(alloc: Global, pattern: &Code) -> Result<String, AllocError> {
 /// An arm of a match. Its body stands beside the pattern, or else between braces.
 pub fn arm(alloc: Global, pattern: &Code, body: &Code) -> Result<String, AllocError> {
     let pattern = pattern.laid_out(alloc, ARM, ARM, " =>")?;
-    let start = match pattern.rsplit_once('\n') {
-        Some((_, last)) => format!(in alloc; "{last} =>")?,
-        None => format!(in alloc; "{ARM}{pattern} =>")?,
-    };
-    if let Some(beside) = beside(alloc, start.as_str(), body)? {
-        return format!(in alloc; "{ARM}{pattern} => {beside},\n");
+    let start = last_line(alloc, pattern.as_str())?;
+    let body = behind_arrow(alloc, start.as_str(), body)?;
+    format!(in alloc; "{ARM}{pattern} =>{body}")
+}
+
+// The last line of the pattern of an arm, with the arrow.
+fn last_line(alloc: Global, pattern: &str) -> Result<String, AllocError> {
+    match pattern.rsplit_once('\n') {
+        Some((_, last)) => format!(in alloc; "{last} =>"),
+        None => format!(in alloc; "{ARM}{pattern} =>"),
+    }
+}
+
+// What stands behind the arrow of an arm, whose line begins so.
+fn behind_arrow(alloc: Global, start: &str, body: &Code) -> Result<String, AllocError> {
+    if let Some(beside) = beside(alloc, start, body)? {
+        return format!(in alloc; " {beside},\n");
     }
     let opened = format!(in alloc; "{start} {{")?;
     if fits(opened.as_str()) {
         let body = body.laid_out(alloc, INSIDE_ARM, INSIDE_ARM, "")?;
-        return format!(in alloc; "{ARM}{pattern} => {{\n{INSIDE_ARM}{body}\n{ARM}}}\n");
+        return format!(in alloc; " {{\n{INSIDE_ARM}{body}\n{ARM}}}\n");
     }
     let body = body.laid_out(alloc, INSIDE_ARM, INSIDE_ARM, ",")?;
-    format!(in alloc; "{ARM}{pattern} =>\n{INSIDE_ARM}{body},\n")
+    format!(in alloc; "\n{INSIDE_ARM}{body},\n")
 }
 
 // The body of an arm that begins so, where it stands on that line. Of the fields of a struct, which may need several lines wherever
@@ -124,11 +119,17 @@ pub fn each_on_a_line(alloc: Global, indent: &str, items: &[String]) -> Result<S
 
 /// The items side by side, on as many lines as they need.
 pub fn filled(alloc: Global, indent: &str, items: &[String]) -> Result<String, AllocError> {
-    let all = joined(alloc, items, ", ")?;
+    let all = items.join(alloc, ", ")?;
     let line = format!(in alloc; "{indent}{all},")?;
     if fits(line.as_str()) {
-        return format!(in alloc; "{line}\n");
+        format!(in alloc; "{line}\n")
+    } else {
+        in_lines(alloc, indent, items)
     }
+}
+
+// The items side by side on several lines.
+fn in_lines(alloc: Global, indent: &str, items: &[String]) -> Result<String, AllocError> {
     let mut lines = String::new(alloc);
     let mut line = String::from_str(alloc, indent)?;
     for item in items {

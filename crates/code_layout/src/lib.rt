@@ -5,4 +5,4 @@ mod code;
 mod layout;
 
 pub use code::{Code, ListKind};
-pub use layout::{BODY, arm, binding, filled, fits, joined, quoted, signature, statement};
+pub use layout::{BODY, arm, binding, filled, fits, quoted, signature, statement};

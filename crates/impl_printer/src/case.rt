@@ -30,32 +30,7 @@ enum Kind {
 pub fn cases(alloc: Global, of: &str, variants: &[Variant]) -> Result<Vec<Case>, AllocError> {
     let mut found = Vec::new(alloc);
     for variant in variants {
-        let (kind, names, refs) = match &variant.contents {
-            Contents::Nothing => (Kind::Nothing, Vec::new(alloc), Vec::new(alloc)),
-            Contents::One(ty) => {
-                let n = String::from_str(alloc, "n")?;
-                (
-                    Kind::One(ty.clone()?),
-                    vec![in alloc; n.clone()?]?,
-                    vec![in alloc; n]?,
-                )
-            }
-            Contents::Several(types) => {
-                let count = types.len();
-                (
-                    Kind::Several(types.clone()?),
-                    letters(alloc, count)?,
-                    letters(alloc, count)?,
-                )
-            }
-            Contents::Named(fields) => {
-                (
-                    Kind::Named,
-                    names(alloc, fields)?,
-                    leaf_refs(alloc, fields, "")?,
-                )
-            }
-        };
+        let (kind, names, refs) = held(alloc, &variant.contents)?;
         found.push(Case {
             name: variant.name.clone()?,
             of: String::from_str(alloc, of)?,
@@ -65,6 +40,39 @@ pub fn cases(alloc: Global, of: &str, variants: &[Variant]) -> Result<Vec<Case>,
         })?;
     }
     Ok(found)
+}
+
+// What a variant of these contents holds, what its fields are called, and what is written of them.
+fn held(
+    alloc: Global,
+    contents: &Contents,
+) -> Result<(Kind, Vec<String>, Vec<String>), AllocError> {
+    Ok(match contents {
+        Contents::Nothing => (Kind::Nothing, Vec::new(alloc), Vec::new(alloc)),
+        Contents::One(ty) => {
+            let n = String::from_str(alloc, "n")?;
+            (
+                Kind::One(ty.clone()?),
+                vec![in alloc; n.clone()?]?,
+                vec![in alloc; n]?,
+            )
+        }
+        Contents::Several(types) => {
+            let count = types.len();
+            (
+                Kind::Several(types.clone()?),
+                letters(alloc, count)?,
+                letters(alloc, count)?,
+            )
+        }
+        Contents::Named(fields) => {
+            (
+                Kind::Named,
+                names(alloc, fields)?,
+                leaf_refs(alloc, fields, "")?,
+            )
+        }
+    })
 }
 
 impl Case {
@@ -192,12 +200,24 @@ impl Case {
     }
 }
 
-// The names in a ghost member, which quotes those that have a meaning there.
+// The names in a ghost member, in quotes where they have a meaning there.
 fn ghost_names(alloc: Global, names: &[String]) -> Result<Vec<String>, AllocError> {
     let mut found = Vec::new(alloc);
     for name in names {
-        found.push(match name.as_str() {
-            "data"
+        found.push(if has_meaning(name.as_str()) {
+            format!(in alloc; "«{name}»")?
+        } else {
+            name.clone()?
+        })?;
+    }
+    Ok(found)
+}
+
+// Whether the name has a meaning of its own in a ghost member.
+fn has_meaning(name: &str) -> bool {
+    matches!(
+        name,
+        "data"
             | "record"
             | "deriving"
             | "module"
@@ -218,9 +238,6 @@ fn ghost_names(alloc: Global, names: &[String]) -> Result<Vec<String>, AllocErro
             | "fcoe"
             | "tcoe"
             | "hcom"
-            | "com" => { format!(in alloc; "«{name}»")? }
-            _ => name.clone()?,
-        })?;
-    }
-    Ok(found)
+            | "com"
+    )
 }

@@ -1,8 +1,8 @@
 use crate::branch::{choice_type, ghost_branch, pattern_branch};
 use crate::case::{Case, cases};
 use crate::shared::{
-    Heading, codes, expecting_function, name_function, names_function, print_deserialize,
-    print_serialize, print_shaped, variant_names,
+    Heading, codes, name_functions, names_function, print_deserialize, print_serialize,
+    print_shaped, variant_names,
 };
 use crate::tree::{leaf_types, shown_names, tree};
 use code_layout::{ListKind, arm, signature};
@@ -19,19 +19,25 @@ pub fn print_choices(
     alias: &str,
 ) -> Result<(), AllocError> {
     let name = about.name.as_str();
-    for variant in variants {
-        if let Contents::Named(fields) = &variant.contents {
-            print_named_fields(alloc, out, name, variant.name.as_str(), fields.as_slice())?;
-        }
-    }
+    print_fields(alloc, out, name, variants)?;
     let cases = cases(alloc, name, variants)?;
     let cases = cases.as_slice();
+    print_variant_list(alloc, out, name, cases)?;
+    print_description(alloc, out, about, variants, cases, alias)?;
+    print_traits(alloc, out, about, cases)
+}
+
+// Prints the type of the list of the variants.
+fn print_variant_list(
+    alloc: Global,
+    out: &mut String,
+    name: &str,
+    cases: &[Case],
+) -> Result<(), AllocError> {
     let before = format!(in alloc; "type {name}Variants = ")?;
     let list = choice_type(alloc, cases)?;
     let list = list.laid_out(alloc, "", before.as_str(), ";")?;
-    writeln!(out, "{before}{list};\n")?;
-    print_description(alloc, out, about, variants, cases, alias)?;
-    print_traits(alloc, out, about, cases)
+    writeln!(out, "{before}{list};\n")
 }
 
 fn print_traits(
@@ -65,6 +71,21 @@ fn print_traits(
         "λ _ _ h. h",
         &format!(in alloc; "\n        {conforms}\n    ")?,
     )
+}
+
+// Prints the lists of the fields of those variants whose fields have names.
+fn print_fields(
+    alloc: Global,
+    out: &mut String,
+    of: &str,
+    variants: &[Variant],
+) -> Result<(), AllocError> {
+    for variant in variants {
+        if let Contents::Named(fields) = &variant.contents {
+            print_named_fields(alloc, out, of, variant.name.as_str(), fields.as_slice())?;
+        }
+    }
+    Ok(())
 }
 
 // Prints the list of the fields of a variant.
@@ -113,13 +134,9 @@ fn print_description(
     let Heading { name, shown, .. } = about;
     let names = variant_names(alloc, variants)?;
     let codes = codes(alloc, names.as_slice())?;
-    let name_function = name_function(alloc, shown.as_str())?;
-    let expecting_function = expecting_function(alloc, "enum", shown.as_str())?;
+    let name_functions = name_functions(alloc, "enum", shown.as_str())?;
     let names_function = names_function(alloc, names.as_slice())?;
     let parts = parts(alloc, cases, alias)?;
-    let variant = format!(in alloc; "variant: {name}Variants")?;
-    let make = signature(alloc, "fn make(", &[variant.as_str()], name)?;
-    let arms = make_arms(alloc, cases)?;
     writeln!(
         out,
         "impl Enumeration for {name} {{
@@ -130,13 +147,27 @@ fn print_description(
 
     ghost named = {{ (refl, refl) }};
 
-{name_function}
-
-{expecting_function}
+{name_functions}
 
 {names_function}
+"
+    )?;
+    print_make(alloc, out, name, cases)
+}
 
-{make}
+// Prints the function that makes a value of a variant in the list, which is the last of the description.
+fn print_make(
+    alloc: Global,
+    out: &mut String,
+    name: &str,
+    cases: &[Case],
+) -> Result<(), AllocError> {
+    let variant = format!(in alloc; "variant: {name}Variants")?;
+    let make = signature(alloc, "fn make(", &[variant.as_str()], name)?;
+    let arms = make_arms(alloc, cases)?;
+    writeln!(
+        out,
+        "{make}
         match variant {{
 {arms}        }}
     }}

@@ -1,5 +1,5 @@
 // The imports that the printed impls need.
-use code_layout::{filled, joined};
+use code_layout::filled;
 use declarations::{Body, Contents, Declaration, Field, Form, SetKind, Variant};
 use std::alloc::{AllocError, Global};
 use std::fmt::Write;
@@ -178,7 +178,7 @@ fn print_ghost(
     if wanted.is_empty() {
         return Ok(());
     }
-    let line = joined(alloc, wanted.as_slice(), ", ")?;
+    let line = wanted.join(alloc, ", ")?;
     writeln!(out, "ghost use Rattle.{path}.{{{line}}};")
 }
 
@@ -278,7 +278,7 @@ fn print_use(
     if let [name] = names {
         return writeln!(out, "use {path}::{name};");
     }
-    let line = joined(alloc, names, ", ")?;
+    let line = names.join(alloc, ", ")?;
     let line = format!(in alloc; "use {path}::{{{line}}};")?;
     if line.len() <= WIDTH {
         return writeln!(out, "{line}");

@@ -1,7 +1,7 @@
 use crate::fields::{conform_call, ghost_parts, make_function, print_field_list, write_call};
 use crate::shared::{
-    Heading, codes, expecting_function, name_function, names_function, print_deserialize,
-    print_serialize, print_shaped,
+    Heading, codes, name_functions, names_function, print_deserialize, print_serialize,
+    print_shaped,
 };
 use crate::tree::{leaf_refs, leaf_types, names, shown_names};
 use code_layout::ListKind;
@@ -64,17 +64,6 @@ fn print_description(
     let codes = codes(alloc, stored.as_slice())?;
     let names = names(alloc, fields)?;
     let parts = ghost_parts(alloc, names.as_slice())?;
-    let name_function = name_function(alloc, shown.as_str())?;
-    let expecting_function = expecting_function(alloc, "struct", shown.as_str())?;
-    let names_function = names_function(alloc, stored.as_slice())?;
-    let open = format!(in alloc; "{name} {{")?;
-    let make = make_function(
-        alloc,
-        about,
-        names.as_slice(),
-        ListKind::Fields,
-        open.as_str(),
-    )?;
     writeln!(
         out,
         "{head}
@@ -83,10 +72,27 @@ fn print_description(
     ghost about = {{ record_of (codes \"{shown}\") ({codes}) (λ s. {parts}) ⟦<{list} as FieldList>⟧.about }};
 
     ghost named = {{ (refl, refl) }};
+"
+    )?;
+    print_functions(alloc, out, about, stored.as_slice(), names.as_slice())
+}
 
-{name_function}
-
-{expecting_function}
+// Prints the functions of the description, by the names of the fields, where they are stored and in the struct, and the end of it.
+fn print_functions(
+    alloc: Global,
+    out: &mut String,
+    about: &Heading,
+    stored: &[String],
+    names: &[String],
+) -> Result<(), AllocError> {
+    let Heading { name, shown, .. } = about;
+    let name_functions = name_functions(alloc, "struct", shown.as_str())?;
+    let names_function = names_function(alloc, stored)?;
+    let open = format!(in alloc; "{name} {{")?;
+    let make = make_function(alloc, about, names, ListKind::Fields, open.as_str())?;
+    writeln!(
+        out,
+        "{name_functions}
 
 {names_function}
 

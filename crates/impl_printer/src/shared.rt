@@ -1,4 +1,4 @@
-use code_layout::{Code, ListKind, fits, joined, quoted, signature, statement};
+use code_layout::{Code, ListKind, fits, quoted, signature, statement};
 use declarations::{Declaration, Parameter, Variant};
 use std::alloc::{AllocError, Global};
 use std::fmt::Write;
@@ -62,7 +62,7 @@ fn in_angles(alloc: Global, texts: &[String]) -> Result<String, AllocError> {
     if texts.is_empty() {
         return Ok(String::new(alloc));
     }
-    let line = joined(alloc, texts, ", ")?;
+    let line = texts.join(alloc, ", ")?;
     format!(in alloc; "<{line}>")
 }
 
@@ -97,19 +97,14 @@ pub fn letter(alloc: Global, name: &str) -> Result<String, AllocError> {
     Ok(text)
 }
 
-/// The function that answers the name.
-pub fn name_function(alloc: Global, name: &str) -> Result<String, AllocError> {
+/// The functions that answer the name, and what reading a value expects, as `struct User`.
+pub fn name_functions(alloc: Global, keyword: &str, name: &str) -> Result<String, AllocError> {
     format!(in alloc;
         "    fn name() -> &'static str {{
         \"{name}\"
-    }}"
-    )
-}
+    }}
 
-/// The function that answers what reading a value expects, as `struct User`.
-pub fn expecting_function(alloc: Global, keyword: &str, name: &str) -> Result<String, AllocError> {
-    format!(in alloc;
-        "    fn expecting() -> &'static str {{
+    fn expecting() -> &'static str {{
         \"{keyword} {name}\"
     }}"
     )

@@ -1,7 +1,5 @@
 use crate::fields::{conform_call, ghost_parts, make_function, print_field_list, write_call};
-use crate::shared::{
-    Heading, expecting_function, name_function, print_deserialize, print_serialize, print_shaped,
-};
+use crate::shared::{Heading, name_functions, print_deserialize, print_serialize, print_shaped};
 use crate::tree::{letters, places, wrapped};
 use code_layout::ListKind;
 use std::alloc::{AllocError, Global};
@@ -60,9 +58,26 @@ fn print_description(
     let head = about.impl_head(alloc, "TupleStruct")?;
     let list = format!(in alloc; "{name}Fields{arguments}")?;
     let parts = ghost_parts(alloc, places)?;
-    let count = places.len();
-    let name_function = name_function(alloc, shown.as_str())?;
-    let expecting_function = expecting_function(alloc, "tuple struct", shown.as_str())?;
+    writeln!(
+        out,
+        "{head}
+    type Fields = {list};
+
+    ghost about = {{ tuple_struct_of (codes \"{shown}\") (λ s. {parts}) ⟦<{list} as FieldList>⟧.about }};
+"
+    )?;
+    print_functions(alloc, out, about, places.len())
+}
+
+// Prints the functions of the description of so many fields, and the end of it.
+fn print_functions(
+    alloc: Global,
+    out: &mut String,
+    about: &Heading,
+    count: usize,
+) -> Result<(), AllocError> {
+    let Heading { name, shown, .. } = about;
+    let name_functions = name_functions(alloc, "tuple struct", shown.as_str())?;
     let names = letters(alloc, count)?;
     let open = format!(in alloc; "{name}(")?;
     let make = make_function(
@@ -74,14 +89,7 @@ fn print_description(
     )?;
     writeln!(
         out,
-        "{head}
-    type Fields = {list};
-
-    ghost about = {{ tuple_struct_of (codes \"{shown}\") (λ s. {parts}) ⟦<{list} as FieldList>⟧.about }};
-
-{name_function}
-
-{expecting_function}
+        "{name_functions}
 
     fn count() -> usize {{
         {count}

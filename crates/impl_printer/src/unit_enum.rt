@@ -1,6 +1,6 @@
 use crate::shared::{
-    Heading, codes, expecting_function, name_function, names_function, print_deserialize,
-    print_key, print_serialize, print_shaped, variant_names,
+    Heading, codes, name_functions, names_function, print_deserialize, print_key, print_serialize,
+    print_shaped, variant_names,
 };
 use code_layout::{Code, ListKind, statement};
 use declarations::Variant;
@@ -62,8 +62,7 @@ fn print_description(
         paths.push(format!(in alloc; "{name}::{own}")?)?;
     }
     let codes = codes(alloc, names.as_slice())?;
-    let name_function = name_function(alloc, shown.as_str())?;
-    let expecting_function = expecting_function(alloc, "enum", shown.as_str())?;
+    let name_functions = name_functions(alloc, "enum", shown.as_str())?;
     let names_function = names_function(alloc, names.as_slice())?;
     let paths = Code::list_of_texts(alloc, ListKind::Array, "&[", paths.as_slice())?;
     let arguments = vec![in alloc; paths, Code::text(alloc, "number")?]?;
@@ -74,9 +73,7 @@ fn print_description(
         "impl UnitEnum for {name} {{
     ghost about = {{ units_of {alias} (codes \"{shown}\") ({codes}) refl }};
 
-{name_function}
-
-{expecting_function}
+{name_functions}
 
 {names_function}
 

@@ -7,9 +7,25 @@ use serde_dynamo::ser::{
     SerializeTupleStruct, SerializeTupleVariant,
 };
 use serde_dynamo::{
-    SerializerMap, SerializerSeq, SerializerStruct, SerializerStructVariant,
-    SerializerTupleVariant, Text,
+    AttributeValue, Result, SerializerMap, SerializerSeq, SerializerStruct,
+    SerializerStructVariant, SerializerTupleVariant, Text,
 };
+
+// Prints what the fourth call, the fifth and the end answer.
+fn print_answers(
+    rt: &HostRuntime,
+    fourth: &Result<()>,
+    fifth: &Result<()>,
+    end: Result<AttributeValue>,
+) -> Result<(), Stopped> {
+    println!(rt;
+        "fourth: {} | fifth: {} | end: {}",
+        Answer(fourth),
+        Answer(fifth),
+        Answer(&end.map(Written))
+    )?;
+    Ok(())
+}
 
 // Gives a builder of a list five elements, and prints what the last two calls and the end answer.
 macro_rules! elements {
@@ -18,16 +34,9 @@ macro_rules! elements {
         for n in 0..3_u8 {
             $Trait::$call(&mut builder, &n)?;
         }
-        let first = $Trait::$call(&mut builder, &3_u8);
-        let second = $Trait::$call(&mut builder, &4_u8);
-        let end = $Trait::end(builder);
-        println!($rt;
-            "fourth: {} | fifth: {} | end: {}",
-            Answer(&first),
-            Answer(&second),
-            Answer(&end.map(Written))
-        )?;
-        Ok(())
+        let fourth = $Trait::$call(&mut builder, &3_u8);
+        let fifth = $Trait::$call(&mut builder, &4_u8);
+        print_answers($rt, &fourth, &fifth, $Trait::end(builder))
     }};
 }
 
@@ -38,16 +47,9 @@ macro_rules! fields {
         for (name, n) in [("a", 0_u8), ("b", 1), ("c", 2)] {
             $Trait::serialize_field(&mut builder, name, &n)?;
         }
-        let first = $Trait::serialize_field(&mut builder, "d", &3_u8);
-        let second = $Trait::serialize_field(&mut builder, "e", &4_u8);
-        let end = $Trait::end(builder);
-        println!($rt;
-            "fourth: {} | fifth: {} | end: {}",
-            Answer(&first),
-            Answer(&second),
-            Answer(&end.map(Written))
-        )?;
-        Ok(())
+        let fourth = $Trait::serialize_field(&mut builder, "d", &3_u8);
+        let fifth = $Trait::serialize_field(&mut builder, "e", &4_u8);
+        print_answers($rt, &fourth, &fifth, $Trait::end(builder))
     }};
 }
 
