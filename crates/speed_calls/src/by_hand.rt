@@ -74,7 +74,21 @@ pub fn copied(maps: &Maps) -> Result<usize, AllocError> {
     Ok(maps.copies()?.0.len())
 }
 
-/// What `from_item` does: copies the maps, and takes each apart to a user. How long their ids are.
+// The entries of a map, in ascending order of the bytes of their keys.
+fn in_order(
+    alloc: Global,
+    map: HashMap<String, Plain>,
+) -> Result<Vec<(String, Plain)>, AllocError> {
+    let mut entries = Vec::with_capacity(alloc, map.len())?;
+    for entry in map {
+        entries.push(entry)?;
+    }
+    entries.sort_unstable_by(|a, b| a.0.cmp(&b.0));
+    Ok(entries)
+}
+
+/// What `from_item` does: copies the maps, and takes each apart to a user, its entries in the order of their keys. How long their
+/// ids are.
 #[inline(never)]
 pub fn read(alloc: Global, maps: &Maps) -> Result<usize, AllocError> {
     let mut count: usize = 0;
@@ -84,7 +98,7 @@ pub fn read(alloc: Global, maps: &Maps) -> Result<usize, AllocError> {
             name: String::new(alloc),
             age: 0,
         };
-        for (key, value) in map {
+        for (key, value) in in_order(alloc, map)? {
             match (key.as_str(), value) {
                 ("id", Plain::Text(id)) => user.id = id,
                 ("name", Plain::Text(name)) => user.name = name,

@@ -1,3 +1,6 @@
+ghost use Rattle.std.specs.Prelude.{◌≤◌, All, IfOk, length};
+ghost use Rattle.table_rows.specs.Found.{IsFound};
+
 use crate::rows::read_item;
 use crate::{Definition, StoreError};
 use dynamo_value::Item;
@@ -33,7 +36,10 @@ pub fn find<S: Alter>(
     query: &Query<'_>,
     partition: &[u8],
     bounds: &Bounds,
-) -> Result<Vec<Item>, StoreError> {
+) -> Result<Vec<Item>, StoreError>
+    ensures found { IfOk result (λ items. All (IsFound table.now.schema query.now) items.items) }
+    ensures limit { IfOk result (λ items. length items.items ≤ query.now.limit) }
+{
     let mut found = Vec::new(alloc);
     let sql = if query.backward { BACKWARD } else { FORWARD };
     let mut rows = conn.query(sql, params![table.id, partition, &bounds.low, &bounds.high])?;

@@ -1,11 +1,14 @@
 -- What the keys of a table in a database are, and which items it refuses.
-use Rattle.std.specs.Prelude.{◌≡◌, ⊤, Result, Err, MatchResult}
+use Rattle.std.specs.Prelude.{◌≡◌, ⊤, false, Result, Ok, Err, MatchResult}
+use Rattle.std.specs.Ordering.{is_ne}
 use Rattle.dynamo_value.specs.declared.item.Item.{Item}
 use Rattle.table_key.specs.KeyOf.{ReadsKey}
+use Rattle.table_key.specs.KeyOrder.{key_cmp}
 use Rattle.table_key.specs.declared.error.TableError.{TableError}
 use Rattle.table_key.specs.declared.key.Key.{Key}
 use Rattle.table_key.specs.declared.schema.KeySchema.{KeySchema}
 use Rattle.table_rows.specs.Errors.{of_table}
+pub use Rattle.table_rows.specs.Found.{IsFound}
 use Rattle.table_rows.specs.declared.error.StoreError.{StoreError}
 use Rattle.table_store.specs.declared.store.TableStore.{TableStore}
 
@@ -16,3 +19,12 @@ schema_of store = store.table.schema
 abbrev pub NeedsKey : {A : Type 0} → KeySchema → Item → Result A StoreError → Type 0
 NeedsKey schema item r =
     (key : Result Key TableError) × ReadsKey schema item key × MatchResult key (λ _. ⊤) (λ error. r ≡ Err (of_table error))
+
+-- the item has a key of the table
+abbrev pub HasKey : KeySchema → Item → Type 0
+HasKey schema item = (key : Key) × ReadsKey schema item (Ok key)
+
+-- a change makes an item that has this key
+abbrev pub KeepsKey : (Item → Result Item TableError → Type 0) → KeySchema → Key → Type 0
+KeepsKey Makes schema key =
+    (before after : Item) × Makes before (Ok after) × ((own : Key) × ReadsKey schema after (Ok own) × (is_ne (key_cmp own key) ≡ false))

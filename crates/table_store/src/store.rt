@@ -1,6 +1,8 @@
-ghost use Rattle.std.specs.Prelude.{◌≡◌, IfOk};
+ghost use Rattle.std.specs.Prelude.{◌≡◌, ◌≤◌, All, IfOk, OnOk, is_some, length, true};
+ghost use Rattle.std.specs.Fn.{FnOnceReturnsAt};
 ghost use Rattle.table_key.specs.KeyOf.{ReadsKey, words_of};
-ghost use Rattle.table_store.specs.Content.{NeedsKey, schema_of};
+ghost use Rattle.table_query.specs.Conditions.{holds};
+ghost use Rattle.table_store.specs.Content.{HasKey, IsFound, KeepsKey, NeedsKey, schema_of};
 
 use crate::depth::is_kept;
 use dynamo_value::Item;
@@ -141,6 +143,7 @@ impl<S: Alter + Drop> TableStore<S> {
     /// Those of [`TableStore::put`], and `Key` with `ConditionFailed` where the condition doesn't hold.
     pub fn put_if(&mut self, condition: Condition, item: &Item) -> Result<Option<Item>, StoreError>
         ensures needs { NeedsKey (schema_of self.old) item.now result }
+        ensures condition { IfOk result (λ before. holds condition (is_some before) ≡ true) }
         ensures schema { schema_of self.new ≡ schema_of self.old }
     {
         let key = self.table.schema.key_of(item)?;
@@ -170,6 +173,7 @@ impl<S: Alter + Drop> TableStore<S> {
     ///
     /// Those of [`TableStore::get`], and `Key` with `ConditionFailed` where the condition doesn't hold.
     pub fn delete_if(&mut self, condition: Condition, key: &Key) -> Result<Option<Item>, StoreError>
+        ensures condition { IfOk result (λ before. holds condition (is_some before) ≡ true) }
         ensures schema { schema_of self.new ≡ schema_of self.old }
     {
         let key = KeyBytes::of(self.alloc, key)?;
@@ -194,6 +198,7 @@ impl<S: Alter + Drop> TableStore<S> {
         change: F,
     ) -> Result<(), StoreError>
         requires { F.IsAlwaysCallable change }
+        ensures changes { OnOk result (KeepsKey (FnOnceReturnsAt F.FnOnce change) (schema_of self.old) key.now) }
         ensures schema { schema_of self.new ≡ schema_of self.old }
     {
         let Some(item) = self.get(key)? else {
@@ -214,6 +219,8 @@ impl<S: Alter + Drop> TableStore<S> {
     ///
     /// `Unreadable` where the text of an item doesn't read, `Key` where it lacks its key, `Database` and `OutOfMemory`.
     pub fn query(&mut self, query: &Query<'_>) -> Result<Vec<Item>, StoreError>
+        ensures found { IfOk result (λ items. All (IsFound (schema_of self.old) query.now) items.items) }
+        ensures limit { IfOk result (λ items. length items.items ≤ query.now.limit) }
         ensures schema { schema_of self.new ≡ schema_of self.old }
     {
         let bounds = Bounds::of_query(self.alloc, query)?;
@@ -250,6 +257,7 @@ impl<S: Alter + Drop> TableStore<S> {
     ///
     /// Those of [`TableStore::put`].
     pub fn write_all(&mut self, items: &[Item]) -> Result<(), StoreError>
+        ensures keys { OnOk result (All (HasKey (schema_of self.old)) items.now) }
         ensures schema { schema_of self.new ≡ schema_of self.old }
     {
         table_rows::run(&mut self.conn, "BEGIN")?;
@@ -273,6 +281,7 @@ impl<S: Alter + Drop> TableStore<S> {
     }
 
     fn put_each(&mut self, items: &[Item]) -> Result<(), StoreError>
+        ensures keys { OnOk result (All (HasKey (schema_of self.old)) items.now) }
         ensures schema { schema_of self.new ≡ schema_of self.old }
     {
         for item in items {

@@ -1,5 +1,6 @@
 -- What a table in a database has of the values of one type.
-use Rattle.std.specs.Prelude.{Result, Ok}
+use Rattle.std.specs.Prelude.{◌≤◌, List, Result, Ok, All, length}
+use Rattle.std.specs.List.{AllZip}
 use Rattle.dynamo_value.specs.Av as av
 use Rattle.dynamo_value.specs.Fault.{Fault}
 use Rattle.dynamo_value.specs.Item.{item_view}
@@ -10,7 +11,9 @@ use Rattle.dynamo_shape.specs.Shape.{Shape}
 use Rattle.table_key.specs.KeyOf.{ReadsKey}
 use Rattle.table_key.specs.declared.key.Key.{Key}
 use Rattle.table_key.specs.declared.schema.KeySchema.{KeySchema}
+use Rattle.table_query.specs.declared.query.Query.{Query}
 use Rattle.table_store.specs.Content as store
+use Rattle.table_store.specs.Content.{IsFound}
 use Rattle.table_store.specs.declared.store.TableStore.{TableStore}
 use Rattle.typed_table.specs.Stored.{IsItemOf}
 use Rattle.typed_store.specs.declared.store.TypedStore.{TypedStore}
@@ -26,6 +29,15 @@ schema_of t = store.schema_of (store_of t)
 abbrev pub IsKeyOf : {T : Type 0} → Shape → (T → Datum) → KeySchema → T → Key → Type 0
 IsKeyOf shape tells schema value key = (item : Item) × IsItemOf shape tells value item × ReadsKey schema item (Ok key)
 
+-- the value is what this item reads as
+abbrev pub ReadsAs : {T : Type 0} → (Source → Result T Fault → Type 0) → Item → T → Type 0
+ReadsAs reads item value = reads (attribute (av.M (item_view item))) (Ok value)
+
 -- the value is what an item reads as
 abbrev pub WasRead : {T : Type 0} → (Source → Result T Fault → Type 0) → T → Type 0
-WasRead reads value = (item : Item) × reads (attribute (av.M (item_view item))) (Ok value)
+WasRead reads value = (item : Item) × ReadsAs reads item value
+
+-- each value is what an item reads as that the query finds, and they are no more than its limit
+abbrev pub WereFound : {T : Type 0} → (Source → Result T Fault → Type 0) → KeySchema → Query → List T → Type 0
+WereFound reads schema query values =
+    (items : List Item) × All (IsFound schema query) items × (length items ≤ query.limit) × AllZip (ReadsAs reads) items values

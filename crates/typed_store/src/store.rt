@@ -1,5 +1,6 @@
-ghost use Rattle.std.specs.Prelude.{◌≡◌, All, IfOk, IfSome};
-ghost use Rattle.typed_store.specs.Stored.{IsKeyOf, WasRead, schema_of, store_of};
+ghost use Rattle.std.specs.Prelude.{◌≡◌, IfOk, IfSome};
+ghost use Rattle.std.specs.List.{AllZip};
+ghost use Rattle.typed_store.specs.Stored.{IsKeyOf, ReadsAs, WasRead, WereFound, schema_of, store_of};
 
 use crate::TypedError;
 use dynamo_value::Item;
@@ -82,13 +83,13 @@ impl<T: Keyed, S: Alter + Drop> TypedStore<T, S> {
         Ok(self.store.delete(key)?.is_some())
     }
 
-    /// The values that a query finds, in its order: what each item that the database gives reads as.
+    /// The values that a query finds, in its order: what each item that the database gives for it reads as.
     ///
     /// # Errors
     ///
     /// `Value` with what reading one of the items permits, and `Store` with the errors of [`TableStore::query`].
     pub fn query(&mut self, query: &Query<'_>) -> Result<Vec<T>, TypedError>
-        ensures read { IfOk result (λ values. All (WasRead T.reads) values.items) }
+        ensures found { IfOk result (λ values. WereFound T.reads (schema_of self.old) query.now values.items) }
         ensures schema { schema_of self.new ≡ schema_of self.old }
     {
         let found = self.store.query(query)?;
@@ -96,7 +97,7 @@ impl<T: Keyed, S: Alter + Drop> TypedStore<T, S> {
     }
 
     fn values_of(&self, found: &[Item]) -> Result<Vec<T>, TypedError>
-        ensures { IfOk result (λ values. All (WasRead T.reads) values.items) }
+        ensures { IfOk result (λ values. AllZip (ReadsAs T.reads) found.now values.items) }
     {
         let mut values = Vec::with_capacity(self.alloc, found.len())?;
         for item in found {

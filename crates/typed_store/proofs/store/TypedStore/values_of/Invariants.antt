@@ -1,6 +1,7 @@
-use Rattle.std.proofs.Common.{All}
-use Rattle.typed_store.specs.Stored.{WasRead}
+use Rattle.std.proofs.Common.{take}
+use Rattle.std.specs.List.{AllZip}
+use Rattle.typed_store.specs.Stored.{ReadsAs}
 use Rattle.typed_store.proofs.store.TypedStore.values_of.Given as goal
 
 abbrev pub invariant-loop-item : goal.invariant-loop-item
-invariant-loop-item g l = All (WasRead g.T.Deserialize.reads) l.values.items
+invariant-loop-item g l = AllZip (ReadsAs g.T.Deserialize.reads) (take l.item-index l.found) l.values.items

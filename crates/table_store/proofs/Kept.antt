@@ -1,0 +1,22 @@
+-- Items that were found to have a key.
+use Rattle.std.proofs.Common.{◌≡◌, ℕ, ◌+◌, ◌<◌, ◌≤◌, List, length, get_or, take, All, Result, Ok, Err, OnOk, subst}
+use Rattle.std.proofs.lemmas.List.{take_all}
+use Rattle.std.proofs.lemmas.List.Elements.{All-more}
+use Rattle.dynamo_value.specs.declared.item.Item.{Item}
+use Rattle.table_key.specs.KeyOf.{ReadsKey}
+use Rattle.table_key.specs.declared.key.Key.{Key}
+use Rattle.table_key.specs.declared.schema.KeySchema.{KeySchema}
+use Rattle.table_store.specs.Content.{HasKey}
+
+-- one item more has a key
+pub one_more : (schema : KeySchema) (items : List Item) (i : ℕ) (item : Item) (key : Key) → i < length items → item ≡ get_or items i item
+    → All (HasKey schema) (take i items) → ReadsKey schema item (Ok key) → All (HasKey schema) (take (i + 1) items)
+one_more schema items i item key lt at h reads = All-more (HasKey schema) items i item lt h (subst (HasKey schema) at (key, reads))
+
+pub all_have : (schema : KeySchema) (items : List Item) (i : ℕ) → length items ≤ i → All (HasKey schema) (take i items) → All (HasKey schema) items
+all_have schema items i le h = subst (All (HasKey schema)) (take_all i items le) h
+
+-- what holds anyway holds where a call succeeds
+pub on_ok : {T E P : Type 0} (r : Result T E) → P → OnOk r P
+on_ok (Ok _) p = p
+on_ok (Err _) p = tt

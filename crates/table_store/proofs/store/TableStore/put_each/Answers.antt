@@ -1,0 +1,16 @@
+use Rattle.std.proofs.Common.{◌∙◌, subst, Ok}
+use Rattle.table_key.specs.KeyOf.{ReadsKey}
+use Rattle.table_store.specs.Content.{schema_of}
+use Rattle.table_store.proofs.Kept.{one_more, all_have}
+use Rattle.table_store.proofs.store.TableStore.put_each.Goals as goal
+
+pub loop-item-preserved : goal.loop-item-preserved
+loop-item-preserved g c =
+    let reads = subst (λ s. ReadsKey s c.item-item.result (Ok c.in_ok-key.key)) c.loop-item.invariant.0 c.in_ok-key.ensures in (
+      c.put_at.ensures.schema ∙ c.loop-item.invariant.0,
+      one_more (schema_of c.args.self.now) c.args.items.now c.loop-item.item-index c.item-item.result c.in_ok-key.key c.loop-item-test.true c.item-item.is
+          c.loop-item.invariant.1 reads,
+    )
+
+pub returns-clause-keys : goal.returns-clause-keys
+returns-clause-keys g c = all_have (schema_of c.args.self.now) c.args.items.now c.loop-item.item-index c.loop-item-test.false c.loop-item.invariant.1
