@@ -1,30 +1,25 @@
 -- A list that a sort by the bytes of the keys leaves has the entries of the map in order.
-use Rattle.std.proofs.Common.{◌≡◌, suc, ◌+◌, Bool, false, List, [], ◌∷◌, slice_index_or, option_map, string_bytes, refl, sym, ap, subst, ◌∙◌, arith, Less, Equal, Greater}
+use Rattle.std.proofs.Common.{◌≡◌, suc, ◌+◌, Bool, false, List, [], ◌∷◌, slice_index_or, string_bytes, refl, sym, ap, subst, ◌∙◌, arith, Less, Equal, Greater}
 use denote.Param.Members.{Mut}
 use denote.Ref.{Bor}
 use Rattle.std.specs.Cmp.{IsStrictWeakOrder}
 use Rattle.std.specs.Cmp.Lexicographic.{nat_list_cmp_total}
 use Rattle.std.specs.FinMap.Entries.{put, by_order}
 use Rattle.std.specs.Fn.{Called, ComparesAs}
-use Rattle.std.specs.List.{All, AllByRecursion, IsDistinct}
+use Rattle.std.specs.List.{IsDistinct}
 use Rattle.std.specs.List.Sorted.{IsPermutation, IsSortedBy}
 use Rattle.std.specs.Map.{keys_of}
 use Rattle.std.specs.Ordering.{is_lt, is_eq, ordering_reverse}
-use Rattle.std.specs.String.{string_eq, string_eq_equiv}
+use Rattle.std.specs.String.{string_eq}
 use Rattle.std.specs.declared.cmp.Ordering.{Ordering}
-use Rattle.std.proofs.lemmas.List.Elements.{All-head, All-tail}
-use Rattle.std.proofs.lemmas.List.Sorted.{All-permutation, IsPermutation-sym, IsPermutation-map, length_permutation, ranks_by, answers_always}
-use Rattle.std.proofs.lemmas.Map.Entries.{lookup_from_place}
-use Rattle.std.proofs.lemmas.Option.{slice_get-get_or}
-use Rattle.std.proofs.lemmas.Map.Keys.{IsDistinct-IsPermutation}
+use Rattle.std.proofs.lemmas.List.Sorted.{ranks_by, answers_always}
 use Rattle.std.proofs.lemmas.Map.Text.{is_eq-slice_cmp}
-use Rattle.dynamo_value.proofs.Members.{Entry, Has, same_from_all}
+use Rattle.dynamo_value.proofs.Members.{Entry}
+use Rattle.dynamo_value.proofs.Reordered.{distinct, same_members}
 use Rattle.dynamo_value.specs.View.{text_cmp, entries_view, view}
 use Rattle.dynamo_de.specs.Source.{entries_of}
 use Rattle.dynamo_read.proofs.Views.{entries_of_members}
 use Rattle.dynamo_read.specs.Entries.{seen_entry, seen_entries}
-
--- ---- each key is below the next
 
 abbrev pub key_cmp : Entry → Entry → Ordering
 key_cmp d e = text_cmp (string_bytes d.0) (string_bytes e.0)
@@ -65,28 +60,9 @@ rising (e ∷ f ∷ es) s d =
           subst (λ n. lower (slice_index_or (e ∷ f ∷ es) n x) (slice_index_or (f ∷ es) i x) ≡ false) next (s (suc i) x (omega arith) (omega arith))) d.1,
     )
 
--- ---- a permutation has the same entries at the same keys
-
--- each entry is what is found at its key
-has_own : (es : List Entry) → IsDistinct string_eq (keys_of es) → All (Has es) es
-has_own es d k e low =
-    let f = slice_index_or es k e in
-    ap (option_map view) (lookup_from_place string_eq_equiv es k f.0 f.1 d (slice_get-get_or es k e low))
-
-by_recursion : (P : Entry → Type 0) (es : List Entry) → All P es → AllByRecursion P es
-by_recursion P [] a = tt
-by_recursion P (e ∷ es) a = (All-head P e es a, by_recursion P es (All-tail P e es a))
-
-distinct : (es fs : List Entry) → IsPermutation es fs → IsDistinct string_eq (keys_of es) → IsDistinct string_eq (keys_of fs)
-distinct es fs p d = IsDistinct-IsPermutation string_eq string_eq_equiv.symm (keys_of es) (keys_of fs) (IsPermutation-map (λ e. e.0) es fs p) d
-
 -- the order in which a hashed map keeps its entries isn't seen
 same_view : (es fs : List Entry) → IsPermutation es fs → IsDistinct string_eq (keys_of es) → entries_view es ≡ entries_view fs
-same_view es fs p d =
-    let all : All (Has fs) es = All-permutation (Has fs) fs es (IsPermutation-sym es fs p) (has_own fs (distinct es fs p d)) in
-    sym (entries_of_members (entries_view es))
-    ∙ ap entries_of (same_from_all es fs d (sym (length_permutation es fs p)) (by_recursion (Has fs) es all))
-    ∙ entries_of_members (entries_view fs)
+same_view es fs p d = sym (entries_of_members (entries_view es)) ∙ ap entries_of (same_members es fs p d) ∙ entries_of_members (entries_view fs)
 
 -- from the clauses of a sort each of whose calls compares the bytes of two keys
 pub sorted_entries : {F : Type 0} {g : Mut F (Bor Entry × (Bor Entry × Unit {0})) Ordering} {f : F} (es fs : List Entry)

@@ -1,4 +1,5 @@
 mod Copied
 mod Equal
 pub mod Members
+pub mod Reordered
 pub mod Views

@@ -46,6 +46,22 @@ pub enum AttributeValue {
     Bs(Vec<Vec<u8>>),
 }
 
+impl AttributeValue {
+    /// The same value, of which a map has given back the room that no entry takes. What it nests isn't looked at. A map that is kept
+    /// takes about half as much memory then, and the next entry that is put moves those it has.
+    pub fn fitted(self) -> AttributeValue
+        ensures { view result ≡ view self }
+    {
+        match self {
+            AttributeValue::M(mut map) => {
+                fit(&mut map);
+                AttributeValue::M(map)
+            }
+            other => other,
+        }
+    }
+}
+
 /// By value, at every depth: texts and byte strings by their bytes, maps by their members in whatever order, lists and
 /// sets in order. A number is its text here, so that `1` and `1.0` differ.
 impl PartialEq for AttributeValue {
@@ -240,5 +256,13 @@ pub(crate) fn copy_map(
         let name = key.clone()?;
         drop(copies.insert(name, copy(value)?)?);
     }
+    fit(&mut copies);
     Ok(copies)
+}
+
+// Gives back the room of a map that no entry takes.
+fn fit(map: &mut HashMap<String, AttributeValue>)
+    ensures { members_view map.new.entries ≡ members_view map.old.entries }
+{
+    map.shrink_to_fit();
 }

@@ -41,6 +41,10 @@ impl Target for Serializer {
         Serializer::new(alloc)
     }
 
+    fn kept(value: AttributeValue) -> AttributeValue {
+        value.fitted()
+    }
+
     fn list(values: Vec<AttributeValue>) -> AttributeValue
         ensures { view result ≡ av.L (parts_before attribute_values values.items av.no_elements) }
     {
@@ -56,7 +60,7 @@ impl Target for Serializer {
         key: String,
         value: AttributeValue,
     ) -> Result<()> {
-        match map.insert(key, value) {
+        match map.insert(key, value.fitted()) {
             Ok(_) => Ok(()),
             Err(error) => Err(Error::from(error)),
         }

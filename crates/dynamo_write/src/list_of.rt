@@ -39,7 +39,7 @@ impl<T: Target> ListBuilder<T> for ListOf<T> {
     }
 
     fn push_element(&mut self, written: T::Ok) -> Result<()> {
-        self.values.push(written)?;
+        self.values.push(T::kept(written))?;
         Ok(())
     }
 

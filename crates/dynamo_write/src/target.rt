@@ -36,6 +36,10 @@ pub trait Target: Outcomes<Error = Error> {
     fn over(alloc: Global) -> Self
         ensures { result ≡ over alloc };
 
+    /// The same value, as it is put in a list: it may take less room.
+    fn kept(value: Self::Ok) -> Self::Ok
+        ensures { about.seen result ≡ about.seen value };
+
     /// The list of these values.
     fn list(values: Vec<Self::Ok>) -> Self::Ok
         ensures { about.seen result ≡ about.list (parts_before about values.items about.no_parts) };

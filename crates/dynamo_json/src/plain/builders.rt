@@ -44,6 +44,10 @@ impl Target for Serializer {
         Serializer::new(alloc)
     }
 
+    fn kept(value: Value) -> Value {
+        value
+    }
+
     fn list(values: Vec<Value>) -> Value
         ensures { view result ≡ json.array (parts_before plain_values values.items json.no_items) }
     {
