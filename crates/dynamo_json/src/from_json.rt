@@ -49,7 +49,9 @@ fn under(alloc: Global, prefix: Prefix, content: &Value) -> Result<AttributeValu
             alloc, text,
         )?)),
         (Prefix::Null, Value::Bool(flag)) => Ok(AttributeValue::Null(*flag)),
-        (Prefix::M, Value::Object(object)) => Ok(AttributeValue::M(members(alloc, object)?)),
+        (Prefix::M, Value::Object(object)) => Ok(AttributeValue::M(members(
+            alloc, object,
+        )?).fitted()),
         (Prefix::L, Value::Array(array)) => Ok(AttributeValue::L(elements(alloc, array)?)),
         (Prefix::Ss, Value::Array(array)) => Ok(AttributeValue::Ss(strings(alloc, array)?)),
         (Prefix::Ns, Value::Array(array)) => Ok(AttributeValue::Ns(strings(alloc, array)?)),

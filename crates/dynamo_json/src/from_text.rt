@@ -132,7 +132,7 @@ fn content(
         }
         (Prefix::Null, Token::Bool(flag)) => Ok(AttributeValue::Null(flag)),
         (Prefix::M, Token::BeginObject) if depth > 0 => {
-            Ok(AttributeValue::M(members(alloc, reader, depth - 1)?))
+            Ok(AttributeValue::M(members(alloc, reader, depth - 1)?).fitted())
         }
         (Prefix::L, Token::BeginArray) if depth > 0 => {
             Ok(AttributeValue::L(elements(alloc, reader, depth - 1)?))

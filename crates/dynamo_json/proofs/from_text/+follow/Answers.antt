@@ -9,7 +9,7 @@ use Rattle.dynamo_value.specs.HasBytes.{HasBytes}
 use Rattle.dynamo_value.specs.Prefix.{prefix_of, prefixes}
 use Rattle.dynamo_value.specs.PrefixView.{prefix_view}
 use Rattle.dynamo_value.specs.View.{view, entries_view, members_view}
-use Rattle.dynamo_value.specs.declared.attribute_value.AttributeValue.{N, S, Bool, B, Null, L, M, Ss, Ns, Bs, the_lemmas}
+use Rattle.dynamo_value.specs.declared.attribute_value.AttributeValue.{N, S, Bool, B, Null, L, Ss, Ns, Bs, the_lemmas}
 use Rattle.dynamo_value.proofs.Members.{inserted}
 use Rattle.dynamo_value.proofs.Views.{view_list, view_map, view_strings, view_numbers, view_blobs}
 use Rattle.dynamo_json.specs.Json.{json_of, members_json}
@@ -59,7 +59,7 @@ pub content-returns-in_ok-members-in-M-BeginObject-clause-value : goal.content-r
 content-returns-in_ok-members-in-M-BeginObject-clause-value t c =
     let first : c.args.reader.now ≡ token_of c.in_ok-text.field-0 ∷ c.next.new.self = grind arith in
     let read : c.args.reader.now ≡ token.begin_object ∷ c.next.new.self = first ∙ ap (λ k. token_of k ∷ c.next.new.self) c.in-M-BeginObject.is-1 in
-    map_stands c.args.depth c.args.reader.now c.next.new.self c.members.new.reader (prefix_view c.args.prefix) (view (M c.in_ok-members-in-M-BeginObject.field-0)) _ (omega arith) read c.in_ok-members-in-M-BeginObject.ensures.members (rw (c.in-M-BeginObject.is-0, view_map c.in_ok-members-in-M-BeginObject.field-0) refl)
+    map_stands c.args.depth c.args.reader.now c.next.new.self c.members.new.reader (prefix_view c.args.prefix) (view c.fitted.result) _ (omega arith) read c.in_ok-members-in-M-BeginObject.ensures.members (rw (c.in-M-BeginObject.is-0, c.fitted.ensures, view_map c.in_ok-members-in-M-BeginObject.field-0) refl)
 
 pub content-returns-in_ok-elements-in-L-BeginArray-clause-value : goal.content-returns-in_ok-elements-in-L-BeginArray-clause-value
 content-returns-in_ok-elements-in-L-BeginArray-clause-value t c =
