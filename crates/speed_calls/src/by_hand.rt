@@ -1,5 +1,5 @@
 //! The same work by the types of the kit alone, for a floor under the calls: maps of texts whose values are as large as attribute
-//! values, made, copied and taken apart by hand.
+//! values, made, copied and taken apart by hand. Those that are kept give back the room that they don't use, as the library's do.
 use serde_dynamo::samples::User;
 use std::alloc::{AllocError, Global};
 use std::collections::HashMap;
@@ -21,7 +21,9 @@ impl Maps {
     pub fn of(alloc: Global, users: &[User]) -> Result<Maps, AllocError> {
         let mut maps = Vec::new(alloc);
         for user in users {
-            maps.push(made(alloc, user)?)?;
+            let mut map = made(alloc, user)?;
+            map.shrink_to_fit();
+            maps.push(map)?;
         }
         Ok(Maps(maps))
     }
@@ -34,6 +36,7 @@ impl Maps {
             for (key, value) in map.iter() {
                 drop(copy.insert(key.clone()?, value.clone()?)?);
             }
+            copy.shrink_to_fit();
             copies.push(copy)?;
         }
         Ok(Maps(copies))
