@@ -4,7 +4,7 @@ use Rattle.std.specs.Prelude.{if◌then◌else◌, bytes_eq, ⊤}
 use Rattle.dynamo_value.specs.Fault.{Fault}
 use Rattle.dynamo_de.specs.Access.{ReadsVariant}
 use Rattle.dynamo_de.specs.Answer as answer
-use Rattle.dynamo_de.specs.Answer.{Answer, After}
+use Rattle.dynamo_de.specs.Answer.{After}
 use Rattle.dynamo_de.specs.Reading.{read_variant, read_identifier}
 use Rattle.dynamo_de.specs.Visitors.{or_its_fault}
 use Rattle.dynamo_de.specs.Meets.{Meets}

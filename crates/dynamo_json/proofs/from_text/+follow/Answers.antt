@@ -3,7 +3,6 @@ use Rattle.json.specs.Token as token
 use Rattle.json.specs.Json.{after_end_array, read_key}
 use Rattle.json.specs.Reads.{token_of}
 use Rattle.serde_json.specs.Data as json
-use Rattle.serde_json.specs.Data.{string}
 use Rattle.dynamo_value.specs.Av as av
 use Rattle.dynamo_value.specs.HasBytes.{HasBytes}
 use Rattle.dynamo_value.specs.Prefix.{prefix_of, prefixes}
