@@ -1,5 +1,5 @@
 //! Reads of scalars, whose impls serde states: where one gives a value, the attribute value is that value's.
-ghost use Rattle.std.specs.Prelude.{◌≡◌, ℕ, List, true, string_bytes, encode_utf8, IfOk, IfNone};
+ghost use Rattle.std.specs.Prelude.{◌≡◌, ℕ, List, true, string_bytes, IfOk, IfNone};
 ghost use Rattle.dynamo_value.specs.Av as av;
 ghost use Rattle.dynamo_value.specs.View.{view};
 ghost use Rattle.dynamo_serde.specs.Laid.{IsSigned, IsUnsigned};

@@ -40,6 +40,20 @@ abbrev pub Shows : {D L M C E : Type 0} → (E → Fault) → (D → Source) →
 Shows fault source elements entries variants shown (Ok s) = shown ≡ Ok (seen source elements entries variants s)
 Shows fault source elements entries variants shown (Err e) = (fault e ≡ out_of_memory) ⊎ (shown ≡ Err (fault e))
 
+-- The surface of a sight: what lies inside may be anything.
+abbrev pub IsSurface : {D L M C : Type 0} → Showing D L M C → Sight → Type 0
+IsSurface (showing.Some _) s = (inside : Source) × (s ≡ sight.some inside)
+IsSurface (showing.Newtype _) s = (inside : Source) × (s ≡ sight.newtype inside)
+IsSurface (showing.Sequence _) s = (inside : List Source) × (s ≡ sight.sequence inside)
+IsSurface (showing.Map _) s = (inside : List Entry) × (s ≡ sight.entries inside)
+IsSurface (showing.Enum _) s = (inside : Result (List ℕ × Option Source) Fault) × (s ≡ sight.variant inside)
+IsSurface scalar s = s ≡ seen (λ _. plain_text []) (λ _. []) (λ _. []) (λ _. Err out_of_memory) scalar
+
+-- it shows exactly what has this surface, or refuses by exactly this fault
+abbrev pub ShowsSurface : {D L M C E : Type 0} → (E → Fault) → Shown → Result (Showing D L M C) E → Type 0
+ShowsSurface fault shown (Ok s) = (whole : Sight) × (shown ≡ Ok whole) × IsSurface s whole
+ShowsSurface fault shown (Err e) = (fault e ≡ out_of_memory) ⊎ (shown ≡ Err (fault e))
+
 -- the reader of the next source, which is gone
 abbrev pub TakesElement : {D : Type 0} → (D → Source) → List Source → List Source → Option D → Type 0
 TakesElement source [] new r = (new ≡ []) × (r ≡ None)

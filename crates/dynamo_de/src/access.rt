@@ -1,10 +1,10 @@
-ghost use Rattle.std.specs.Prelude.{◌≡◌, ℕ, List, Option, Result, IsOk};
+ghost use Rattle.std.specs.Prelude.{ℕ, List, Option, Result, IsOk};
 ghost use Rattle.dynamo_value.specs.Fault.{Fault};
 ghost use Rattle.dynamo_de.specs.Access.{MapLeft, NextElement, NextKey, NextValue, NextEntry, ReadsVariant, OfContent, Hints};
 ghost use Rattle.dynamo_de.specs.Meets.{Meets};
 ghost use Rattle.dynamo_de.specs.Shown.{shown};
 ghost use Rattle.dynamo_de.specs.Shows.{IsReaderOf};
-ghost use Rattle.dynamo_de.specs.Source.{Source, Entry};
+ghost use Rattle.dynamo_de.specs.Source.{Source};
 ghost use Rattle.dynamo_de.specs.Takes.{Takes, Visited};
 ghost use Rattle.dynamo_de.specs.declared.request.Request.TheVariants as request;
 

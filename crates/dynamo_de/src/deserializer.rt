@@ -1,4 +1,3 @@
-ghost use Rattle.std.specs.Prelude.{◌≡◌};
 ghost use Rattle.dynamo_de.specs.Shows.{seen};
 ghost use Rattle.dynamo_de.specs.Takes.{Asks, Visits};
 ghost use Rattle.dynamo_de.specs.declared.request.Request.TheVariants as request;

@@ -1,4 +1,3 @@
-ghost use Rattle.std.specs.Prelude.{◌≡◌};
 ghost use Rattle.dynamo_de.specs.Answer.{Gives};
 ghost use Rattle.dynamo_de.specs.Ignored.{read_ignored, ignore_sources, ignore_entries as ignored_entries};
 ghost use Rattle.dynamo_de.specs.Meets.{Meets};

@@ -2,10 +2,10 @@ ghost use Rattle.std.specs.Prelude.{◌≡◌, ℕ, Bool, List, Option, Result};
 ghost use Rattle.dynamo_value.specs.Fault.{Fault, expected_char, map_value_before_key};
 ghost use Rattle.dynamo_de.specs.Access.{Hints, hint_of};
 ghost use Rattle.dynamo_de.specs.Shown.{shown};
-ghost use Rattle.dynamo_de.specs.Shows.{Shows, TakesElement, TakesEntry, Names};
+ghost use Rattle.dynamo_de.specs.Shows.{Shows, ShowsSurface, TakesElement, TakesEntry, Names};
 ghost use Rattle.dynamo_de.specs.Source.{Source, Entry};
 
-use crate::{Error, Request, Showing};
+use crate::{Error, Request, Showing, Surface};
 use std::alloc::Global;
 
 /// What is read from, without visitors. Who writes a reader gives these calls; those of
@@ -43,6 +43,13 @@ pub trait Reader: Sized + Drop {
         request: Request,
     ) -> Result<Showing<Self, Self::Elements, Self::Entries, Self::Choice>, Self::Error>
         ensures { Shows Self.Error.fault source elements entries chosen (shown request (source self)) result };
+
+    /// What the source shows at a request, without what lies inside of it: all that is wanted of what holds no others.
+    fn surface(self, request: Request) -> Result<Surface, Self::Error>
+        ensures { ShowsSurface Self.Error.fault (shown request (source self)) result }
+    {
+        Ok(self.show(request)?.surface())
+    }
 
     /// The reader of the next element. Whether those that are left are counted doesn't change.
     fn next_element(rest: &mut Self::Elements) -> Option<Self>

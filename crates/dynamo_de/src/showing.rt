@@ -1,4 +1,12 @@
-use crate::Kind;
+ghost use Rattle.std.specs.Prelude.{◌≡◌, ◌⊎◌, ℕ, List, Option, Result, Err};
+ghost use Rattle.dynamo_value.specs.Fault.{Fault, out_of_memory};
+ghost use Rattle.dynamo_de.specs.Meets.{IsMessage};
+ghost use Rattle.dynamo_de.specs.Shows.{seen, IsSurface};
+ghost use Rattle.dynamo_de.specs.Source.{Source, Entry};
+
+use crate::taken::invalid_type;
+use crate::{Error, Kind};
+use std::alloc::Global;
 
 /// What a [`Reader`](crate::Reader) shows. `D` reads what lies inside, `L` has the elements of a sequence, `M` the entries
 /// of a map, `C` a variant.
@@ -33,7 +41,23 @@ pub enum Showing<D, L, M, C> {
     Enum(C),
 }
 
+/// What is shown, without what lies inside of it.
+pub type Surface = Showing<(), (), (), ()>;
+
 impl<D, L, M, C> Showing<D, L, M, C> {
+    /// The refusal of what a type doesn't take, as `invalid type: string, expected a boolean`. What is shown is let go.
+    #[inline(always)]
+    pub fn refused<E: Error>(self, alloc: Global, expecting: &str) -> E
+    where
+        D: Drop,
+        L: Drop,
+        M: Drop,
+        C: Drop,
+        ensures { (E.fault result ≡ out_of_memory) ⊎ IsMessage {V = E} (Err (E.fault result)) }
+    {
+        invalid_type(alloc, self.kind(), expecting)
+    }
+
     /// The kind of what is shown, for the text of a refusal.
     pub fn kind(&self) -> Kind {
         match self {
@@ -59,6 +83,42 @@ impl<D, L, M, C> Showing<D, L, M, C> {
             Showing::Sequence(_) => Kind::Seq,
             Showing::Map(_) => Kind::Map,
             Showing::Enum(_) => Kind::Enum,
+        }
+    }
+
+    /// The same without what lies inside, which is let go.
+    pub fn surface(self) -> Surface
+    where
+        D: Drop,
+        L: Drop,
+        M: Drop,
+        C: Drop,
+        ensures { (source : D → Source) (elements : L → List Source) (entries : M → List Entry) (variants : C → Result (List ℕ × Option Source) Fault) → IsSurface result (seen source elements entries variants self) }
+    {
+        match self {
+            Showing::Bool(v) => Showing::Bool(v),
+            Showing::I8(v) => Showing::I8(v),
+            Showing::I16(v) => Showing::I16(v),
+            Showing::I32(v) => Showing::I32(v),
+            Showing::I64(v) => Showing::I64(v),
+            Showing::I128(v) => Showing::I128(v),
+            Showing::U8(v) => Showing::U8(v),
+            Showing::U16(v) => Showing::U16(v),
+            Showing::U32(v) => Showing::U32(v),
+            Showing::U64(v) => Showing::U64(v),
+            Showing::U128(v) => Showing::U128(v),
+            Showing::NumberText(v) => Showing::NumberText(v),
+            Showing::Char(v) => Showing::Char(v),
+            Showing::FirstChar(v) => Showing::FirstChar(v),
+            Showing::Text(v) => Showing::Text(v),
+            Showing::Bytes(v) => Showing::Bytes(v),
+            Showing::None => Showing::None,
+            Showing::Unit => Showing::Unit,
+            Showing::Some(_) => Showing::Some(()),
+            Showing::Newtype(_) => Showing::Newtype(()),
+            Showing::Sequence(_) => Showing::Sequence(()),
+            Showing::Map(_) => Showing::Map(()),
+            Showing::Enum(_) => Showing::Enum(()),
         }
     }
 }

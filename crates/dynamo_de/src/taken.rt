@@ -5,7 +5,7 @@ ghost use Rattle.dynamo_value.specs.Fault.{out_of_memory};
 ghost use Rattle.dynamo_de.specs.Answer.{Gives};
 ghost use Rattle.dynamo_de.specs.Meets.{Meets, IsMessage};
 ghost use Rattle.dynamo_de.specs.Reading.{taken_from, read_entries, read_identifier};
-ghost use Rattle.dynamo_de.specs.Takes.{Where, Refuses};
+ghost use Rattle.dynamo_de.specs.Takes.{Refuses};
 ghost use Rattle.dynamo_de.specs.Visitors.{claims_seq, take_elements};
 
 use crate::impls::char_text;
@@ -59,7 +59,7 @@ pub fn entries_of<R: Reader>(
 {
     match reader.show(Request::Map)? {
         Showing::Map(entries) => Ok(entries),
-        other => Err(invalid_type(alloc, other.kind(), expecting)),
+        other => Err(other.refused(alloc, expecting)),
     }
 }
 
@@ -79,7 +79,7 @@ pub fn elements_of<R: Reader>(
 {
     match reader.show(request)? {
         Showing::Sequence(elements) => Ok(elements),
-        other => Err(invalid_type(alloc, other.kind(), expecting)),
+        other => Err(other.refused(alloc, expecting)),
     }
 }
 
@@ -95,10 +95,10 @@ pub fn identifier_of<R: Reader>(
 ) -> Result<String, R::Error>
     ensures { Meets R.Error.fault (Gives string_bytes (read_identifier (R.source reader))) result }
 {
-    match reader.show(Request::Identifier)? {
+    match reader.surface(Request::Identifier)? {
         Showing::Text(name) => Ok(name),
         Showing::Char(c) => char_text(alloc, c),
         Showing::FirstChar(_) => Err(R::more_than_one_char()),
-        other => Err(invalid_type(alloc, other.kind(), expecting)),
+        other => Err(other.refused(alloc, expecting)),
     }
 }

@@ -1,9 +1,9 @@
-ghost use Rattle.std.specs.Prelude.{◌≡◌, ◌⊎◌, pos, string_bytes, Bool, Result, None};
+ghost use Rattle.std.specs.Prelude.{◌≡◌, pos, string_bytes, Bool, Result, None};
 ghost use Rattle.dynamo_value.specs.Fault.{Fault};
 ghost use Rattle.dynamo_value.specs.Integer as integers;
 ghost use Rattle.dynamo_de.specs.Sight as sight;
 ghost use Rattle.dynamo_de.specs.Sight.{Sight};
-ghost use Rattle.dynamo_de.specs.Takes.{Where, Visits};
+ghost use Rattle.dynamo_de.specs.Takes.{Visits};
 ghost use Rattle.dynamo_de.specs.declared.kind.Kind.{Kind};
 
 use crate::taken::refuse;

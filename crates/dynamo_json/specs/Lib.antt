@@ -1,5 +1,6 @@
 pub mod AttributeBack
 pub mod AttributeTells
+pub mod ErrorText
 pub mod Json
 pub mod JsonBack
 pub mod KeyOrder

@@ -7,7 +7,7 @@ ghost use Rattle.dynamo_value.specs.Base64.{base64_text};
 ghost use Rattle.dynamo_value.specs.Prefix as kind;
 ghost use Rattle.dynamo_value.specs.PrefixView.{prefix_view};
 ghost use Rattle.dynamo_value.specs.View.{view, elements_view, members_view};
-ghost use Rattle.dynamo_json.specs.Json.{json_of, item_json, elements_json, members_json, strings, under};
+ghost use Rattle.dynamo_json.specs.Json.{json_of, item_json, elements_json, strings, under};
 ghost use Rattle.dynamo_json.specs.Tokens.{tokens_of, begun, ended, lent_view};
 ghost use Rattle.serde_json.specs.Data as json;
 

@@ -2,6 +2,7 @@
 
 ghost use Rattle.std.specs.Prelude.{◌≡◌};
 ghost use Rattle.dynamo_value.specs.Fault.{out_of_memory};
+ghost use Rattle.dynamo_json.specs.ErrorText.{error_text};
 ghost use Rattle.dynamo_json.specs.OfText.{fault_in};
 
 use dynamo_value::{Error, ErrorImpl};
@@ -41,6 +42,8 @@ impl From<AllocError> for TextError {
 }
 
 impl fmt::Display for TextError {
+    ghost output = { error_text };
+
     fn fmt<W: fmt::Write>(&self, f: &mut fmt::Formatter<W>) -> fmt::Result {
         match self {
             TextError::NotJson(error) => fmt::Display::fmt(error, f),

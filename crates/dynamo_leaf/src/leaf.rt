@@ -1,4 +1,4 @@
-ghost use Rattle.std.specs.Prelude.{◌≡◌, string_bytes};
+ghost use Rattle.std.specs.Prelude.{string_bytes};
 ghost use Rattle.dynamo_value.specs.Kind.{fault_of};
 ghost use Rattle.dynamo_de.specs.Shown.{bool_key_shown, key_shown, number_shown, number_text_shown, plain_text_shown};
 ghost use Rattle.dynamo_leaf.specs.Leaf.{ShowsLeaf, ReadsInteger, asked};

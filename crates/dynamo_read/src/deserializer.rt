@@ -1,7 +1,9 @@
 ghost use Rattle.std.specs.Prelude.{◌≡◌, true, length, Some, string_bytes};
+ghost use Rattle.dynamo_value.specs.Kind.{fault_of};
 ghost use Rattle.dynamo_value.specs.View.{view};
 ghost use Rattle.dynamo_de.specs.Access.{Hints};
 ghost use Rattle.dynamo_de.specs.Shown.{shown};
+ghost use Rattle.dynamo_de.specs.Shows.{ShowsSurface};
 ghost use Rattle.dynamo_de.specs.Source.{attribute, plain_text};
 ghost use Rattle.dynamo_read.specs.Reader.{source_of, IsShown, asks_elements, Counted, IfElements};
 ghost use Rattle.dynamo_read.specs.Unread.{elements_left, elements_counted, entries_left, chosen_of};
@@ -9,7 +11,7 @@ ghost use Rattle.dynamo_read.specs.Unread.{elements_left, elements_counted, entr
 use crate::entries::single_entry;
 use crate::show::{self, Shown};
 use crate::unread::{Choice, Elements, Entries, Form, Rest};
-use dynamo_de::{Reader, Request, Showing};
+use dynamo_de::{Reader, Request, Showing, Surface};
 use dynamo_leaf::LeafReader;
 use dynamo_value::{AttributeValue, Error, ErrorImpl, Result};
 use std::alloc::Global;
@@ -59,6 +61,14 @@ impl Deserializer {
             source: Source::PlainText(text),
         }
     }
+}
+
+// What a source shows that isn't a text where a string is asked for, without what lies inside.
+#[inline(never)]
+fn other_surface(reader: Deserializer, request: Request) -> Result<Surface>
+    ensures { ShowsSurface fault_of (shown request (source_of reader)) result }
+{
+    Ok(reader.show(request)?.surface())
 }
 
 impl LeafReader for Deserializer {
@@ -116,6 +126,21 @@ impl Reader for Deserializer {
             Source::NumberText(text) => show::number_text(alloc, request, text),
             Source::ByteString(bytes) => Ok(Showing::Bytes(bytes)),
             Source::PlainText(text) => show::plain_text(alloc, request, text),
+        }
+    }
+
+    /// The same without what lies inside. A text where a string is asked for is shown as it is, and that at once.
+    #[inline(always)]
+    fn surface(self, request: Request) -> Result<Surface> {
+        let Deserializer { alloc, source } = self;
+        match (request, source) {
+            (
+                Request::Str | Request::String | Request::Identifier,
+                Source::AttributeValue(AttributeValue::S(text))
+                | Source::KeyText(text)
+                | Source::PlainText(text),
+            ) => Ok(Showing::Text(text)),
+            (request, source) => other_surface(Deserializer { alloc, source }, request),
         }
     }
 

@@ -6,7 +6,7 @@ ghost use Rattle.dynamo_de.specs.Sight.{only_entry};
 ghost use Rattle.dynamo_de.specs.Source.{entries_of, values_of, each, plain_text, number_text, byte_string};
 ghost use Rattle.dynamo_read.specs.Unread.{elements_left, elements_counted, entries_left, chosen_of};
 
-use crate::entries::take_sorted;
+use crate::entries::sorted;
 use dynamo_value::{AttributeValue, Result};
 use std::alloc::Global;
 use std::collections::HashMap;
@@ -89,17 +89,21 @@ impl Entries {
         ensures err { IfErr result (λ e. fault_of e ≡ out_of_memory) }
         ensures unchanged { OnErr result (map.new ≡ map.old) }
     {
-        let rest = take_sorted(alloc, map)?.into_iter();
+        let list = Vec::with_capacity(alloc, map.len())?;
+        let map = std::mem::replace(map, HashMap::new(alloc));
+        let rest = sorted(map, list).into_iter();
         Ok(Entries { alloc, rest })
     }
 
     // All entries of the map.
     #[tactic(auto, using(crate::proofs::Views::entries_of_members))]
-    pub(crate) fn of_map(alloc: Global, mut map: HashMap<String, AttributeValue>) -> Result<Self>
+    pub(crate) fn of_map(alloc: Global, map: HashMap<String, AttributeValue>) -> Result<Self>
         ensures ok { IfOk result (λ entries. entries_left entries ≡ entries_of (members_view map.entries)) }
         ensures err { IfErr result (λ e. fault_of e ≡ out_of_memory) }
     {
-        Entries::take(alloc, &mut map)
+        let list = Vec::with_capacity(alloc, map.len())?;
+        let rest = sorted(map, list).into_iter();
+        Ok(Entries { alloc, rest })
     }
 }
 

@@ -10,7 +10,7 @@ use crate::names::place_of;
 use crate::variant_names::unknown_variant;
 use dynamo_de::{
     DeserializeSeed, Deserializer, EnumAccess, Error, Reader, ReaderEnumAccess, Request, Showing,
-    identifier_of, invalid_type,
+    identifier_of,
 };
 use std::alloc::Global;
 use std::marker::PhantomData;
@@ -103,7 +103,7 @@ where
         Showing::Enum(choice) => {
             read_chosen::<T, ReaderEnumAccess<R>>(alloc, ReaderEnumAccess::new(choice))
         }
-        other => Err(invalid_type(alloc, other.kind(), T::expecting())),
+        other => Err(other.refused(alloc, T::expecting())),
     }
 }
 

@@ -5,7 +5,7 @@ ghost use Rattle.dynamo_de.specs.Reading as reading;
 ghost use Rattle.dynamo_de.specs.Source.{Text};
 ghost use Rattle.dynamo_record.specs.Newtypes.{named_newtype, ReadsAs};
 
-use dynamo_de::{Deserialize, Deserializer, Reader, Request, Showing, invalid_type};
+use dynamo_de::{Deserialize, Deserializer, Reader, Request, Showing};
 use dynamo_ser::Serializer;
 use dynamo_types::Shaped;
 use std::alloc::Global;
@@ -16,7 +16,7 @@ fn read_content<T: Deserialize, R: Reader>(alloc: Global, reader: R) -> Result<T
 {
     match reader.show(Request::NewtypeStruct)? {
         Showing::Newtype(content) => T::deserialize(alloc, content),
-        other => Err(invalid_type(alloc, other.kind(), "newtype struct")),
+        other => Err(other.refused(alloc, "newtype struct")),
     }
 }
 

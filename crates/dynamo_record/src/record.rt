@@ -18,7 +18,6 @@ use crate::names::place_of;
 use crate::{FieldList, RefList};
 use dynamo_de::{
     Deserialize, Deserializer, IgnoredAny, Reader, Request, Showing, entries_of, identifier_of,
-    invalid_type,
 };
 use dynamo_ser::{SerializeStruct, Serializer};
 use std::alloc::Global;
@@ -131,7 +130,7 @@ where
     match reader.show(Request::Struct)? {
         Showing::Map(entries) => read_entries::<R, D>(alloc, entries),
         Showing::Sequence(elements) => read_in_order::<R, D>(alloc, elements),
-        other => Err(invalid_type(alloc, other.kind(), R::expecting())),
+        other => Err(other.refused(alloc, R::expecting())),
     }
 }
 

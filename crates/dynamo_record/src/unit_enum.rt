@@ -11,7 +11,7 @@ use crate::names::place_of;
 use crate::variant_names::{name_at, unknown_variant};
 use dynamo_de::{
     DeserializeSeed, Deserializer, EnumAccess, Error, Reader, ReaderEnumAccess, Request, Showing,
-    VariantAccess, identifier_of, invalid_type,
+    VariantAccess, identifier_of,
 };
 use dynamo_ser::Serializer;
 use std::alloc::Global;
@@ -103,7 +103,7 @@ fn read_shown<T: UnitEnum, R: Reader>(alloc: Global, reader: R) -> Result<T, R::
         Showing::Enum(choice) => {
             read_chosen::<T, ReaderEnumAccess<R>>(alloc, ReaderEnumAccess::new(choice))
         }
-        other => Err(invalid_type(alloc, other.kind(), T::expecting())),
+        other => Err(other.refused(alloc, T::expecting())),
     }
 }
 

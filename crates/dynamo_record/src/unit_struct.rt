@@ -4,16 +4,16 @@ ghost use Rattle.dynamo_de.specs.Reading as reading;
 ghost use Rattle.dynamo_de.specs.Source.{Text};
 ghost use Rattle.dynamo_record.specs.Newtypes.{ReadsUnitStruct};
 
-use dynamo_de::{Deserializer, Reader, Request, Showing, invalid_type};
+use dynamo_de::{Deserializer, Reader, Request, Showing};
 use std::alloc::Global;
 
 /// Reads what has one value alone.
 fn read_unit<R: Reader>(alloc: Global, reader: R) -> Result<(), R::Error>
     ensures { Meets R.Error.fault (Gives (λ u. u) (reading.read_unit_struct (R.source reader))) result }
 {
-    match reader.show(Request::UnitStruct)? {
+    match reader.surface(Request::UnitStruct)? {
         Showing::Unit => Ok(()),
-        other => Err(invalid_type(alloc, other.kind(), "unit struct")),
+        other => Err(other.refused(alloc, "unit struct")),
     }
 }
 

@@ -1,4 +1,4 @@
-ghost use Rattle.std.specs.Prelude.{◌≡◌, ◌⊎◌, Result, Ok, Err, MatchResult, pos, None};
+ghost use Rattle.std.specs.Prelude.{◌≡◌, Result, Ok, MatchResult, pos, None};
 ghost use Rattle.dynamo_ser.specs.Datum as datum;
 ghost use Rattle.dynamo_ser.specs.Datum.{Datum, variant};
 ghost use Rattle.dynamo_ser.specs.Pieces.{Begins, BeginsContent};

@@ -1,5 +1,5 @@
 // The attribute value that is being built, event by event.
-ghost use Rattle.std.specs.Prelude.{◌≡◌, [], ◌∷◌, ◌++◌, false, string_bytes, Some, IfOk, OnOk};
+ghost use Rattle.std.specs.Prelude.{◌≡◌, [], false, string_bytes, Some, IfOk, OnOk};
 ghost use Rattle.serde.specs.Event.{boolean, signed, unsigned, single, double, character, text as text_event, octets, nothing, unit_variant, seq_begins, seq_ends, map_begins, map_ends, field_key, variant_key as variant_event, key_begins, key_ends, flattens as flatten_event};
 ghost use Rattle.serde.specs.Spelling.{spelled};
 ghost use Rattle.dynamo_value.specs.Av as av;

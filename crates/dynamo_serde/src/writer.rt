@@ -1,5 +1,5 @@
 // A builder that knows the events which it was sent, for proofs.
-ghost use Rattle.std.specs.Prelude.{◌≡◌, [], Some, None, IfSome, OnOk, OnErr, IfOk};
+ghost use Rattle.std.specs.Prelude.{◌≡◌, [], Some, IfSome, OnOk, IfOk};
 ghost use Rattle.serde.specs.Event.{Logs};
 ghost use Rattle.dynamo_value.specs.View.{view};
 ghost use Rattle.dynamo_serde.specs.Sent.{State, start, Takes, Follows, IsValueOf};

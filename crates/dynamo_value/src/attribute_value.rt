@@ -170,16 +170,28 @@ fn copy(value: &AttributeValue) -> Result<AttributeValue, AllocError>
     ensures { IfOk result (λ v. view v ≡ view value.now) }
 {
     match value {
+        AttributeValue::M(_) | AttributeValue::L(_) => copy_nest(value),
+        _leaf => copy_leaf(value),
+    }
+}
+
+// The same, of a value that nests others; of one that doesn't it is no other.
+#[cycle(copy)]
+#[inline(never)]
+fn copy_nest(value: &AttributeValue) -> Result<AttributeValue, AllocError>
+    ensures { IfOk result (λ v. view v ≡ view value.now) }
+{
+    match value {
         AttributeValue::M(map) => Ok(AttributeValue::M(copy_map(map)?)),
         AttributeValue::L(list) => Ok(AttributeValue::L(copy_list(list)?)),
-        other => copy_other(other),
+        leaf => copy_leaf(leaf),
     }
 }
 
 // The same, of a value that nests no others; of one that does it is no other.
 #[cycle(copy)]
 #[inline(never)]
-fn copy_other(value: &AttributeValue) -> Result<AttributeValue, AllocError>
+fn copy_leaf(value: &AttributeValue) -> Result<AttributeValue, AllocError>
     ensures { IfOk result (λ v. view v ≡ view value.now) }
 {
     match value {

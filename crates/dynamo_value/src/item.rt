@@ -5,7 +5,6 @@ ghost use Rattle.std.specs.Cmp.{partial_equiv_from_equiv, on_equiv};
 ghost use Rattle.std.specs.HashMap.{get_by_text};
 ghost use Rattle.dynamo_value.specs.Equal.{members_eq, members_eq_equiv, items_eq, items_eq_equiv};
 ghost use Rattle.dynamo_value.specs.Item.{map_of, maps_of, item_of, item_view, items_view};
-ghost use Rattle.dynamo_value.specs.View.{view};
 
 use crate::AttributeValue;
 use crate::attribute_value::{copy_map, same_maps};

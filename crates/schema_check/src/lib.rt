@@ -3,10 +3,12 @@
 
 ghost use Rattle.std.specs.Prelude.{◌≡◌, ◌+◌, Option, Result};
 ghost use Rattle.std.specs.Io.Iter.{u64_saturate};
+ghost use Rattle.fixtures.specs.ErrorText.{line_text};
 ghost use Rattle.fixtures.specs.Lines.{Gives};
 ghost use Rattle.fixtures.specs.declared.lines.Line.{Line};
 ghost use Rattle.fixtures.specs.declared.lines.LineFault.{LineFault};
 ghost use Rattle.schema_check.specs.Checked.{Checks, ChecksLine};
+ghost use Rattle.schema_check.specs.FindingText.{problem_text};
 
 use dynamo_de::Deserialize;
 use dynamo_read::from_item;
@@ -47,6 +49,8 @@ pub struct Summary {
 }
 
 impl fmt::Display for Finding {
+    ghost output = { λ finding. line_text finding.number (problem_text finding.problem) };
+
     fn fmt<W: fmt::Write>(&self, f: &mut fmt::Formatter<W>) -> fmt::Result {
         match &self.problem {
             Problem::Line(fault) => write!(f, "line {}: {fault}", self.number),

@@ -17,8 +17,17 @@ enum Plain {
 pub struct Maps(Vec<HashMap<String, Plain>>);
 
 impl Maps {
-    /// The maps of these users.
+    /// The maps of these users, as they are made: with the room that no entry takes, as what `to_item` answers has.
     pub fn of(alloc: Global, users: &[User]) -> Result<Maps, AllocError> {
+        let mut maps = Vec::new(alloc);
+        for user in users {
+            maps.push(made(alloc, user)?)?;
+        }
+        Ok(Maps(maps))
+    }
+
+    // The maps of these users, to be kept.
+    fn kept(alloc: Global, users: &[User]) -> Result<Maps, AllocError> {
         let mut maps = Vec::new(alloc);
         for user in users {
             let mut map = made(alloc, user)?;
@@ -68,7 +77,7 @@ pub fn written(alloc: Global, users: &[User]) -> Result<usize, AllocError> {
 /// What `to_attribute_value` does of a list: makes a map of each user, and keeps them all. How many there are.
 #[inline(never)]
 pub fn listed(alloc: Global, users: &[User]) -> Result<usize, AllocError> {
-    Ok(Maps::of(alloc, users)?.0.len())
+    Ok(Maps::kept(alloc, users)?.0.len())
 }
 
 /// What `clone` does of items: copies the maps. How many there are.

@@ -1,3 +1,4 @@
+pub mod ErrorText
 pub mod KeyLaws
 pub mod KeyOf
 pub mod KeyOrder

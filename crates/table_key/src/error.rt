@@ -1,4 +1,5 @@
-ghost use Rattle.std.specs.Prelude.{◌≡◌};
+ghost use Rattle.std.specs.Prelude.{◌≡◌, Some};
+ghost use Rattle.table_key.specs.ErrorText.{error_text};
 ghost use Rattle.table_key.specs.declared.error.TableError.TheVariants.{OutOfMemory};
 
 use std::alloc::{AllocError, AllocFailed};
@@ -59,6 +60,8 @@ impl<T: Drop> From<AllocFailed<T>> for TableError {
 }
 
 impl fmt::Display for TableError {
+    ghost output = { λ error. Some (error_text error) };
+
     fn fmt<W: fmt::Write>(&self, f: &mut fmt::Formatter<W>) -> fmt::Result {
         f.write_str(match self {
             TableError::Missing => "an attribute of the key is missing",

@@ -1,4 +1,8 @@
--- Errors of a table in memory as those of a table in a database.
+-- Errors of a table in memory and of SQLite as those of a table in a database, and the printed texts.
+use Rattle.std.specs.Prelude.{ℕ, List, Option, Some, None, codes}
+use Rattle.sqlite.specs.declared.error.Error.{Error}
+use Rattle.sqlite.specs.declared.error.ErrorCode.{ErrorCode}
+use Rattle.table_key.specs.ErrorText.{error_text}
 use Rattle.table_key.specs.declared.error.TableError.{TableError}
 use Rattle.table_rows.specs.declared.error.StoreError.{StoreError}
 
@@ -6,3 +10,18 @@ use Rattle.table_rows.specs.declared.error.StoreError.{StoreError}
 abbrev pub of_table : TableError → StoreError
 of_table TableError.OutOfMemory = StoreError.OutOfMemory
 of_table error = StoreError.Key error
+
+-- the database's own want of memory as well
+abbrev pub of_database : Error → StoreError
+of_database (Error.SqliteFailure ErrorCode.OutOfMemory) = StoreError.OutOfMemory
+of_database error = StoreError.Database error
+
+-- the printed text, but where the database's own isn't promised
+abbrev pub store_error_text : StoreError → Option (List ℕ)
+store_error_text (StoreError.Key error) = Some (error_text error)
+store_error_text (StoreError.Database error) = None
+store_error_text StoreError.TooDeep = Some (codes "the item nests deeper than 32 levels")
+store_error_text StoreError.Unreadable = Some (codes "what the database keeps does not read")
+store_error_text StoreError.NoTable = Some (codes "the database has no table of this name")
+store_error_text StoreError.OtherSchema = Some (codes "the table is there with other keys")
+store_error_text StoreError.OutOfMemory = Some (codes "out of memory")

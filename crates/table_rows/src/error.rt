@@ -1,5 +1,5 @@
 ghost use Rattle.std.specs.Prelude.{◌≡◌};
-ghost use Rattle.table_rows.specs.Errors.{of_table};
+ghost use Rattle.table_rows.specs.Errors.{of_table, of_database, store_error_text};
 ghost use Rattle.table_rows.specs.declared.error.StoreError.{StoreError};
 
 use sqlite::{Error, ErrorCode};
@@ -63,6 +63,8 @@ impl From<TableError> for StoreError {
 
 /// Want of memory is the same fault wherever it comes from.
 impl From<Error> for StoreError {
+    ghost from_gives = { λ error e. e ≡ of_database error };
+
     fn from(error: Error) -> StoreError {
         match error {
             Error::SqliteFailure(ErrorCode::OutOfMemory) => StoreError::OutOfMemory,
@@ -72,6 +74,8 @@ impl From<Error> for StoreError {
 }
 
 impl fmt::Display for StoreError {
+    ghost output = { store_error_text };
+
     fn fmt<W: fmt::Write>(&self, f: &mut fmt::Formatter<W>) -> fmt::Result {
         match self {
             StoreError::Key(error) => write!(f, "{error}"),

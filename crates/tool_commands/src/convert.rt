@@ -1,4 +1,4 @@
-ghost use Rattle.std.specs.Prelude.{◌≡◌, ℕ, List, Result, string_bytes};
+ghost use Rattle.std.specs.Prelude.{ℕ, List, Result, string_bytes};
 ghost use Rattle.std.specs.Result.{result_map_both};
 ghost use Rattle.serde_json.specs.View.{view};
 ghost use Rattle.dynamo_value.specs.View as av;

@@ -1,4 +1,7 @@
 ghost use Rattle.std.specs.Prelude.{◌≡◌};
+ghost use Rattle.table_rows.specs.Errors.{of_table};
+ghost use Rattle.table_rows.specs.declared.error.StoreError.{StoreError};
+ghost use Rattle.typed_store.specs.ErrorText.{typed_error_text};
 ghost use Rattle.typed_store.specs.declared.error.TypedError.{TypedError};
 
 use dynamo_value::Error;
@@ -34,12 +37,16 @@ impl From<StoreError> for TypedError {
 }
 
 impl From<TableError> for TypedError {
+    ghost from_gives = { λ error e. e ≡ TypedError.Store (of_table error) };
+
     fn from(error: TableError) -> TypedError {
         TypedError::Store(StoreError::from(error))
     }
 }
 
 impl From<AllocError> for TypedError {
+    ghost from_gives = { λ _ e. e ≡ TypedError.Store StoreError.OutOfMemory };
+
     fn from(error: AllocError) -> TypedError {
         TypedError::Store(StoreError::from(error))
     }
@@ -47,12 +54,16 @@ impl From<AllocError> for TypedError {
 
 /// What could not be stored is let go.
 impl<T: Drop> From<AllocFailed<T>> for TypedError {
+    ghost from_gives = { λ _ e. e ≡ TypedError.Store StoreError.OutOfMemory };
+
     fn from(_: AllocFailed<T>) -> TypedError {
         TypedError::Store(StoreError::OutOfMemory)
     }
 }
 
 impl fmt::Display for TypedError {
+    ghost output = { typed_error_text };
+
     fn fmt<W: fmt::Write>(&self, f: &mut fmt::Formatter<W>) -> fmt::Result {
         match self {
             TypedError::Value(error) => fmt::Display::fmt(error, f),

@@ -1,4 +1,5 @@
 ghost use Rattle.std.specs.Prelude.{◌≡◌};
+ghost use Rattle.typed_table.specs.ErrorText.{store_error_text};
 ghost use Rattle.typed_table.specs.declared.error.StoreError.{StoreError};
 
 use dynamo_value::Error;
@@ -32,6 +33,8 @@ impl From<TableError> for StoreError {
 }
 
 impl fmt::Display for StoreError {
+    ghost output = { store_error_text };
+
     fn fmt<W: fmt::Write>(&self, f: &mut fmt::Formatter<W>) -> fmt::Result {
         match self {
             StoreError::Value(error) => fmt::Display::fmt(error, f),

@@ -1,4 +1,3 @@
-ghost use Rattle.std.specs.Prelude.{◌≡◌};
 ghost use Rattle.serde_json.specs.Data as json;
 ghost use Rattle.serde_json.specs.View.{view, items_view, members_view};
 ghost use Rattle.dynamo_de.specs.Answer.{Gives};
@@ -7,7 +6,6 @@ ghost use Rattle.dynamo_de.specs.ReadJson.{read_json, read_scalar, read_sources,
 ghost use Rattle.dynamo_de.specs.Shows.{seen};
 
 use super::texts::char_text;
-use crate::taken::invalid_type;
 use crate::{Deserialize, Deserializer, Error, Reader, Request, Showing};
 use serde_json::{Map, Value};
 use std::alloc::Global;
@@ -56,7 +54,7 @@ fn scalar<R: Reader>(
         Showing::Text(v) => Ok(Value::String(v)),
         Showing::None => Ok(Value::Null),
         Showing::Unit => Ok(Value::Null),
-        other => Err(invalid_type(alloc, other.kind(), "any valid JSON value")),
+        other => Err(other.refused(alloc, "any valid JSON value")),
     }
 }
 

@@ -7,7 +7,6 @@ ghost use Rattle.dynamo_de.specs.Meets.{Meets};
 ghost use Rattle.dynamo_de.specs.Reading.{read_bool, read_integer};
 ghost use Rattle.dynamo_de.specs.Visitors.{claims_integers, take_integer, checked, is_wide as is_wide_kind};
 
-use crate::taken::invalid_type;
 use crate::{Deserialize, Deserializer, Error, Kind, Request, Showing, Visitor};
 use std::alloc::Global;
 use std::marker::PhantomData;
@@ -16,9 +15,9 @@ impl Deserialize for bool {
     ghost reads = { λ s. Gives (λ b. b) (read_bool s) };
 
     fn deserialize<D: Deserializer>(alloc: Global, deserializer: D) -> Result<bool, D::Error> {
-        match deserializer.show(Request::Bool)? {
+        match deserializer.surface(Request::Bool)? {
             Showing::Bool(v) => Ok(v),
-            other => Err(invalid_type(alloc, other.kind(), "a boolean")),
+            other => Err(other.refused(alloc, "a boolean")),
         }
     }
 }

@@ -1,9 +1,7 @@
-ghost use Rattle.std.specs.Prelude.{◌≡◌};
 ghost use Rattle.dynamo_de.specs.Answer.{Gives, After};
 ghost use Rattle.dynamo_de.specs.Reading.{read_content, read_unit};
 ghost use Rattle.dynamo_de.specs.Reads.{ReadsOption, Through};
 
-use crate::taken::invalid_type;
 use crate::{Deserialize, Deserializer, Error, Request, Showing};
 use std::alloc::Global;
 
@@ -11,9 +9,9 @@ impl Deserialize for () {
     ghost reads = { λ s. Gives (λ u. u) (read_unit s) };
 
     fn deserialize<D: Deserializer>(alloc: Global, deserializer: D) -> Result<(), D::Error> {
-        match deserializer.show(Request::Unit)? {
+        match deserializer.surface(Request::Unit)? {
             Showing::Unit => Ok(()),
-            other => Err(invalid_type(alloc, other.kind(), "unit")),
+            other => Err(other.refused(alloc, "unit")),
         }
     }
 }
@@ -25,7 +23,7 @@ impl<T: Deserialize> Deserialize for Option<T> {
         match deserializer.show(Request::Option)? {
             Showing::None | Showing::Unit => Ok(None),
             Showing::Some(content) => Ok(Some(T::deserialize(alloc, content)?)),
-            other => Err(invalid_type(alloc, other.kind(), "option")),
+            other => Err(other.refused(alloc, "option")),
         }
     }
 }

@@ -8,7 +8,6 @@ ghost use Rattle.dynamo_de.specs.Meets.{Meets};
 ghost use Rattle.dynamo_de.specs.Reading.{read_char, read_string, read_bytes};
 ghost use Rattle.dynamo_de.specs.Visitors.{one_char};
 
-use crate::taken::invalid_type;
 use crate::{Deserialize, Deserializer, Error, Request, Showing};
 use dynamo_value::ByteBuf;
 use std::alloc::Global;
@@ -43,11 +42,11 @@ impl Deserialize for char {
     ghost reads = { λ s. Gives (λ c. c) (read_char s) };
 
     fn deserialize<D: Deserializer>(alloc: Global, deserializer: D) -> Result<char, D::Error> {
-        match deserializer.show(Request::Char)? {
+        match deserializer.surface(Request::Char)? {
             Showing::Char(v) => Ok(v),
             Showing::FirstChar(_) => Err(D::more_than_one_char()),
             Showing::Text(v) => only_char(alloc, v.as_str()),
-            other => Err(invalid_type(alloc, other.kind(), "a character")),
+            other => Err(other.refused(alloc, "a character")),
         }
     }
 }
@@ -67,12 +66,12 @@ impl Deserialize for String {
     ghost reads = { λ s. Gives string_bytes (read_string s) };
 
     fn deserialize<D: Deserializer>(alloc: Global, deserializer: D) -> Result<String, D::Error> {
-        match deserializer.show(Request::String)? {
+        match deserializer.surface(Request::String)? {
             Showing::Text(v) => Ok(v),
             Showing::Char(v) => char_text(alloc, v),
             Showing::FirstChar(_) => Err(D::more_than_one_char()),
             Showing::Bytes(v) => utf8_text(alloc, v),
-            other => Err(invalid_type(alloc, other.kind(), "a string")),
+            other => Err(other.refused(alloc, "a string")),
         }
     }
 }
@@ -81,12 +80,12 @@ impl Deserialize for ByteBuf {
     ghost reads = { λ s. Gives octets_of (read_bytes s) };
 
     fn deserialize<D: Deserializer>(alloc: Global, deserializer: D) -> Result<ByteBuf, D::Error> {
-        match deserializer.show(Request::ByteBuf)? {
+        match deserializer.surface(Request::ByteBuf)? {
             Showing::Bytes(v) => Ok(ByteBuf::from(v)),
             Showing::Text(v) => Ok(ByteBuf::from(v.into_bytes())),
             Showing::Char(v) => Ok(ByteBuf::from(char_text(alloc, v)?.into_bytes())),
             Showing::FirstChar(_) => Err(D::more_than_one_char()),
-            other => Err(invalid_type(alloc, other.kind(), "byte array")),
+            other => Err(other.refused(alloc, "byte array")),
         }
     }
 }

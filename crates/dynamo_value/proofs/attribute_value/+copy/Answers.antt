@@ -20,14 +20,14 @@ copy_map-loop-key-preserved t c =
           l.invariant.2 c.in_ok-insert.ensures.updates c.in_ok-name.ensures.cases c.in_ok-copy.ensures,
     )
 
-pub copy_other-returns-in_ok-clone-in-Ss : goal.copy_other-returns-in_ok-clone-in-Ss
-copy_other-returns-in_ok-clone-in-Ss t c =
+pub copy_leaf-returns-in_ok-clone-in-Ss : goal.copy_leaf-returns-in_ok-clone-in-Ss
+copy_leaf-returns-in_ok-clone-in-Ss t c =
     let made = c.in_ok-clone-in-Ss in strings_kept c.args.value.now c.in-Ss.set made.field-0 made.ensures.cases.0 c.in-Ss.is
 
-pub copy_other-returns-in_ok-clone-in-Ns : goal.copy_other-returns-in_ok-clone-in-Ns
-copy_other-returns-in_ok-clone-in-Ns t c =
+pub copy_leaf-returns-in_ok-clone-in-Ns : goal.copy_leaf-returns-in_ok-clone-in-Ns
+copy_leaf-returns-in_ok-clone-in-Ns t c =
     let made = c.in_ok-clone-in-Ns in numbers_kept c.args.value.now c.in-Ns.set made.field-0 made.ensures.cases.0 c.in-Ns.is
 
-pub copy_other-returns-in_ok-clone-in-Bs : goal.copy_other-returns-in_ok-clone-in-Bs
-copy_other-returns-in_ok-clone-in-Bs t c =
+pub copy_leaf-returns-in_ok-clone-in-Bs : goal.copy_leaf-returns-in_ok-clone-in-Bs
+copy_leaf-returns-in_ok-clone-in-Bs t c =
     let made = c.in_ok-clone-in-Bs in blobs_kept c.args.value.now c.in-Bs.set made.field-0 made.ensures.cases.0 c.in-Bs.is

@@ -1,6 +1,6 @@
 use Rattle.std.proofs.Common.{◌≡◌, ◌+◌, ◌≤◌, length, ◌++◌}
 use Rattle.std.specs.Vec.{vec_len, vec_capacity}
-use Rattle.dynamo_read.proofs.entries.take_all.Given as goal
+use Rattle.dynamo_read.proofs.entries.sorted.Given as goal
 
 -- the list has room for what is left, and is followed by it
 abbrev pub invariant-loop-entry : goal.invariant-loop-entry

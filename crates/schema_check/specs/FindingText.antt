@@ -1,0 +1,9 @@
+-- The printed text of why a line doesn't read as the type.
+use Rattle.std.specs.Prelude.{ℕ, List, Option}
+use Rattle.dynamo_value.specs.KindText.{kind_text}
+use Rattle.fixtures.specs.ErrorText.{fault_text}
+use Rattle.schema_check.specs.declared.Problem.{Problem}
+
+abbrev pub problem_text : Problem → Option (List ℕ)
+problem_text (Problem.Line fault) = fault_text fault
+problem_text (Problem.Value error) = kind_text error

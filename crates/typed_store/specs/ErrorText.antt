@@ -1,0 +1,10 @@
+-- The printed text of why a value could not be stored or got.
+use Rattle.std.specs.Prelude.{ℕ, List, Option}
+use Rattle.dynamo_value.specs.KindText.{kind_text}
+use Rattle.table_rows.specs.Errors.{store_error_text}
+use Rattle.typed_store.specs.declared.error.TypedError.{TypedError}
+
+-- that of the fault by itself
+abbrev pub typed_error_text : TypedError → Option (List ℕ)
+typed_error_text (TypedError.Value error) = kind_text error
+typed_error_text (TypedError.Store error) = store_error_text error
