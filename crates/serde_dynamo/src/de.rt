@@ -4,6 +4,6 @@
 pub use dynamo_de::{
     Deserialize, DeserializeSeed, Deserializer, EnumAccess, Error, IgnoredAny, Kind, MapAccess,
     Reader, ReaderEnumAccess, ReaderMapAccess, ReaderSeqAccess, ReaderVariantAccess, Request,
-    SeqAccess, Showing, TypeSeed, VariantAccess, Visitor, elements_of, entries_of, identifier_of,
-    invalid_type,
+    SeqAccess, Showing, Surface, TypeSeed, VariantAccess, Visitor, elements_of, entries_of,
+    identifier_of, invalid_type,
 };
