@@ -1,6 +1,9 @@
-ghost use Rattle.std.specs.Prelude.{◌≡◌};
+ghost use Rattle.std.specs.Prelude.{◌≡◌, MatchResult, OnOk, string_bytes};
+ghost use Rattle.std.specs.FinMap.Entries as entries;
 ghost use Rattle.dynamo_value.specs.Av as av;
-ghost use Rattle.dynamo_value.specs.View.{view, entries_view};
+ghost use Rattle.dynamo_value.specs.Fault.{out_of_memory};
+ghost use Rattle.dynamo_value.specs.Kind.{fault_of};
+ghost use Rattle.dynamo_value.specs.View.{view, entries_view, text_cmp};
 ghost use Rattle.dynamo_write.specs.AttributeValues.{attribute_values, answers, refuses};
 ghost use Rattle.dynamo_write.specs.Target.{parts_before};
 
@@ -23,6 +26,18 @@ pub type SerializerTupleVariant<'a> = TupleVariantOf<'a, Serializer>;
 
 /// The builder of a struct variant: an `M` of one member, the variant's name, over the `M` of its fields.
 pub type SerializerStructVariant<'a> = StructVariantOf<'a, Serializer>;
+
+// Puts one entry. It isn't inlined, so that a value that has no room to give back is handed on as it lies.
+#[inline(never)]
+fn put(map: &mut HashMap<String, AttributeValue>, key: String, value: AttributeValue) -> Result<()>
+    ensures ok { OnOk result (entries_view map.new.entries ≡ entries.put text_cmp (string_bytes key) (view value) (entries_view map.old.entries)) }
+    ensures err { MatchResult result (λ _. Unit {0}) (λ e. fault_of e ≡ out_of_memory) }
+{
+    match map.insert(key, value) {
+        Ok(_) => Ok(()),
+        Err(error) => Err(Error::from(error)),
+    }
+}
 
 impl Target for Serializer {
     type Map = HashMap<String, AttributeValue>;
@@ -60,9 +75,9 @@ impl Target for Serializer {
         key: String,
         value: AttributeValue,
     ) -> Result<()> {
-        match map.insert(key, value.fitted()) {
-            Ok(_) => Ok(()),
-            Err(error) => Err(Error::from(error)),
+        match &value {
+            AttributeValue::M(_) => put(map, key, value.fitted()),
+            _other => put(map, key, value),
         }
     }
 
