@@ -1,4 +1,4 @@
-ghost use Rattle.std.specs.Prelude.{◌≡◌, ◌⊎◌, refl, ℕ, ◌+◌, ◌*◌, ◌^◌, ◌<◌, ◌≤◌, ◌==◌, ℤ, pos, neg_ℤ, ◌+ℤ◌, ◌≤ℤ◌, true, false, length, MatchOption};
+ghost use Rattle.std.specs.Prelude.{◌≡◌, ◌⊎◌, ⊤, refl, ℕ, ◌+◌, ◌*◌, ◌^◌, ◌<◌, ◌≤◌, ◌==◌, ℤ, pos, neg_ℤ, ◌+ℤ◌, ◌≤ℤ◌, true, false, length, MatchOption};
 ghost use Rattle.std.specs.Cmp.{partial_equiv_from_equiv, int_eq_equiv, int_cmp_total, po};
 ghost use Rattle.std.specs.Ordering.{int_cmp, int_eq, as_partial_cmp};
 ghost use Rattle.std.specs.List.{before_first, after_first};
@@ -7,6 +7,7 @@ ghost use Rattle.dynamo_number.specs.Numbers.{IsNumber, IsDecimal, IsExponent, I
 ghost use Rattle.dynamo_number.specs.Digits.{IsLong, IsScaled};
 ghost use Rattle.dynamo_number.specs.Bytes.{IsBytesOf, size_bytes};
 
+use std::alloc::AllocError;
 use std::cmp::Ordering;
 use std::marker::Model;
 
@@ -196,6 +197,21 @@ fn pad(mut digits: u128, mut power: i128) -> (u128, i128)
         power -= 1;
     }
     (digits, power)
+}
+
+/// The same number. It takes no memory.
+impl Clone for Number {
+    ghost is_clone = { λ number copy. copy ≡ number };
+
+    ghost is_infallible = { λ _. ⊤ };
+
+    fn clone(&self) -> Result<Number, AllocError> {
+        Ok(Number {
+            negative: self.negative,
+            coefficient: self.coefficient,
+            power: self.power,
+        })
+    }
 }
 
 impl PartialEq for Number {

@@ -1,2 +1,3 @@
 pub mod Pages
 pub mod Scans
+pub mod Walks

@@ -26,7 +26,7 @@ module _ {X : Type 0} (p q : X → Bool) where
   hidden false x xs h = refl
 
   -- a filter of a filter that lets through more
-  narrow : ((x : X) → p x ≡ true → q x ≡ true) → (xs : List X) → filter p (filter q xs) ≡ filter p xs
+  pub narrow : ((x : X) → p x ≡ true → q x ≡ true) → (xs : List X) → filter p (filter q xs) ≡ filter p xs
   narrow h [] = refl
   narrow h (x ∷ xs) = go (narrow h xs) (q x) refl
     where
@@ -49,7 +49,7 @@ all_at P (x ∷ front) e back h = all_at P front e back h.1
 
 -- ---- entries in order
 
-all_key : (P : Key → Type 0) (front : Entries) (e : Key × Item) (back : Entries) → AllByRecursion P (keys_of (front ++ e ∷ back)) → P e.0
+pub all_key : (P : Key → Type 0) (front : Entries) (e : Key × Item) (back : Entries) → AllByRecursion P (keys_of (front ++ e ∷ back)) → P e.0
 all_key P [] e back h = h.0
 all_key P (x ∷ front) e back h = all_key P front e back h.1
 
@@ -66,7 +66,7 @@ cut (x ∷ front) e back s =
     let others = filter (above e.0) (front ++ e ∷ back) in
     ap (λ r. cond (is_lt r) (x ∷ others) others) below ∙ cut front e back s.1
 
-filtered_keys : (p : Key → Bool) (es : Entries) → filter p (keys_of es) ≡ keys_of (filter (λ e. p e.0) es)
+pub filtered_keys : (p : Key → Bool) (es : Entries) → filter p (keys_of es) ≡ keys_of (filter (λ e. p e.0) es)
 filtered_keys p [] = refl
 filtered_keys p (x ∷ es) = go (filtered_keys p es) (p x.0)
   where

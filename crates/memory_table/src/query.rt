@@ -1,28 +1,93 @@
-ghost use Rattle.std.specs.Prelude.{◌≡◌, IfOk, take};
+ghost use Rattle.std.specs.Prelude.{◌≡◌, IfOk, false, not, take, true};
+ghost use Rattle.std.specs.BTreeMap.Range.{entries_between, is_from_start, is_past_end};
+ghost use Rattle.std.specs.Range.Bound.{bound_map};
+ghost use Rattle.std.specs.declared.ops.Bound.TheVariants.{Unbounded};
 ghost use Rattle.memory_table.specs.Content.{entries_of};
-ghost use Rattle.table_query.specs.Queries.{answer, rest, seen};
+ghost use Rattle.table_key.specs.KeyOrder.{key_cmp};
+ghost use Rattle.table_key.specs.declared.key.Key.{Key};
+ghost use Rattle.table_query.specs.Queries.{answer, finds, rest, seen};
 
 use crate::Table;
 use dynamo_value::Item;
 use std::alloc::{AllocError, Global};
+use std::ops::Bound;
 use table_key::Key;
-use table_query::{Query, is_behind};
+use table_query::Query;
 
 impl Table {
-    /// The items that a query finds, with their keys.
+    /// The items that a query finds, with their keys. It looks at no items but those from the key behind which the query starts, or
+    /// from its partition and the bounds of its sort condition on, up to the limit.
+    ///
+    /// # Errors
+    ///
+    /// [`AllocError`] where there is no memory for the answer, or for a copy of the key values at which the search begins.
     pub fn query(&self, alloc: Global, query: &Query<'_>) -> Result<Vec<(&Key, &Item)>, AllocError>
         ensures { IfOk result (λ found. seen found.items ≡ answer query.now (entries_of self.now)) }
     {
+        match query.start_after {
+            Some(key) if query.backward => self.find_back(alloc, query, Bound::Excluded(key)),
+            Some(key) => self.find_on(alloc, query, Bound::Excluded(key)),
+            None if query.backward => match query.high_key()? {
+                Some(high) => self.find_back(alloc, query, Bound::Included(&high)),
+                None => self.find_back(alloc, query, Bound::Unbounded),
+            },
+            None => {
+                let low = query.low_key()?;
+                self.find_on(alloc, query, Bound::Included(&low))
+            }
+        }
+    }
+
+    // The items that a query finds that isn't backward, none of which is before the start.
+    fn find_on<'a>(
+        &'a self,
+        alloc: Global,
+        query: &Query<'_>,
+        start: Bound<&Key>,
+    ) -> Result<Vec<(&'a Key, &'a Item)>, AllocError>
+        requires forward { query.now.backward ≡ false }
+        requires start { (key : Key) → finds query.now key ≡ true → is_from_start key_cmp (bound_map (λ x. x.now) start) key ≡ true }
+        ensures { IfOk result (λ found. seen found.items ≡ answer query.now (entries_of self.now)) }
+    {
         let mut found = Vec::new(alloc);
-        for (key, item) in self.items().iter() {
+        for (key, item) in self.items().range((start, Bound::Unbounded)) {
+            if found.len() == query.limit {
+                return Ok(found);
+            }
+            if query.is_past(key) {
+                return Ok(found);
+            }
             if query.finds(key) {
                 found.push((key, item))?;
             }
         }
-        if query.backward {
-            found.reverse();
+        Ok(found)
+    }
+
+    // The items that a backward query finds, none of which is behind the end.
+    fn find_back<'a>(
+        &'a self,
+        alloc: Global,
+        query: &Query<'_>,
+        end: Bound<&Key>,
+    ) -> Result<Vec<(&'a Key, &'a Item)>, AllocError>
+        requires backward { query.now.backward ≡ true }
+        requires end { (key : Key) → finds query.now key ≡ true → is_past_end key_cmp (bound_map (λ x. x.now) end) key ≡ false }
+        ensures { IfOk result (λ found. seen found.items ≡ answer query.now (entries_of self.now)) }
+    {
+        let mut found = Vec::new(alloc);
+        let mut left = self.items().range((Bound::Unbounded, end));
+        while let Some((key, item)) = left.next_back() {
+            if found.len() == query.limit {
+                return Ok(found);
+            }
+            if query.is_past(key) {
+                return Ok(found);
+            }
+            if query.finds(key) {
+                found.push((key, item))?;
+            }
         }
-        found.truncate(query.limit);
         Ok(found)
     }
 
@@ -36,14 +101,27 @@ impl Table {
     ) -> Result<Vec<(&Key, &Item)>, AllocError>
         ensures { IfOk result (λ page. seen page.items ≡ take limit (rest start_after.entry (entries_of self.now))) }
     {
+        match start_after {
+            Some(key) => self.page_on(alloc, limit, Bound::Excluded(key)),
+            None => self.page_on(alloc, limit, Bound::Unbounded),
+        }
+    }
+
+    // The items from a start on, at most `limit`.
+    fn page_on<'a>(
+        &'a self,
+        alloc: Global,
+        limit: usize,
+        start: Bound<&Key>,
+    ) -> Result<Vec<(&'a Key, &'a Item)>, AllocError>
+        ensures { IfOk result (λ page. seen page.items ≡ take limit (entries_between key_cmp (bound_map (λ x. x.now) start.entry) Unbounded (entries_of self.now))) }
+    {
         let mut page = Vec::new(alloc);
-        for (key, item) in self.items().iter() {
+        for (key, item) in self.items().range((start, Bound::Unbounded)) {
             if page.len() == limit {
-                break;
+                return Ok(page);
             }
-            if is_behind(false, start_after, key) {
-                page.push((key, item))?;
-            }
+            page.push((key, item))?;
         }
         Ok(page)
     }

@@ -1,10 +1,12 @@
 ghost use Rattle.std.specs.Prelude.{◌≡◌, ◌≢◌, refl, MatchOption};
 ghost use Rattle.std.specs.Cmp.{partial_equiv_from_equiv, eq_by_cmp_equiv, po};
 ghost use Rattle.std.specs.Ordering.{eq_by_cmp, as_partial_cmp};
+ghost use Rattle.std.specs.declared.cmp.Ordering.TheVariants.{Equal};
 ghost use Rattle.table_key.specs.KeyOrder.{kind_name, kind_rank, value_cmp};
 ghost use Rattle.table_key.specs.KeyLaws.{value_total};
 
 use dynamo_number::Number;
+use std::alloc::AllocError;
 use std::cmp::Ordering;
 
 /// The kinds of attributes that can be a part of a key.
@@ -83,6 +85,21 @@ impl KeyValue {
             KeyValue::N(_) => 1,
             KeyValue::B(_) => 2,
         }
+    }
+}
+
+/// The clone is equal. That of a number takes no memory.
+impl Clone for KeyValue {
+    ghost is_clone = { λ value copy. value_cmp copy value ≡ Equal };
+
+    fn clone(&self) -> Result<KeyValue, AllocError> {
+        Ok(match self {
+            KeyValue::S(text) => KeyValue::S(text.clone()?),
+            KeyValue::N(number) => KeyValue::N(number.clone()?),
+            KeyValue::B(bytes) => {
+                KeyValue::B(Vec::from_slice(*bytes.allocator(), bytes.as_slice())?)
+            }
+        })
     }
 }
 

@@ -1,6 +1,7 @@
 //! What is asked of a DynamoDB table: on what a change depends, and which items a query finds.
 #![tactic(auto)]
 
+mod bounds;
 mod condition;
 mod query;
 

@@ -124,7 +124,7 @@ fn compared(value: &KeyValue, other: &KeyValue) -> Option<Ordering>
 }
 
 // Whether a text or a byte string begins with another.
-fn begins_with(value: &KeyValue, prefix: &KeyValue) -> bool
+pub(crate) fn begins_with(value: &KeyValue, prefix: &KeyValue) -> bool
     ensures { result ≡ begins_with value.now prefix.now }
 {
     match (value, prefix) {

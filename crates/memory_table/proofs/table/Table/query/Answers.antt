@@ -1,14 +1,8 @@
-use Rattle.std.proofs.Common.{◌≡◌, ap, ◌∙◌, sym, reverse, if◌then◌else◌}
-use Rattle.memory_table.specs.Content.{entries_of}
-use Rattle.memory_table.proofs.Pages.{answered}
-use Rattle.memory_table.proofs.table.Table.query.Goals.{then-query, else-query}
+use Rattle.memory_table.proofs.Walks.{from_start, up_to_start}
 use Rattle.memory_table.proofs.table.Table.query.Goals as goal
 
-pub returns : goal.returns
-returns c =
-    let found = c.loop-key.found.items in
-    let turned : c.if-query.found.items ≡ (if c.args.query.now.backward then reverse found else found) = elim c.if-query.branch [
-      | then-query w ↦ (λ i. (w.found-is i).items) ∙ w.reverse.ensures.items ∙ ap (λ b. if b then reverse found else found) (sym w.if-query.true)
-      | else-query w ↦ (λ i. (w.found-is i).items) ∙ ap (λ b. if b then reverse found else found) (sym w.if-query.false)
-    ] in
-    answered c.args.query.now (entries_of c.args.self.now) _ found c.if-query.found.items c.truncate.new.self.items c.in-None.ensures.steps.0 c.loop-key.invariant turned c.truncate.ensures.items
+pub find_back-requires-clause-end : goal.find_back-requires-clause-end
+find_back-requires-clause-end c = up_to_start c.args.query.now c.in-Some.key c.in-Some.is c.if-query.true
+
+pub find_on-requires-clause-start : goal.find_on-requires-clause-start
+find_on-requires-clause-start c = from_start c.args.query.now c.in-Some-2.key c.in-Some-2.is c.if-query.false
