@@ -10,7 +10,7 @@ use std::marker::PhantomData;
 use table_key::Key;
 use table_query::Query;
 use table_store::TableStore;
-use typed_table::{Keyed, item_of, value_of};
+use typed_table::{Keyed, item_of, value_from};
 
 /// A table in a SQLite database of values of one type, each an item under its key.
 #[derive(Drop)]
@@ -67,7 +67,7 @@ impl<T: Keyed, S: Alter + Drop> TypedStore<T, S> {
         ensures schema { schema_of self.new ≡ schema_of self.old }
     {
         match self.store.get(key)? {
-            Some(item) => Ok(Some(value_of(self.alloc, &item)?)),
+            Some(item) => Ok(Some(value_from(self.alloc, item)?)),
             None => Ok(None),
         }
     }
@@ -93,15 +93,16 @@ impl<T: Keyed, S: Alter + Drop> TypedStore<T, S> {
         ensures schema { schema_of self.new ≡ schema_of self.old }
     {
         let found = self.store.query(query)?;
-        self.values_of(found.as_slice())
+        self.values_from(found)
     }
 
-    fn values_of(&self, found: &[Item]) -> Result<Vec<T>, TypedError>
-        ensures { IfOk result (λ values. AllZip (ReadsAs T.reads) found.now values.items) }
+    // What these items read as, each of which is taken apart for it.
+    fn values_from(&self, found: Vec<Item>) -> Result<Vec<T>, TypedError>
+        ensures { IfOk result (λ values. AllZip (ReadsAs T.reads) found.items values.items) }
     {
         let mut values = Vec::with_capacity(self.alloc, found.len())?;
         for item in found {
-            values.push(value_of(self.alloc, item)?)?;
+            values.push(value_from(self.alloc, item)?)?;
         }
         Ok(values)
     }

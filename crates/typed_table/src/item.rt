@@ -41,7 +41,19 @@ pub fn value_of<T: Shaped>(alloc: Global, item: &Item) -> Result<T>
     ensures read { Meets fault_of (T.reads (attribute (av.M (item_view item.now)))) result }
     ensures clear { Clear T.about.shape → (value : T) → IsItemOf T.about.shape T.tells value item.now → MatchResult result (λ w. T.about.same value w) (λ e. fault_of e ≡ out_of_memory) }
 {
-    let value: T = from_item(alloc, item.clone()?)?;
+    value_from(alloc, item.clone()?)
+}
+
+/// The value that [`value_of`] gives, read from an item that is taken apart for it: nothing is copied.
+///
+/// # Errors
+///
+/// What reading permits, or want of memory.
+pub fn value_from<T: Shaped>(alloc: Global, item: Item) -> Result<T>
+    ensures read { Meets fault_of (T.reads (attribute (av.M (item_view item)))) result }
+    ensures clear { Clear T.about.shape → (value : T) → IsItemOf T.about.shape T.tells value item → MatchResult result (λ w. T.about.same value w) (λ e. fault_of e ≡ out_of_memory) }
+{
+    let value: T = from_item(alloc, item)?;
     value.conforms();
     Ok(value)
 }

@@ -8,6 +8,6 @@ pub mod laws;
 mod table;
 
 pub use error::StoreError;
-pub use item::{item_of, value_of};
+pub use item::{item_of, value_from, value_of};
 pub use keyed::Keyed;
 pub use table::TypedTable;
