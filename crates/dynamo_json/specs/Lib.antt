@@ -7,6 +7,7 @@ pub mod KeyOrder
 pub mod KeysDiffer
 pub mod Laws
 pub mod OfText
+pub mod OneMember
 pub mod Parsed
 pub mod Plain
 pub mod PlainAnswers

@@ -6,6 +6,7 @@
 ghost use Rattle.std.specs.List.{AllByRecursion};
 ghost use Rattle.std.specs.Prelude.{◌≡◌, ◌<◌, ℕ, [], ◌∷◌, length, map, Some, IfOk, OnOk, string_bytes};
 ghost use Rattle.base64.specs.GeneralPurpose.{IsBytes};
+ghost use Rattle.json.specs.Json.{read_key};
 ghost use Rattle.json.specs.Token as token;
 ghost use Rattle.serde_json.specs.Read.{read};
 ghost use Rattle.dynamo_value.specs.Base64.{base64_text};
@@ -14,6 +15,7 @@ ghost use Rattle.dynamo_value.specs.PrefixView.{prefix_view};
 ghost use Rattle.dynamo_value.specs.View.{view, elements_view, members_view};
 ghost use Rattle.dynamo_json.specs.Json.{json_of, item_json, elements_json, members_json};
 ghost use Rattle.dynamo_json.specs.OfText.{Stands, ContentStands, ItemsStand, MembersStand, texts_json};
+ghost use Rattle.dynamo_json.specs.OneMember.{one_member};
 
 use dynamo_value::{AttributeValue, Error, ErrorImpl, Prefix, base64_text};
 use json::{Invalid, Reader, Scratch, Token};
@@ -81,6 +83,27 @@ pub(crate) fn attributes(alloc: Global, text: &str) -> Result<HashMap<String, At
     let mut reader = Reader::new(text, &mut scratch)?;
     begin_object(&mut reader)?;
     let map = members(alloc, &mut reader, MAX_DEPTH - 1)?;
+    at_end(&mut reader)?;
+    Ok(map)
+}
+
+/// The attributes under this name in a text, which is an object of this one member.
+pub(crate) fn attributes_under(
+    alloc: Global,
+    name: &str,
+    text: &str,
+) -> Result<HashMap<String, AttributeValue>, Stop>
+    ensures members { IfOk result (λ m.
+        read text.now ≡ Some (one_member name.now (item_json (members_view m.entries)))) }
+    ensures bytes { IfOk result (λ m. MembersHaveBytes (members_view m.entries)) }
+{
+    let mut scratch = Scratch::new(alloc);
+    let mut reader = Reader::new(text, &mut scratch)?;
+    begin_object(&mut reader)?;
+    key_named(&mut reader, name)?;
+    begin_object(&mut reader)?;
+    let map = members(alloc, &mut reader, MAX_DEPTH - 2)?;
+    end_object(&mut reader)?;
     at_end(&mut reader)?;
     Ok(map)
 }
@@ -241,6 +264,16 @@ fn end_object(reader: &mut Reader<'_>) -> Result<(), Stop>
 {
     match reader.next() {
         Some(Token::EndObject) => Ok(()),
+        _ => Err(Stop::Unlike),
+    }
+}
+
+// That the key of this name stands next.
+fn key_named(reader: &mut Reader<'_>, name: &str) -> Result<(), Stop>
+    ensures { OnOk result (read_key reader.old ≡ Some (Some name.now, reader.new)) }
+{
+    match reader.next_key()? {
+        Some(key) if key == name => Ok(()),
         _ => Err(Stop::Unlike),
     }
 }

@@ -8,11 +8,13 @@ mod json_text;
 mod plain;
 mod text_error;
 mod to_json;
+mod under;
 mod via_json;
 mod without_floats;
 
 pub use dynamo::DynamoJson;
 pub use plain::to_json_value;
 pub use text_error::TextError;
+pub use under::item_under;
 pub use via_json::to_attribute_value_via_json;
 pub use without_floats::is_without_floats;
