@@ -87,9 +87,10 @@ pub(crate) fn attributes(alloc: Global, text: &str) -> Result<HashMap<String, At
     Ok(map)
 }
 
-/// The attributes under this name in a text, which is an object of this one member.
+/// The attributes under this name in a text, which is an object of this one member. What is read takes its room from `scratch`.
 pub(crate) fn attributes_under(
     alloc: Global,
+    scratch: &mut Scratch,
     name: &str,
     text: &str,
 ) -> Result<HashMap<String, AttributeValue>, Stop>
@@ -97,8 +98,7 @@ pub(crate) fn attributes_under(
         read text.now ≡ Some (one_member name.now (item_json (members_view m.entries)))) }
     ensures bytes { IfOk result (λ m. MembersHaveBytes (members_view m.entries)) }
 {
-    let mut scratch = Scratch::new(alloc);
-    let mut reader = Reader::new(text, &mut scratch)?;
+    let mut reader = Reader::new(text, scratch)?;
     begin_object(&mut reader)?;
     key_named(&mut reader, name)?;
     begin_object(&mut reader)?;
