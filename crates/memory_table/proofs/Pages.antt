@@ -18,7 +18,7 @@ seen_onto : (found more : Lent) → seen (reverse_aux found more) ≡ reverse_au
 seen_onto [] more = refl
 seen_onto (x ∷ found) more = seen_onto found (x ∷ more)
 
-seen_turned : (backward : Bool) (found : Lent) → seen (if backward then reverse found else found) ≡ in_direction backward (seen found)
+pub seen_turned : (backward : Bool) (found : Lent) → seen (if backward then reverse found else found) ≡ in_direction backward (seen found)
 seen_turned true found = seen_onto found []
 seen_turned false found = refl
 

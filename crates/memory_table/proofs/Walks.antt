@@ -1,27 +1,27 @@
 -- Walks over a part of the entries, which end early: what they find is what a walk over all finds.
-use Rattle.std.proofs.Common.{◌≡◌, ◌∙◌, ℕ, ◌+◌, ◌-◌, ◌<◌, Bool, true, false, cond, [], ◌∷◌, ◌++◌, take, reverse, Some, Bor, Ordering, Less, Equal, Greater, refl, sym, ap, subst, arith, rules}
+use Rattle.std.proofs.Common.{◌≡◌, ◌∙◌, ℕ, ◌+◌, ◌-◌, ◌<◌, ◌≤◌, Bool, true, false, cond, [], ◌∷◌, ◌++◌, take, length, reverse, Some, None, Bor, Ordering, Less, Equal, Greater, refl, sym, ap, subst, arith, rules}
 use Rattle.std.proofs.lemmas.Bool.{false≢true}
 use Rattle.std.proofs.lemmas.Cmp.{tied_itself}
-use Rattle.std.proofs.lemmas.List.{reverse-append, append-nil}
+use Rattle.std.proofs.lemmas.List.{take-map, take_all, reverse-append, append-nil}
 use Rattle.std.proofs.lemmas.List.Elements.{filter-append}
 use Rattle.std.proofs.lemmas.List.Kept.{IsStrictlySortedBy-filter}
 use Rattle.std.specs.BTreeMap.Range.{entries_between, is_from_start, is_past_end, range_contains}
 use Rattle.std.specs.List.{AllByRecursion, filter}
 use Rattle.std.specs.List.Sorted.{IsStrictlySortedBy}
 use Rattle.std.specs.Map.{keys_of}
-use Rattle.std.specs.Ordering.{is_le, is_lt, ordering_reverse}
+use Rattle.std.specs.Ordering.{is_eq, is_le, is_lt, ordering_reverse}
 use Rattle.std.specs.Prelude.{◌&&◌, not}
 use Rattle.std.specs.declared.ops.Bound.{Bound}
 use Rattle.std.specs.declared.ops.Bound.TheVariants.{Excluded, Unbounded}
 use Rattle.dynamo_value.specs.declared.item.Item.{Item}
 use Rattle.table_key.specs.KeyLaws.{key_total}
-use Rattle.table_key.specs.KeyOrder.{key_cmp}
+use Rattle.table_key.specs.KeyOrder.{key_cmp, value_cmp}
 use Rattle.table_key.specs.declared.key.Key.{Key}
 use Rattle.table_query.specs.Bounds.{IsPast, in_turn}
-use Rattle.table_query.specs.Queries.{answer, finds, in_direction, is_behind}
+use Rattle.table_query.specs.Queries.{answer, finds, in_direction, is_behind, meets_sort, seen}
 use Rattle.table_query.specs.declared.query.Query.{Query}
 use Rattle.table_query.proofs.Beyond.{is_behind_start}
-use Rattle.memory_table.proofs.Pages.{Entries, one_more}
+use Rattle.memory_table.proofs.Pages.{Entries, Lent, one_more, seen_turned}
 use Rattle.memory_table.proofs.Scans.{all_key, narrow, filtered_keys}
 
 -- the entries that a query finds
@@ -203,3 +203,36 @@ pub up_to_start : (query : Query) (start : Bor Key) → query.start_after ≡ So
 up_to_start query start is backward key h =
     ap is_le (key_total.antisymm start.now key)
     ∙ before (key_cmp key start.now) (ap (λ o. is_behind true o key) (sym is) ∙ ap (λ b. is_behind b query.start_after key) (sym backward) ∙ is_behind_start query key h)
+
+-- ---- a backward query that is found forward
+
+-- the same query forward, up to another limit
+abbrev pub forward_of : Query → ℕ → Query
+forward_of query n = record { partition = query.partition; sort = query.sort; backward = false; limit = n; start_after = query.start_after }
+
+same_finds : (query : Query) (n : ℕ) → query.start_after ≡ None → (key : Key) → finds (forward_of query n) key ≡ finds query key
+same_finds query n none key =
+    ap (λ b. is_eq (value_cmp key.partition query.partition.now) && (meets_sort query.sort key.sort && b))
+    (ap (λ o. is_behind false o key) none ∙ sym (ap (λ o. is_behind query.backward o key) none))
+
+same_filter : (p q : Key → Bool) → ((k : Key) → p k ≡ q k) → (es : Entries) → filter (λ e. p e.0) es ≡ filter (λ e. q e.0) es
+same_filter p q same [] = refl
+same_filter p q same (e ∷ es) =
+    ap (λ b. cond b (e ∷ filter (λ x. p x.0) es) (filter (λ x. p x.0) es)) (same e.0) ∙ ap (λ xs. cond (q e.0) (e ∷ xs) xs) (same_filter p q same es)
+
+no_longer : (p : Key → Bool) (es : Entries) → length (filter (λ e. p e.0) es) ≤ length es
+no_longer p [] = omega arith
+no_longer p (e ∷ es) = go (no_longer p es) (p e.0)
+  where
+    go : length (filter (λ x. p x.0) es) ≤ length es → (b : Bool) → length (cond b (e ∷ filter (λ x. p x.0) es) (filter (λ x. p x.0) es)) ≤ length (e ∷ es)
+    go le true = omega (arith, le)
+    go le false = omega (arith, le)
+
+pub turned_answer : (query : Query) (n : ℕ) (es : Entries) (found turned kept : Lent) → query.backward ≡ true → query.start_after ≡ None → n ≡ length es
+    → seen found ≡ answer (forward_of query n) es → turned ≡ reverse found → kept ≡ take query.limit turned → seen kept ≡ answer query es
+turned_answer query n es found turned kept backward none count is back cut =
+    let short : length (found_of (forward_of query n) es) ≤ n = omega (arith, count, no_longer (finds (forward_of query n)) es) in
+    let all : seen found ≡ found_of query es =
+    is ∙ take_all n (found_of (forward_of query n) es) short ∙ same_filter (finds (forward_of query n)) (finds query) (same_finds query n none) es in
+    ap seen cut ∙ sym (take-map (λ (p : Bor Key × Bor Item). (p.0.now, p.1.now)) query.limit turned)
+    ∙ ap (take query.limit) (ap seen back ∙ seen_turned true found ∙ ap reverse all ∙ ap (λ b. in_direction b (found_of query es)) (sym backward))

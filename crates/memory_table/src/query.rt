@@ -1,4 +1,4 @@
-ghost use Rattle.std.specs.Prelude.{◌≡◌, IfOk, false, not, take, true};
+ghost use Rattle.std.specs.Prelude.{◌≡◌, None, IfOk, false, not, take, true};
 ghost use Rattle.std.specs.BTreeMap.Range.{entries_between, is_from_start, is_past_end};
 ghost use Rattle.std.specs.Range.Bound.{bound_map};
 ghost use Rattle.std.specs.declared.ops.Bound.TheVariants.{Unbounded};
@@ -29,7 +29,7 @@ impl Table {
             Some(key) => self.find_on(alloc, query, Bound::Excluded(key)),
             None if query.backward => match query.high_key()? {
                 Some(high) => self.find_back(alloc, query, Bound::Included(&high)),
-                None => self.find_back(alloc, query, Bound::Unbounded),
+                None => self.find_turned(alloc, query),
             },
             None => {
                 let low = query.low_key()?;
@@ -88,6 +88,26 @@ impl Table {
                 found.push((key, item))?;
             }
         }
+        Ok(found)
+    }
+
+    // The items that a backward query finds in a partition whose end isn't known: they are found forward, and turned.
+    fn find_turned<'a>(
+        &'a self,
+        alloc: Global,
+        query: &Query<'_>,
+    ) -> Result<Vec<(&'a Key, &'a Item)>, AllocError>
+        requires backward { query.now.backward ≡ true }
+        requires start { query.now.start_after ≡ None }
+        ensures { IfOk result (λ found. seen found.items ≡ answer query.now (entries_of self.now)) }
+    {
+        let mut forward = *query;
+        forward.backward = false;
+        forward.limit = self.len();
+        let low = forward.low_key()?;
+        let mut found = self.find_on(alloc, &forward, Bound::Included(&low))?;
+        found.reverse();
+        found.truncate(query.limit);
         Ok(found)
     }
 
