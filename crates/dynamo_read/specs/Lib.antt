@@ -11,5 +11,6 @@ pub use Rattle.dynamo_de.specs.Sight
 pub use Rattle.dynamo_de.specs.Source
 pub mod Accesses
 pub mod Entries
+pub mod Lent
 pub mod Reader
 pub mod Unread

@@ -3,12 +3,14 @@
 //! | What is read | Its reader |
 //! |---|---|
 //! | an attribute value | [`Deserializer`] |
+//! | a lent attribute value, or a lent map | [`LentDeserializer`] |
 //! | a list, element by element | [`DeserializerSeq`] |
 //! | an item or a map, entry by entry | [`DeserializerMap`] |
 //! | a variant that is a map of its name to its content | [`DeserializerEnum`] |
 //! | the content of a variant | [`DeserializerVariant`] |
 //!
 //! [`from_attribute_value`], [`from_item`] and [`from_items`] put a reader round what they are given and read a value of it.
+//! [`from_item_ref`] reads an item that is lent, and stays whole.
 #![tactic(auto)]
 
 ghost use Rattle.std.specs.Prelude.{◌≡◌, map, IfOk, IfErr};
@@ -27,6 +29,10 @@ mod deserializer_enum;
 mod deserializer_map;
 mod deserializer_seq;
 mod entries;
+mod lent_deserializer;
+mod lent_entries;
+mod lent_show;
+mod lent_unread;
 mod show;
 mod unread;
 
@@ -36,6 +42,7 @@ pub use deserializer_map::DeserializerMap;
 pub use deserializer_seq::DeserializerSeq;
 use dynamo_de::Deserialize;
 use dynamo_value::{AttributeValue, Item, Items, Result};
+pub use lent_deserializer::LentDeserializer;
 use std::alloc::Global;
 use std::collections::HashMap;
 
@@ -59,6 +66,28 @@ pub fn from_item<T: Deserialize>(alloc: Global, item: Item) -> Result<T>
     ensures { Meets fault_of (T.reads (attribute (av.M (item_view item)))) result }
 {
     from_attribute_value(alloc, AttributeValue::M(item.into_inner()))
+}
+
+/// Reads a value of a lent item, which stays as it is. What it may answer is what [`from_item`] may answer on an equal item.
+///
+/// It takes the item by reference, and `alloc`, from which what is read takes its memory. It returns one of the answers that the
+/// type permits on the map of the item's attributes, a value or a fault. No copy is made of the item: of what is read, keys,
+/// texts, numbers, byte strings and sets are copied, each by itself, and each map has a list of its entries while it is read.
+///
+/// # Errors
+///
+/// The fault that the type permits on that map, as a missing field or an attribute of another kind; and
+/// [`OutOfMemory`](dynamo_value::ErrorImpl::OutOfMemory) where no memory is found.
+///
+/// # Examples
+///
+///     let item = to_item(alloc, &user)?;
+///     let first: User = from_item_ref(alloc, &item)?;
+///     let second: User = from_item_ref(alloc, &item)?;
+pub fn from_item_ref<T: Deserialize>(alloc: Global, item: &Item) -> Result<T>
+    ensures { Meets fault_of (T.reads (attribute (av.M (item_view item.now)))) result }
+{
+    T::deserialize(alloc, LentDeserializer::from_map(alloc, item.inner()))
 }
 
 /// Reads a list of values of a list of items, each as of the attribute value that is the map of its attributes. What is

@@ -12,7 +12,7 @@ ghost use Rattle.dynamo_shape.specs.Clear.{Clear};
 ghost use Rattle.table_query.specs.Queries.{seen};
 ghost use Rattle.typed_table.specs.Stored.{IsItemOf, ReadEach, RefusesOne};
 
-use dynamo_read::from_item;
+use dynamo_read::{from_item, from_item_ref};
 use dynamo_types::Shaped;
 use dynamo_value::{Item, Result};
 use dynamo_write::to_item;
@@ -32,7 +32,8 @@ pub fn item_of<T: Shaped>(alloc: Global, value: &T) -> Result<Item>
     to_item(alloc, value)
 }
 
-/// The value that an item reads as. Of the item of a value it is the same by value, where the shape is clear.
+/// The value that an item reads as. Of the item of a value it is the same by value, where the shape is clear. The item is read
+/// where it lies, and stays as it is.
 ///
 /// # Errors
 ///
@@ -41,7 +42,9 @@ pub fn value_of<T: Shaped>(alloc: Global, item: &Item) -> Result<T>
     ensures read { Meets fault_of (T.reads (attribute (av.M (item_view item.now)))) result }
     ensures clear { Clear T.about.shape → (value : T) → IsItemOf T.about.shape T.tells value item.now → MatchResult result (λ w. T.about.same value w) (λ e. fault_of e ≡ out_of_memory) }
 {
-    value_from(alloc, item.clone()?)
+    let value: T = from_item_ref(alloc, item)?;
+    value.conforms();
+    Ok(value)
 }
 
 /// The value that [`value_of`] gives, read from an item that is taken apart for it: nothing is copied.

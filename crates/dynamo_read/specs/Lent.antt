@@ -1,0 +1,93 @@
+-- What a reader of lent attribute values reads from, what it has not read yet, and what it shows.
+use Rattle.std.specs.Prelude.{ℕ, Bool, true, List, map, ◌≡◌, Option, Some, Result, Ok, Err, String, string_bytes}
+use Rattle.std.specs.Borrow.{Bor}
+use Rattle.std.specs.Slice.Iter.{iter_rest}
+use Rattle.std.specs.Vec.Iter.{into_iter_items}
+use Rattle.std.specs.declared.alloc.Global.{Global}
+use Rattle.dynamo_value.specs.Av as av
+use Rattle.dynamo_value.specs.Av.{Members}
+use Rattle.dynamo_value.specs.Fault.{Fault}
+use Rattle.dynamo_value.specs.Kind.{fault_of}
+use Rattle.dynamo_value.specs.View.{view, elements_view, members_view}
+use Rattle.dynamo_value.specs.declared.attribute_value.AttributeValue.{AttributeValue}
+use Rattle.dynamo_value.specs.declared.error.ErrorImpl.{ErrorImpl}
+use Rattle.dynamo_de.specs.Shown.{Shown}
+use Rattle.dynamo_de.specs.Shows.{Shows}
+use Rattle.dynamo_de.specs.Sight.{only_entry}
+use Rattle.dynamo_de.specs.Source as of
+use Rattle.dynamo_de.specs.Source.{Entry, attribute, values_of}
+use Rattle.dynamo_de.specs.declared.showing.Showing.{Showing}
+use Rattle.dynamo_read.specs.Entries.{seen_entries}
+use Rattle.dynamo_read.specs.Reader.{source_of}
+use Rattle.dynamo_read.specs.Unread.{elements_left, elements_counted, entries_left, chosen_of}
+use Rattle.dynamo_read.specs.declared.lent_deserializer.LentDeserializer.{LentDeserializer}
+use Rattle.dynamo_read.specs.declared.lent_deserializer.LentSource.{LentSource}
+use Rattle.dynamo_read.specs.declared.lent_deserializer.LentSource.TheVariants as source
+use Rattle.dynamo_read.specs.declared.lent_unread.LentElements.{LentElements}
+use Rattle.dynamo_read.specs.declared.lent_unread.LentEntries.{LentEntries}
+use Rattle.dynamo_read.specs.declared.lent_unread.LentChoice.{LentChoice}
+use Rattle.dynamo_read.specs.declared.lent_unread.LentRest.{LentRest}
+use Rattle.dynamo_read.specs.declared.lent_unread.LentRest.TheVariants as rest
+use Rattle.dynamo_read.specs.declared.lent_unread.LentPairs.{LentPairs}
+use Rattle.dynamo_read.specs.declared.lent_unread.LentPairs.TheVariants as pairs
+use Rattle.dynamo_read.specs.declared.lent_unread.LentForm.{LentForm}
+use Rattle.dynamo_read.specs.declared.lent_unread.LentForm.TheVariants as form
+
+-- an entry of a map that is lent
+abbrev pub Lent : Type 0
+Lent = Bor (String Global) × Bor AttributeValue
+
+abbrev pub entry_of : Lent → String Global × AttributeValue
+entry_of e = (e.0.now, e.1.now)
+
+abbrev pub seen_lent : LentSource → of.Source
+seen_lent (source.Map m) = of.attribute (av.M (members_view m.now.entries))
+seen_lent (source.List values) = of.attribute (av.L (elements_view values.now.items))
+seen_lent (source.Leaf a) = of.attribute (view a.now)
+seen_lent (source.Key t) = of.key_text (string_bytes t.now)
+seen_lent (source.Own d) = source_of d
+
+-- what the reader reads from
+abbrev pub lent_source : LentDeserializer → of.Source
+lent_source d = seen_lent d.source
+
+abbrev pub rest_lent : LentRest → List of.Source
+rest_lent (rest.Values i) = values_of (elements_view (iter_rest i))
+rest_lent (rest.Own e) = elements_left e
+
+-- the sources of the elements that are left
+abbrev pub lent_elements : LentElements → List of.Source
+lent_elements e = rest_lent e.rest
+
+abbrev pub rest_counted : LentRest → Bool
+rest_counted (rest.Values i) = true
+rest_counted (rest.Own e) = elements_counted e
+
+-- whether the elements are counted: those of a list are
+abbrev pub lent_counted : LentElements → Bool
+lent_counted e = rest_counted e.rest
+
+abbrev pub pairs_lent : LentPairs → List Entry
+pairs_lent (pairs.Lent i) = seen_entries (map entry_of (into_iter_items i))
+pairs_lent (pairs.Own e) = entries_left e
+
+-- the entries that are left
+abbrev pub lent_entries : LentEntries → List Entry
+lent_entries e = pairs_lent e.rest
+
+abbrev pub form_lent : LentForm → Result (List ℕ × Option of.Source) Fault
+form_lent (form.Map m) = only_entry (members_view m.now.entries)
+form_lent (form.Own c) = chosen_of c
+
+-- the variant's name and the source of its content, or the fault of asking for it
+abbrev pub lent_chosen : LentChoice → Result (List ℕ × Option of.Source) Fault
+lent_chosen c = form_lent c.form
+
+-- it shows exactly this, or refuses by exactly this fault; want of memory is excused
+abbrev pub IsLentShown : Shown → Result (Showing LentDeserializer LentElements LentEntries LentChoice) ErrorImpl → Type 0
+IsLentShown shown r = Shows fault_of lent_source lent_elements lent_entries lent_chosen shown r
+
+-- the one entry of the members, lent, or the fault of there being none or more
+abbrev pub IsLentSingle : Members → Result Lent ErrorImpl → Type 0
+IsLentSingle ms (Ok e) = only_entry ms ≡ Ok (string_bytes e.0.now, Some (attribute (view e.1.now)))
+IsLentSingle ms (Err e) = only_entry ms ≡ Err (fault_of e)
