@@ -1,5 +1,5 @@
 //! Typed values as DynamoDB attribute values and items: [`to_attribute_value`] and [`to_item`] write them,
-//! [`from_attribute_value`], [`from_item`] and [`from_items`] read them.
+//! [`from_attribute_value`], [`from_item`] and [`from_items`] read them, [`from_item_ref`] from an item that stays.
 #![tactic(auto)]
 
 pub mod binary_set;
@@ -20,7 +20,7 @@ pub use dynamo_leaf::{
 };
 pub use dynamo_read::{
     Deserializer, DeserializerEnum, DeserializerMap, DeserializerSeq, DeserializerVariant,
-    from_attribute_value, from_item, from_items,
+    LentDeserializer, from_attribute_value, from_item, from_item_ref, from_items,
 };
 pub use dynamo_ser::{BinarySet, NumberSet, StringSet};
 pub use dynamo_types::{Shaped, ShapedKey};
