@@ -1,5 +1,7 @@
 use super::{Wanted, has_text, read, refused};
+use dynamo_json::item_under;
 use dynamo_value::{AttributeValue, Item};
+use json::Scratch;
 use std::test::Fail;
 
 // A part of the item of the ProductCatalog sample in DynamoDB's guide.
@@ -55,6 +57,61 @@ fn an_item_is_refused_by_its_first_attribute(rt: HostRuntime) -> Result<(), Fail
     ];
     for (text, wanted) in rows {
         refused::<Item>(&rt, rt.alloc(), text, wanted)?;
+    }
+    Ok(())
+}
+
+// The lines are of exports to S3, and the scratch is kept from one to the next.
+#[test]
+fn an_item_is_found_under_its_name(rt: HostRuntime) -> Result<(), Fail> {
+    let alloc = rt.alloc();
+    let mut scratch = Scratch::new(alloc);
+    let rows = [
+        ("Item", r#"{"Item":{}}"#, "{}"),
+        (
+            "Item",
+            r#"{"Item":{"Id":{"N":"103"},"InPublication":{"BOOL":false}}}"#,
+            r#"{"Id":{"N":"103"},"InPublication":{"BOOL":false}}"#,
+        ),
+        (
+            "Item",
+            r#" { "Item" : { "l" : { "L" : [ { "S" : "\u0041" } ] } } } "#,
+            r#"{"l":{"L":[{"S":"A"}]}}"#,
+        ),
+        ("Key", r#"{"Key":{"m":{"M":{"":{"NULL":true}}}}}"#, r#"{"m":{"M":{"":{"NULL":true}}}}"#),
+    ];
+    for (name, text, content) in rows {
+        let Some(item) = item_under(alloc, &mut scratch, name, text)? else {
+            return Err(Fail::from("no item is found in a text that has one"));
+        };
+        assert!(rt; item == read::<Item>(alloc, content)?, "{text} has another item");
+    }
+    Ok(())
+}
+
+#[test]
+fn no_item_is_found_in_other_texts(rt: HostRuntime) -> Result<(), Fail> {
+    let alloc = rt.alloc();
+    let mut scratch = Scratch::new(alloc);
+    let texts = [
+        "",
+        "7",
+        "{}",
+        r#"{"Item":{}"#,
+        r#"{"Item":{}}}"#,
+        r#"{"Key":{}}"#,
+        r#"{"Item":[]}"#,
+        r#"{"Item":{},"Count":1}"#,
+        r#"{"Count":1,"Item":{}}"#,
+        r#"{"Item":{"Id":103}}"#,
+        r#"{"Item":{"Id":{"N":"103","S":"103"}}}"#,
+        r#"{"Item":{"Id":{"X":"103"}}}"#,
+    ];
+    for text in texts {
+        assert!(rt;
+            item_under(alloc, &mut scratch, "Item", text)?.is_none(),
+            "{text} has an item"
+        );
     }
     Ok(())
 }

@@ -2,7 +2,7 @@
 use crate::fixtures::answers::{answers, item, items};
 use crate::fixtures::notation;
 use serde_dynamo::samples::User;
-use serde_dynamo::{Item, Items, from_item, from_items, to_item};
+use serde_dynamo::{Item, Items, from_item, from_item_ref, from_items, to_item};
 use std::test::Fail;
 use user_types::at_shapes::{item_at_shape, items_at_shape, value_at_shape};
 use user_types::forms::Point;
@@ -22,6 +22,21 @@ fn an_item_reads_as_its_map(rt: HostRuntime) -> Result<(), Fail> {
     answers::<u8>(&rt, alloc, read, "Expected num")?;
     let read = from_item(alloc, Item::new(alloc));
     Ok(answers::<User>(&rt, alloc, read, "a message")?)
+}
+
+#[test]
+fn a_lent_item_reads_as_its_map(rt: HostRuntime) -> Result<(), Fail> {
+    let alloc = rt.alloc();
+    let source = r#"M {"id": S "x", "name": S "Arthur Dent", "age": N "42"}"#;
+    let text = r#"User { id: "x", name: "Arthur Dent", age: 42 }"#;
+    let lent = Item::from(item(alloc, source)?);
+    answers::<User>(&rt, alloc, from_item_ref(alloc, &lent), text)?;
+    answers::<User>(&rt, alloc, from_item_ref(alloc, &lent), text)?;
+    answers::<u8>(&rt, alloc, from_item_ref(alloc, &lent), "Expected num")?;
+    assert!(rt; lent == Item::from(item(alloc, source)?));
+
+    let empty = Item::new(alloc);
+    Ok(answers::<User>(&rt, alloc, from_item_ref(alloc, &empty), "a message")?)
 }
 
 const USERS: [&str; 2] = [
