@@ -15,38 +15,44 @@ use table_key::Key;
 use table_query::Query;
 
 impl Table {
-    /// The items that a query finds, with their keys. It looks at no items but those from the key behind which the query starts, or
-    /// from its partition and the bounds of its sort condition on, up to the limit.
+    /// Returns the items that a query finds, with their keys.
+    ///
+    /// The search begins at the key after which the query starts, or else at the query's low or
+    /// high key. It ends at the query's limit, or at a key that is past the query.
+    ///
+    /// A backward query that has no high key visits the query's partition from its low key on.
     ///
     /// # Errors
     ///
-    /// [`AllocError`] where there is no memory for the answer, or for a copy of the key values at which the search begins.
+    /// [`AllocError`] if memory for the result, or for the copy of the key values at which the
+    /// search begins, can't be allocated.
     pub fn query(&self, alloc: Global, query: &Query<'_>) -> Result<Vec<(&Key, &Item)>, AllocError>
         ensures { IfOk result (λ found. seen found.items ≡ answer query.now (entries_of self.now)) }
     {
         match query.start_after {
-            Some(key) if query.backward => self.find_back(alloc, query, Bound::Excluded(key)),
-            Some(key) => self.find_on(alloc, query, Bound::Excluded(key)),
+            Some(key) if query.backward => self.find_backward(alloc, query, Bound::Excluded(key)),
+            Some(key) => self.find_forward(alloc, query, Bound::Excluded(key)),
             None if query.backward => match query.high_key()? {
-                Some(high) => self.find_back(alloc, query, Bound::Included(&high)),
-                None => self.find_turned(alloc, query),
+                Some(high) => self.find_backward(alloc, query, Bound::Included(&high)),
+                None => self.find_reversed(alloc, query),
             },
             None => {
                 let low = query.low_key()?;
-                self.find_on(alloc, query, Bound::Included(&low))
+                self.find_forward(alloc, query, Bound::Included(&low))
             }
         }
     }
 
-    // The items that a query finds that isn't backward, none of which is before the start.
-    fn find_on<'a>(
+    // Returns the items that a forward query finds. None of them comes before the start.
+    fn find_forward<'a>(
         &'a self,
         alloc: Global,
         query: &Query<'_>,
         start: Bound<&Key>,
     ) -> Result<Vec<(&'a Key, &'a Item)>, AllocError>
         requires forward { query.now.backward ≡ false }
-        requires start { (key : Key) → finds query.now key ≡ true → is_from_start key_cmp (bound_map (λ x. x.now) start) key ≡ true }
+        requires start { (key : Key) → finds query.now key ≡ true
+            → is_from_start key_cmp (bound_map (λ x. x.now) start) key ≡ true }
         ensures { IfOk result (λ found. seen found.items ≡ answer query.now (entries_of self.now)) }
     {
         let mut found = Vec::new(alloc);
@@ -64,15 +70,16 @@ impl Table {
         Ok(found)
     }
 
-    // The items that a backward query finds, none of which is behind the end.
-    fn find_back<'a>(
+    // Returns the items that a backward query finds. None of them comes behind the end.
+    fn find_backward<'a>(
         &'a self,
         alloc: Global,
         query: &Query<'_>,
         end: Bound<&Key>,
     ) -> Result<Vec<(&'a Key, &'a Item)>, AllocError>
         requires backward { query.now.backward ≡ true }
-        requires end { (key : Key) → finds query.now key ≡ true → is_past_end key_cmp (bound_map (λ x. x.now) end) key ≡ false }
+        requires end { (key : Key) → finds query.now key ≡ true
+            → is_past_end key_cmp (bound_map (λ x. x.now) end) key ≡ false }
         ensures { IfOk result (λ found. seen found.items ≡ answer query.now (entries_of self.now)) }
     {
         let mut found = Vec::new(alloc);
@@ -91,8 +98,9 @@ impl Table {
         Ok(found)
     }
 
-    // The items that a backward query finds in a partition whose end isn't known: they are found forward, and turned.
-    fn find_turned<'a>(
+    // Returns the items that a backward query finds in a partition whose end isn't known. They are
+    // found forward and reversed.
+    fn find_reversed<'a>(
         &'a self,
         alloc: Global,
         query: &Query<'_>,
@@ -105,14 +113,14 @@ impl Table {
         forward.backward = false;
         forward.limit = self.len();
         let low = forward.low_key()?;
-        let mut found = self.find_on(alloc, &forward, Bound::Included(&low))?;
+        let mut found = self.find_forward(alloc, &forward, Bound::Included(&low))?;
         found.reverse();
         found.truncate(query.limit);
         Ok(found)
     }
 
-    /// A page of all items: those behind `start_after`, in the order of their keys, at most `limit`. The next page starts after
-    /// the last key of this one.
+    /// Returns a page of all items: those behind `start_after`, in the order of their keys, at
+    /// most `limit`. The next page starts after the last key of this one.
     pub fn scan(
         &self,
         alloc: Global,
@@ -122,19 +130,20 @@ impl Table {
         ensures { IfOk result (λ page. seen page.items ≡ take limit (rest start_after.entry (entries_of self.now))) }
     {
         match start_after {
-            Some(key) => self.page_on(alloc, limit, Bound::Excluded(key)),
-            None => self.page_on(alloc, limit, Bound::Unbounded),
+            Some(key) => self.page_from(alloc, limit, Bound::Excluded(key)),
+            None => self.page_from(alloc, limit, Bound::Unbounded),
         }
     }
 
-    // The items from a start on, at most `limit`.
-    fn page_on<'a>(
+    // Returns the items from a start on, at most `limit`.
+    fn page_from<'a>(
         &'a self,
         alloc: Global,
         limit: usize,
         start: Bound<&Key>,
     ) -> Result<Vec<(&'a Key, &'a Item)>, AllocError>
-        ensures { IfOk result (λ page. seen page.items ≡ take limit (entries_between key_cmp (bound_map (λ x. x.now) start.entry) Unbounded (entries_of self.now))) }
+        ensures { IfOk result (λ page. seen page.items ≡ take limit (entries_between key_cmp
+            (bound_map (λ x. x.now) start.entry) Unbounded (entries_of self.now))) }
     {
         let mut page = Vec::new(alloc);
         for (key, item) in self.items().range((start, Bound::Unbounded)) {
@@ -146,8 +155,8 @@ impl Table {
         Ok(page)
     }
 
-    /// All items with their keys, in the order of the keys, read page by page, each page of at most `limit` items, and at
-    /// least one: each item once.
+    /// Returns all items with their keys, each once, in the order of the keys. It reads page by
+    /// page, each of at most `limit` items, and at least one.
     pub fn scan_all(&self, alloc: Global, limit: usize) -> Result<Vec<(&Key, &Item)>, AllocError>
         ensures { IfOk result (λ all. seen all.items ≡ entries_of self.now) }
     {

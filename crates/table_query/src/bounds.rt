@@ -1,6 +1,6 @@
-//! Where in the order of the keys the items lie that a query finds, so that a table looks at no others.
+//! Where in the order of the keys a query finds its items, so that a table visits no others.
 ghost use Rattle.std.specs.Prelude.{◌≡◌, IfOk, IfSome, option_map, true};
-ghost use Rattle.table_query.specs.Bounds.{IsHigh, IsLow, IsPast, high_of, is_above, is_below, is_past_sort, low_of};
+ghost use Rattle.table_query.specs.Bounds.{IsHigh, IsHighKey, IsLow, IsLowKey, IsNextPartition, IsPast, high_of, is_above, is_below, is_past, is_past_sort, low_of};
 
 use crate::query::begins_with;
 use crate::{Query, SortCondition};
@@ -9,13 +9,17 @@ use std::cmp::Ordering;
 use table_key::{Key, KeyValue};
 
 impl Query<'_> {
-    /// A key before which the query finds nothing: that of the partition, with the least value that its sort condition may be met by.
+    /// Returns a key before which the query finds nothing.
+    ///
+    /// The key has the query's partition, and the lowest value of the sort condition if there is
+    /// one.
     ///
     /// # Errors
     ///
-    /// [`AllocError`] where there is no memory for a copy of the values.
+    /// [`AllocError`] if memory for the copy of the values can't be allocated.
     pub fn low_key(&self) -> Result<Key, AllocError>
-        ensures { IfOk result (IsLow self.now) }
+        ensures low { IfOk result (IsLow self.now) }
+        ensures key { IfOk result (IsLowKey self.now) }
     {
         let partition = self.partition.clone()?;
         match self.sort.low() {
@@ -30,15 +34,19 @@ impl Query<'_> {
         }
     }
 
-    /// A key behind which the query finds nothing: that of the partition, with the greatest value that its sort condition may be met
-    /// by, or else the first of the next partition. None is known of a partition that is a number, where the condition has no
-    /// greatest value.
+    /// Returns a key behind which the query finds nothing.
+    ///
+    /// The key has the query's partition and the highest value of the sort condition. If there is
+    /// no highest value, it is the first key of the next partition: the query's string or bytes
+    /// with a zero byte added, and no sort value. The next partition of a number isn't known, and
+    /// the result is `None`.
     ///
     /// # Errors
     ///
-    /// [`AllocError`] where there is no memory for a copy of the values.
+    /// [`AllocError`] if memory for the copy of the values can't be allocated.
     pub fn high_key(&self) -> Result<Option<Key>, AllocError>
-        ensures { IfOk result (λ high. IfSome high (IsHigh self.now)) }
+        ensures high { IfOk result (λ high. IfSome high (IsHigh self.now)) }
+        ensures key { IfOk result (IsHighKey self.now) }
     {
         match self.sort.high() {
             Some(value) => Ok(Some(Key {
@@ -49,9 +57,10 @@ impl Query<'_> {
         }
     }
 
-    // The first key of the partition that follows, where one is known.
+    // Returns the first key of the next partition. It isn't known of a number.
     fn next_partition(&self) -> Result<Option<Key>, AllocError>
-        ensures { IfOk result (λ high. IfSome high (IsHigh self.now)) }
+        ensures high { IfOk result (λ high. IfSome high (IsHigh self.now)) }
+        ensures key { IfOk result (IsNextPartition self.now.partition.now) }
     {
         match self.partition {
             KeyValue::S(text) => {
@@ -74,9 +83,16 @@ impl Query<'_> {
         }
     }
 
-    /// Whether the query is known to find neither the item under this key nor any that comes behind it in the query's direction.
+    /// Returns whether the key is past the query. If it is, the query finds neither this key nor a
+    /// key behind it in the query's direction.
+    ///
+    /// Every lower partition is past a backward query, and every greater one past a forward query.
+    /// In the query's partition, a sort value is past a backward query if it is below the lowest
+    /// value of the sort condition. It is past a forward query if it is above the highest value, or
+    /// above a prefix that it doesn't begin with. A key without a sort value isn't past there.
     pub fn is_past(&self, key: &Key) -> bool
-        ensures { result ≡ true → IsPast self.now key.now }
+        ensures past { result ≡ true → IsPast self.now key.now }
+        ensures exact { result ≡ is_past self.now key.now }
     {
         match key.partition.cmp(self.partition) {
             Ordering::Less => self.backward,
@@ -87,7 +103,7 @@ impl Query<'_> {
 }
 
 impl<'a> SortCondition<'a> {
-    // A value below which no value meets the condition, where one is known.
+    // Returns the lowest value of the condition: no value below it meets the condition.
     fn low(&self) -> Option<&'a KeyValue>
         ensures { option_map (λ v. v.now) result ≡ low_of self.now }
     {
@@ -101,7 +117,7 @@ impl<'a> SortCondition<'a> {
         }
     }
 
-    // A value above which no value meets the condition, where one is known.
+    // Returns the highest value of the condition: no value above it meets the condition.
     fn high(&self) -> Option<&'a KeyValue>
         ensures { option_map (λ v. v.now) result ≡ high_of self.now }
     {
@@ -117,7 +133,7 @@ impl<'a> SortCondition<'a> {
         }
     }
 
-    // Whether neither this value meets the condition nor any that comes behind it in a direction.
+    // Returns whether the sort value is past the condition in a direction.
     fn is_past(&self, backward: bool, sort: &Option<KeyValue>) -> bool
         ensures { result ≡ is_past_sort self.now backward sort.now }
     {
@@ -128,7 +144,7 @@ impl<'a> SortCondition<'a> {
         }
     }
 
-    // Whether the value is above all that meet the condition.
+    // Returns whether the value is above all that meet the condition.
     fn is_above(&self, value: &KeyValue) -> bool
         ensures { result ≡ is_above self.now value.now }
     {
@@ -146,7 +162,7 @@ impl<'a> SortCondition<'a> {
         }
     }
 
-    // Whether the value is below all that meet the condition.
+    // Returns whether the value is below all that meet the condition.
     fn is_below(&self, value: &KeyValue) -> bool
         ensures { result ≡ is_below self.now value.now }
     {

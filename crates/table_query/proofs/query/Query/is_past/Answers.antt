@@ -1,20 +1,24 @@
-use Rattle.std.proofs.Common.{◌≡◌, Bool, true, false, is_le, ap, refl, sym, ◌∙◌}
-use Rattle.std.specs.Prelude.{not}
-use Rattle.table_query.specs.Bounds.{in_turn}
-use Rattle.table_query.proofs.Beyond.{before_partition, past_partition, past_sort}
+use Rattle.std.proofs.Common.{◌≡◌, ◌∙◌, Bool, true, sym, ap}
+use Rattle.table_key.specs.declared.key.Key.{Key}
+use Rattle.table_query.specs.Bounds.{IsPast, is_past, is_past_by}
+use Rattle.table_query.specs.declared.query.Query.{Query}
+use Rattle.table_query.proofs.Beyond.{nothing_past}
 use Rattle.table_query.proofs.query.Query.is_past.Goals as goal
 
-is_forward : (backward : Bool) → not backward ≡ true → backward ≡ false
-is_forward true h = sym h
-is_forward false h = refl
+past : (query : Query) (key : Key) (r : Bool) → r ≡ is_past query key → r ≡ true → IsPast query key
+past query key r exact h = nothing_past query key (sym exact ∙ h)
 
-pub returns-in-Less : goal.returns-in-Less
-returns-in-Less c backward other le =
-    before_partition c.args.self.now c.args.key.now other (sym c.in-Less.ensures) (ap (λ b. is_le (in_turn b c.args.key.now other)) (sym backward) ∙ le)
+pub returns-in-Less-clause-past : goal.returns-in-Less-clause-past
+returns-in-Less-clause-past c =
+    past c.args.self.now c.args.key.now _
+    (ap (λ o. is_past_by o c.args.self.now c.args.key.now) c.in-Less.ensures)
 
-pub returns-in-Greater : goal.returns-in-Greater
-returns-in-Greater c forward other le =
-    past_partition c.args.self.now c.args.key.now other (sym c.in-Greater.ensures) (ap (λ b. is_le (in_turn b c.args.key.now other)) (sym (is_forward c.args.self.now.backward forward)) ∙ le)
+pub returns-in-Greater-clause-past : goal.returns-in-Greater-clause-past
+returns-in-Greater-clause-past c =
+    past c.args.self.now c.args.key.now _
+    (ap (λ o. is_past_by o c.args.self.now c.args.key.now) c.in-Greater.ensures)
 
-pub returns-in-Equal : goal.returns-in-Equal
-returns-in-Equal c past other le = past_sort c.args.self.now c.args.key.now other (sym c.in-Equal.ensures) (sym c.is_past.ensures ∙ past) le
+pub returns-in-Equal-clause-past : goal.returns-in-Equal-clause-past
+returns-in-Equal-clause-past c =
+    past c.args.self.now c.args.key.now _
+    (c.is_past.ensures ∙ ap (λ o. is_past_by o c.args.self.now c.args.key.now) c.in-Equal.ensures)

@@ -1,0 +1,50 @@
+use Rattle.std.proofs.Common.{◌≡◌, ◌∙◌, ◌-◌, [], ◌∷◌, ◌++◌, take, refl, ap, sym, arith, vec_len}
+use Rattle.std.proofs.lemmas.Slice.{pushed}
+use Rattle.std.specs.BTreeMap.Range.{entries_between}
+use Rattle.std.specs.Range.Bound.{bound_map}
+use Rattle.std.specs.declared.ops.Bound.TheVariants.{Unbounded}
+use Rattle.dynamo_value.specs.declared.item.Item.{Item}
+use Rattle.memory_table.specs.Content.{entries_of}
+use Rattle.table_key.specs.KeyOrder.{key_cmp}
+use Rattle.table_key.specs.declared.key.Key.{Key}
+use Rattle.table_query.specs.Queries.{seen}
+use Rattle.memory_table.proofs.Pages.{Entries, one_more, seen_more}
+use Rattle.memory_table.proofs.Walks.{all_left}
+use Rattle.memory_table.proofs.table.Table.page_from.Goals as goal
+
+pub loop-key-init : goal.loop-key-init
+loop-key-init c =
+    let start = bound_map (λ x. x.now) c.args.start in
+    let es = entries_of c.args.self.now in
+    let left : c.into_iter-key-iterator.result ≡ entries_between key_cmp start Unbounded es =
+    c.into_iter-key-iterator.ensures.into_iter_gives ∙ c.range-key-items.ensures.between tt
+    ∙ ap (λ m. entries_between key_cmp start Unbounded m.entries) c.items.ensures in
+    let page = c.new-page.result in
+    let empty = ap seen c.new-page.ensures.items in
+    let none = c.new-page.ensures.len in
+    record {
+      all = all_left (seen page.items) (vec_len page) c.args.limit _ _ empty none left;
+      room = omega (arith, none);
+    }
+
+pub loop-key-preserved : goal.loop-key-preserved
+loop-key-preserved c =
+    let l = c.loop-key.invariant in
+    let limit = c.args.limit in
+    let page = c.loop-key.page.items in
+    let n = vec_len c.loop-key.page in
+    let key = c.in-Some.key in
+    let item = c.in-Some.item in
+    let e : Key × Item = (key.now, item.now) in
+    let left : Entries = c.next.new.self in
+    let items = pushed ((key, item) ∷ []) refl c.in_ok-push.was c.push.ensures.items in
+    let view = seen_more page c.push.new.self.items key item items in
+    let count = c.in_ok-push.ensures.len in
+    let steps = ap (λ (es : Entries). seen page ++ take (limit - n) es) c.in-Some.ensures.steps in
+    record {
+      all = ap (λ (xs : Entries). xs ++ take (limit - vec_len c.push.new.self) left) view
+          ∙ ap (λ k. (seen page ++ e ∷ []) ++ take (limit - k) left) count
+          ∙ one_more (seen page) e left _ limit n
+          (omega (arith, l.room, c.len.ensures, c.if-len-limit.false)) (sym steps ∙ l.all);
+      room = omega (arith, count, l.room, c.len.ensures, c.if-len-limit.false);
+    }
