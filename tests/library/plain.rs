@@ -5,6 +5,7 @@ mod json_values;
 mod kinds;
 mod objects;
 mod scalars;
+mod texts;
 mod via_json;
 
 use dynamo_json::to_json_value;

@@ -53,7 +53,7 @@ number_back (json.float x) h = absurd h
 
 -- ---- objects
 
-abbrev ReadsAs : Av → Data → Type 0
+abbrev pub ReadsAs : Av → Data → Type 0
 ReadsAs a j = read_value a ≡ value j
 
 ordered : (o : Ordering) (a b c : List (List ℕ × Data)) → match_ordering o (members_of a) (members_of b) (members_of c) ≡ members_of (by_order o a b c)
@@ -68,7 +68,7 @@ put_same name j (e ∷ es) =
     ∙ ordered (text_cmp name e.0) ((name, j) ∷ e ∷ es) ((e.0, j) ∷ es) (e ∷ put text_cmp name j es)
 
 -- the members that are read are collected
-collected_back : (so_far : List (List ℕ × Data)) (es : List (List ℕ × Av)) (fs : List (List ℕ × Data)) → Alike ReadsAs es fs
+pub collected_back : (so_far : List (List ℕ × Data)) (es : List (List ℕ × Av)) (fs : List (List ℕ × Data)) → Alike ReadsAs es fs
     → read_members (members_of so_far) (av.members_of es) ≡ value (members_of (collect_onto so_far fs))
 collected_back so_far [] [] h = refl
 collected_back so_far [] (f ∷ fs) h = absurd h

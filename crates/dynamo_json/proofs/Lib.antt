@@ -19,10 +19,12 @@ pub mod Reading
 mod Rest
 pub mod Results
 mod Rows
+mod Stored
 pub mod TellsPlain
 pub mod TellsSome
 pub mod Texts
 pub mod Told
+mod Unstored
 pub mod ViewOrder
 mod Weight
 pub mod WithoutFloats

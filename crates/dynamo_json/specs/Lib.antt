@@ -14,6 +14,7 @@ pub mod PlainAnswers
 pub mod PlainMemory
 pub mod PlainValues
 pub mod Square
+pub mod StoredText
 pub mod Texts
 pub mod Tokens
 pub mod ViaJson

@@ -25,13 +25,13 @@ use std::collections::HashMap;
 // How deep the arrays and objects of a JSON text nest at most, as `Value::from_str` reads them.
 const MAX_DEPTH: usize = 127;
 
-/// Why the tokens weren't followed to their end.
+/// Why reading or writing stopped.
 #[derive(Clone, Copy, Debug, Drop)]
 pub(crate) enum Stop {
-    /// They aren't those of an attribute value.
+    /// What is read is no attribute value, or what is written has no such form.
     Unlike,
 
-    /// Memory is refused.
+    /// An allocation failed.
     OutOfMemory,
 }
 
@@ -42,6 +42,10 @@ impl From<Invalid> for Stop {
 }
 
 impl From<AllocError> for Stop {
+    ghost use Rattle.dynamo_json.specs.declared.from_text.Stop.{Stop};
+
+    ghost from_gives = { λ _ stop. stop ≡ Stop.OutOfMemory };
+
     fn from(_: AllocError) -> Stop {
         Stop::OutOfMemory
     }

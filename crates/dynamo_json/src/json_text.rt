@@ -11,12 +11,17 @@ ghost use Rattle.dynamo_json.specs.Json.{json_of, item_json, elements_json, stri
 ghost use Rattle.dynamo_json.specs.Tokens.{tokens_of, begun, ended, lent_view};
 ghost use Rattle.serde_json.specs.Data as json;
 
+mod plain;
+mod stored;
+
 use base64::engine::general_purpose::STANDARD;
 use dynamo_value::{AttributeValue, Prefix};
 use json::Writer;
+pub use plain::plain_text;
 use std::alloc::{AllocError, Global};
 use std::collections::HashMap;
 use std::mem;
+pub use stored::stored_text;
 
 /// Appends the text of the JSON value of an attribute value. Where memory is refused the text stays as it was.
 pub(crate) fn push_value(text: &mut String, value: &AttributeValue) -> Result<(), AllocError>
@@ -176,12 +181,21 @@ impl Printer {
         ensures before { self.new.out.before ≡ self.old.out.before }
     {
         self.begin(prefix)?;
+        self.array(set)?;
+        self.end()
+    }
+
+    // The array of texts, in order.
+    #[inline(never)]
+    fn array(&mut self, set: &Vec<String>) -> Result<(), AllocError>
+        ensures ok { OnOk result (self.new.out.tokens ≡ self.old.out.tokens ++ tokens_of (strings (map string_bytes set.now.items))) }
+        ensures before { self.new.out.before ≡ self.old.out.before }
+    {
         self.out.begin_array()?;
         for text in set {
             self.out.string(text.as_str())?;
         }
-        self.out.end_array()?;
-        self.end()
+        self.out.end_array()
     }
 
     // The array of the base64 texts of byte strings, in order.

@@ -13,6 +13,7 @@ mod via_json;
 mod without_floats;
 
 pub use dynamo::DynamoJson;
+pub use json_text::{plain_text, stored_text};
 pub use plain::to_json_value;
 pub use text_error::TextError;
 pub use under::item_under;

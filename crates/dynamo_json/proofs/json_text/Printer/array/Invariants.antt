@@ -1,6 +1,6 @@
 use Rattle.std.proofs.Common.{◌≡◌, ◌++◌, drop, map, string_bytes}
 use Rattle.dynamo_json.proofs.Rest.{texts_left}
-use Rattle.dynamo_json.proofs.json_text.Printer.texts.Given as goal
+use Rattle.dynamo_json.proofs.json_text.Printer.array.Given as goal
 
 abbrev pub invariant-loop-text : goal.invariant-loop-text
 invariant-loop-text l =

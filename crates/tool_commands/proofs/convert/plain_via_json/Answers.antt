@@ -5,7 +5,7 @@ use Rattle.dynamo_de.specs.Answer.{value}
 use Rattle.dynamo_de.specs.ReadJson.{read_value}
 use Rattle.tool_commands.specs.JsonText.{json_line}
 use Rattle.tool_commands.proofs.Floats.{reads_no_float, given}
-use Rattle.tool_commands.proofs.convert.plain_of.Goals as goal
+use Rattle.tool_commands.proofs.convert.plain_via_json.Goals as goal
 
 pub returns : goal.returns
 returns c =

@@ -5,7 +5,7 @@ use Rattle.dynamo_ser.specs.JsonValue.{json_datum}
 use Rattle.dynamo_write.specs.Written.{written}
 use Rattle.dynamo_json.specs.Json.{json_of}
 use Rattle.tool_commands.specs.JsonText.{json_line}
-use Rattle.tool_commands.proofs.convert.dynamo_of.Goals as goal
+use Rattle.tool_commands.proofs.convert.dynamo_via_value.Goals as goal
 
 pub returns : goal.returns
 returns c =

@@ -1,0 +1,101 @@
+-- What was written of a JSON value as DynamoDB JSON, and what is left to write.
+use Rattle.std.proofs.Common.{◌≡◌, ℕ, ◌+◌, ◌<◌, List, [], ◌∷◌, ◌++◌, length, get_or, drop, Option, Some, None, Result, Ok, Err, refl, sym, ap, ap₂, ◌∙◌, subst, append_assoc}
+use Rattle.std.proofs.lemmas.List.{at_drop_more}
+use Rattle.std.specs.FinMap.Entries.{is_sorted}
+use Rattle.std.specs.Prelude.{T}
+use Rattle.json.specs.Print.{print}
+use Rattle.json.specs.Token.{Token, key}
+use Rattle.serde_json.specs.Data as json
+use Rattle.serde_json.specs.Data.{Data}
+use Rattle.serde_json.specs.Written.{compact_text}
+use Rattle.serde_json.proofs.Texts.{print-outline}
+use Rattle.dynamo_value.specs.Av.{Av, members_of}
+use Rattle.dynamo_value.specs.Fault.{Fault}
+use Rattle.dynamo_value.specs.Steps.{◌>>=◌}
+use Rattle.dynamo_value.specs.View.{text_cmp}
+use Rattle.dynamo_ser.specs.JsonValue.{json_datum, json_pairs}
+use Rattle.dynamo_write.specs.Collect.{collect}
+use Rattle.dynamo_write.specs.Written.{written, written_pairs}
+use Rattle.dynamo_write.proofs.Collected.{Alike, collect-sorted, sorted_alike}
+use Rattle.dynamo_json.specs.Json.{json_of, members_json}
+use Rattle.dynamo_json.specs.JsonBack.{entries}
+use Rattle.dynamo_json.specs.StoredText.{Prints, behind, stored, stored_members, tokens_within}
+use Rattle.dynamo_json.specs.Tokens.{tokens_of}
+use Rattle.dynamo_json.specs.declared.from_text.Stop.{Stop}
+
+-- ---- the members of an object, in the order in which they are written
+
+abbrev pub stored_pairs : List Token → json.Members → Option (List Token)
+stored_pairs so_far ms = behind (λ es. tokens_within (members_json (members_of es))) so_far (written_pairs (json_pairs ms))
+
+member_behind : (so_far new : List Token) (name : List ℕ) (r : Result Av Fault) (rest : Result (List (List ℕ × Av)) Fault)
+    → behind (λ a. tokens_of (json_of a)) (so_far ++ key name ∷ []) r ≡ Some new
+    → behind (λ es. tokens_within (members_json (members_of es))) so_far (r >>= λ a. rest >>= λ es. Ok ((name, a) ∷ es))
+    ≡ behind (λ es. tokens_within (members_json (members_of es))) new rest
+member_behind so_far new name (Ok a) (Ok es) h =
+    let wrote : (so_far ++ key name ∷ []) ++ tokens_of (json_of a) ≡ new = cc in
+    let left = tokens_within (members_json (members_of es)) in
+    ap Some (sym (append_assoc so_far (key name ∷ []) (tokens_of (json_of a) ++ left))
+    ∙ sym (append_assoc (so_far ++ key name ∷ []) (tokens_of (json_of a)) left)
+    ∙ ap (λ (ts : List Token). ts ++ left) wrote)
+member_behind so_far new name (Ok a) (Err e) h = refl
+member_behind so_far new name (Err e) rest h = cc
+
+pub member_stored : (so_far new : List Token) (name : List ℕ) (j : Data) (ms : json.Members) → stored (so_far ++ key name ∷ []) j ≡ Some new
+    → stored_pairs so_far (json.member name j ms) ≡ stored_pairs new ms
+member_stored so_far new name j ms h = member_behind so_far new name (written (json_datum j)) (written_pairs (json_pairs ms)) h
+
+-- ---- members in order are collected as they come
+
+abbrev Named : Av → Data → Type 0
+Named a j = Unit {0}
+
+after_one : (name : List ℕ) (j : Data) (ms : json.Members) (r : Result Av Fault) (rest : Result (List (List ℕ × Av)) Fault) (es : List (List ℕ × Av))
+    → ((fs : List (List ℕ × Av)) → rest ≡ Ok fs → Alike Named fs (entries ms))
+    → (r >>= λ a. rest >>= λ fs. Ok ((name, a) ∷ fs)) ≡ Ok es → Alike Named es (entries (json.member name j ms))
+after_one name j ms (Ok a) (Ok fs) es all h =
+    let is : ((name, a) ∷ fs) ≡ es = cc in
+    subst (λ gs. Alike Named gs (entries (json.member name j ms))) is (refl, tt, all fs refl)
+after_one name j ms (Ok a) (Err e) es all h = cc
+after_one name j ms (Err e) rest es all h = cc
+
+names_kept : (ms : json.Members) (es : List (List ℕ × Av)) → written_pairs (json_pairs ms) ≡ Ok es → Alike Named es (entries ms)
+names_kept json.no_members es h =
+    let none : [] ≡ es = cc in
+    subst (λ gs. Alike Named gs []) none tt
+names_kept (json.member name j ms) es h = after_one name j ms (written (json_datum j)) (written_pairs (json_pairs ms)) es (names_kept ms) h
+
+collected : (so_far : List Token) (r : Result (List (List ℕ × Av)) Fault) → ((es : List (List ℕ × Av)) → r ≡ Ok es → collect es ≡ es)
+    → behind (λ es. tokens_within (members_json (members_of (collect es)))) so_far r ≡ behind (λ es. tokens_within (members_json (members_of es))) so_far r
+collected so_far (Ok es) h = ap (λ fs. Some (so_far ++ tokens_within (members_json (members_of fs)))) (h es refl)
+collected so_far (Err e) h = refl
+
+pub in_order : (so_far : List Token) (ms : json.Members) → T (is_sorted text_cmp (entries ms)) → stored_members so_far ms ≡ stored_pairs so_far ms
+in_order so_far ms sorted = collected so_far (written_pairs (json_pairs ms)) (λ es h.
+    collect-sorted es (subst T (sym (sorted_alike Named es (entries ms) (names_kept ms es h))) sorted))
+
+-- ---- the elements of a list in turn
+
+-- what is left, by the element that stands next
+pub next_of : {X : Type 0} (left : List X → Option (List Token)) (after_it : List X → Option (List Token)) (xs : List X) (i : ℕ) (x : X)
+    → i < length xs → x ≡ get_or xs i x → ((rest : List X) → left (x ∷ rest) ≡ after_it rest) → left (drop i xs) ≡ after_it (drop (i + 1) xs)
+next_of left after_it xs i x here is step =
+    at_drop_more left xs i x here ∙ ap (λ y. left (y ∷ drop (i + 1) xs)) (sym is) ∙ step (drop (i + 1) xs)
+
+-- ---- where writing what is inside stops, the whole stops
+
+pub stopped : (r : Result (Unit {0}) Stop) (stop : Stop) (inner whole : Option (List Token)) (new end : List Token) → r ≡ Err stop
+    → Prints (Err stop) inner new → (inner ≡ None → whole ≡ None) → Prints r whole end
+stopped r Stop.Unlike inner whole new end is h none = subst (λ q. Prints q whole end) (sym is) (none h)
+stopped r Stop.OutOfMemory inner whole new end is h none = subst (λ q. Prints q whole end) (sym is) tt
+
+-- ---- the text of what is written by itself
+
+pub text_of : {A E : Type 0} (f : A → Data) (r : Result A E) (so_far new : List Token) (before text : List ℕ) → so_far ≡ [] → before ≡ []
+    → behind (λ x. tokens_of (f x)) so_far r ≡ Some new → text ≡ before ++ print new
+    → (x : A) × (r ≡ Ok x) × (text ≡ compact_text (f x))
+text_of f (Ok x) so_far new before text none empty wrote is =
+    let whole : so_far ++ tokens_of (f x) ≡ new = cc in
+    let tokens : new ≡ tokens_of (f x) = sym whole ∙ ap (λ (ts : List Token). ts ++ tokens_of (f x)) none in
+    (x, refl, is ∙ ap₂ (λ (xs ys : List ℕ). xs ++ ys) empty (ap print tokens ∙ print-outline (f x)))
+text_of f (Err e) so_far new before text none empty wrote is = cc
