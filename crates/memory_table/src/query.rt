@@ -1,4 +1,4 @@
-ghost use Rattle.std.specs.Prelude.{◌≡◌, None, IfOk, false, not, take, true};
+ghost use Rattle.std.specs.Prelude.{◌≡◌, None, IfOk, false, take, true};
 ghost use Rattle.std.specs.BTreeMap.Range.{entries_between, is_from_start, is_past_end};
 ghost use Rattle.std.specs.Range.Bound.{bound_map};
 ghost use Rattle.std.specs.declared.ops.Bound.TheVariants.{Unbounded};
@@ -60,11 +60,10 @@ impl Table {
             if found.len() == query.limit {
                 return Ok(found);
             }
-            if query.is_past(key) {
-                return Ok(found);
-            }
             if query.finds(key) {
                 found.push((key, item))?;
+            } else if query.is_past(key) {
+                return Ok(found);
             }
         }
         Ok(found)
@@ -88,11 +87,10 @@ impl Table {
             if found.len() == query.limit {
                 return Ok(found);
             }
-            if query.is_past(key) {
-                return Ok(found);
-            }
             if query.finds(key) {
                 found.push((key, item))?;
+            } else if query.is_past(key) {
+                return Ok(found);
             }
         }
         Ok(found)
