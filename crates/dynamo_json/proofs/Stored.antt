@@ -1,5 +1,6 @@
 -- What was written of a JSON value as DynamoDB JSON, and what is left to write.
-use Rattle.std.proofs.Common.{◌≡◌, ℕ, ◌+◌, ◌<◌, List, [], ◌∷◌, ◌++◌, length, get_or, drop, Option, Some, None, Result, Ok, Err, refl, sym, ap, ap₂, ◌∙◌, subst, append_assoc}
+use Rattle.std.proofs.Common.{◌≡◌, ℕ, ◌+◌, ◌<◌, List, [], ◌∷◌, ◌++◌, length, get_or, drop, Option, Some, None, Result}
+use Rattle.std.proofs.Common.{Ok, Err, refl, sym, ap, ap₂, ◌∙◌, subst, append_assoc}
 use Rattle.std.proofs.lemmas.List.{at_drop_more}
 use Rattle.std.specs.FinMap.Entries.{is_sorted}
 use Rattle.std.specs.Prelude.{T}
@@ -66,7 +67,8 @@ names_kept json.no_members es h =
 names_kept (json.member name j ms) es h = after_one name j ms (written (json_datum j)) (written_pairs (json_pairs ms)) es (names_kept ms) h
 
 collected : (so_far : List Token) (r : Result (List (List ℕ × Av)) Fault) → ((es : List (List ℕ × Av)) → r ≡ Ok es → collect es ≡ es)
-    → behind (λ es. tokens_within (members_json (members_of (collect es)))) so_far r ≡ behind (λ es. tokens_within (members_json (members_of es))) so_far r
+    → behind (λ es. tokens_within (members_json (members_of (collect es)))) so_far r
+    ≡ behind (λ es. tokens_within (members_json (members_of es))) so_far r
 collected so_far (Ok es) h = ap (λ fs. Some (so_far ++ tokens_within (members_json (members_of fs)))) (h es refl)
 collected so_far (Err e) h = refl
 

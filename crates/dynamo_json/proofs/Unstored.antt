@@ -1,5 +1,6 @@
 -- What was written of an attribute value as plain JSON, and what is left to write.
-use Rattle.std.proofs.Common.{◌≡◌, ℕ, ℤ, pos, negsuc, Bool, true, false, List, [], ◌∷◌, ◌++◌, Option, Some, None, Result, Ok, Err, refl, sym, ap, ◌∙◌, subst, append_assoc}
+use Rattle.std.proofs.Common.{◌≡◌, ℕ, ℤ, pos, negsuc, Bool, true, false, List, [], ◌∷◌, ◌++◌, Option, Some, None, Result}
+use Rattle.std.proofs.Common.{Ok, Err, refl, sym, ap, ◌∙◌, subst, append_assoc}
 use Rattle.std.specs.Fmt.{decimal, signed_decimal}
 use Rattle.std.specs.FinMap.Entries.{is_sorted}
 use Rattle.std.specs.Prelude.{T, if◌then◌else◌}
@@ -93,7 +94,8 @@ opened so_far (Ok js) = ap Some (append_assoc so_far (Token.begin_array ∷ []) 
 opened so_far (Err e) = refl
 
 -- from what is left of a set to the whole of it
-pub numbers_begun : (old : List Token) (texts : List (List ℕ)) (begun now : List Token) (rest all : List (List ℕ)) → begun ≡ old ++ Token.begin_array ∷ []
+pub numbers_begun : (old : List Token) (texts : List (List ℕ)) (begun now : List Token)
+    (rest all : List (List ℕ)) → begun ≡ old ++ Token.begin_array ∷ []
     → texts ≡ all → numbers_behind now rest ≡ numbers_behind begun all → plain_numbers old texts ≡ numbers_behind now rest
 numbers_begun old texts begun now rest all opens is so_far =
     sym (opened old (read_numbers texts)) ∙ ap (λ ts. numbers_behind ts texts) (sym opens) ∙ ap (numbers_behind begun) is ∙ sym so_far
@@ -172,7 +174,8 @@ refused_one name so_far es (Ok j) (Ok ks) h later = absurd h
 refused_one name so_far es (Ok j) (Err e) h later = later tt (json.put name j so_far)
 refused_one name so_far es (Err e) rest h later = tt
 
-refused : (es : List (List ℕ × Av)) → Refuses (read_in_turn (av.members_of es)) → (so_far : json.Members) → Refuses (read_members so_far (av.members_of es))
+refused : (es : List (List ℕ × Av)) → Refuses (read_in_turn (av.members_of es)) → (so_far : json.Members)
+    → Refuses (read_members so_far (av.members_of es))
 refused [] h so_far = absurd h
 refused (e ∷ es) h so_far = refused_one e.0 so_far es (read_value e.1) (read_in_turn (av.members_of es)) h (refused es)
 
@@ -182,19 +185,25 @@ both_none so_far (Ok x) s h g = absurd h
 both_none so_far (Err e) (Ok x) h g = absurd g
 both_none so_far (Err e) (Err f) h g = refl
 
-same_members : (so_far : List Token) (es : List (List ℕ × Av)) (r : Answer json.Members) → read_in_turn (av.members_of es) ≡ r → T (is_sorted text_cmp es)
-    → behind (λ js. tokens_of (json.object js)) so_far (read_members json.no_members (av.members_of es)) ≡ behind (λ js. tokens_of (json.object js)) so_far r
+same_members : (so_far : List Token) (es : List (List ℕ × Av)) (r : Answer json.Members)
+    → read_in_turn (av.members_of es) ≡ r → T (is_sorted text_cmp es)
+    → behind (λ js. tokens_of (json.object js)) so_far (read_members json.no_members (av.members_of es))
+    ≡ behind (λ js. tokens_of (json.object js)) so_far r
 same_members so_far es (Ok js) is sorted =
     let each = alike es js is in
     let in_order = collect-sorted (entries js) (subst T (sorted_alike ReadsAs es (entries js) each) sorted) in
-    ap (behind (λ js. tokens_of (json.object js)) so_far) (collected_back [] es (entries js) each ∙ ap (λ fs. Ok (members_of fs)) in_order ∙ ap Ok (members_again js))
+    ap (behind (λ js. tokens_of (json.object js)) so_far)
+    (collected_back [] es (entries js) each ∙ ap (λ fs. Ok (members_of fs)) in_order
+    ∙ ap Ok (members_again js))
 same_members so_far es (Err e) is sorted =
     let none : Refuses (read_in_turn (av.members_of es)) = subst Refuses (sym is) tt in
     both_none so_far (read_members json.no_members (av.members_of es)) (Err e) (refused es none json.no_members) tt
 
 pub read_in_order : (so_far : List Token) (es : List (List ℕ × Av)) → T (is_sorted text_cmp es)
-    → members_behind (so_far ++ Token.begin_object ∷ []) (av.members_of es) ≡ behind (λ js. tokens_of (json.object js)) so_far (read_members json.no_members (av.members_of es))
-read_in_order so_far es sorted = opened_object so_far (read_in_turn (av.members_of es)) ∙ sym (same_members so_far es (read_in_turn (av.members_of es)) refl sorted)
+    → members_behind (so_far ++ Token.begin_object ∷ []) (av.members_of es)
+    ≡ behind (λ js. tokens_of (json.object js)) so_far (read_members json.no_members (av.members_of es))
+read_in_order so_far es sorted = opened_object so_far (read_in_turn (av.members_of es))
+    ∙ sym (same_members so_far es (read_in_turn (av.members_of es)) refl sorted)
 
 -- from what is left of a map to the whole of it
 pub members_begun : (old : List Token) (es : List (List ℕ × Av)) (begun now : List Token) (rest all : av.Members) → T (is_sorted text_cmp es)

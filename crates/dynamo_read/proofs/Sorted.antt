@@ -1,5 +1,6 @@
 -- A list that a sort by the bytes of the keys leaves has the entries of the map in order.
-use Rattle.std.proofs.Common.{◌≡◌, suc, ◌+◌, Bool, false, List, [], ◌∷◌, map, slice_index_or, string_bytes, refl, sym, ap, subst, ◌∙◌, arith, Less, Equal, Greater}
+use Rattle.std.proofs.Common.{◌≡◌, suc, ◌+◌, Bool, false, List, [], ◌∷◌, map, slice_index_or, string_bytes, refl, sym}
+use Rattle.std.proofs.Common.{ap, subst, ◌∙◌, arith, Less, Equal, Greater}
 use denote.Param.Members.{Mut}
 use denote.Ref.{Bor}
 use Rattle.std.specs.Cmp.{IsStrictWeakOrder}
@@ -55,10 +56,12 @@ rising [] s d = tt
 rising (e ∷ []) s d = tt
 rising (e ∷ f ∷ es) s d =
     let j = string_bytes e.0 in let k = string_bytes f.0 in
-    let first = next_below (key_cmp e f) (key_cmp f e) (nat_list_cmp_total.antisymm j k) (s 0 e (omega arith) (omega arith)) (is_eq-slice_cmp j k ∙ d.0.0) in (
+    let first = next_below (key_cmp e f) (key_cmp f e) (nat_list_cmp_total.antisymm j k)
+    (s 0 e (omega arith) (omega arith)) (is_eq-slice_cmp j k ∙ d.0.0) in (
       first,
       rising (f ∷ es) (λ i x low high. let next : suc i + 1 ≡ suc (i + 1) = omega arith in
-          subst (λ n. lower (slice_index_or (e ∷ f ∷ es) n x) (slice_index_or (f ∷ es) i x) ≡ false) next (s (suc i) x (omega arith) (omega arith))) d.1,
+          subst (λ n. lower (slice_index_or (e ∷ f ∷ es) n x) (slice_index_or (f ∷ es) i x) ≡ false) next
+          (s (suc i) x (omega arith) (omega arith))) d.1,
     )
 
 -- the order in which a hashed map keeps its entries isn't seen
@@ -72,7 +75,8 @@ pub sorted_entries : {F : Type 0} {g : Mut F (Bor Entry × (Bor Entry × Unit {0
     → ((f1 : F) (a : Bor Entry × (Bor Entry × Unit {0})) (r : Ordering) (f2 : F) → Called g f1 a r f2 → r ≡ key_cmp a.0.now a.1.0.now)
     → seen_entries fs ≡ entries_view es
 sorted_entries {g = g} {f = f} es fs d p sorted compares =
-    let by_keys : ComparesAs g lower f = answers_always g (λ a r. is_lt r ≡ lower a.0.now a.1.0.now) f (λ f1 a r f2 call. ap is_lt (compares f1 a r f2 call)) in
+    let by_keys : ComparesAs g lower f = answers_always g (λ a r. is_lt r ≡ lower a.0.now a.1.0.now) f
+    (λ f1 a r f2 call. ap is_lt (compares f1 a r f2 call)) in
     let s : IsSortedBy lower fs = sorted lower (ranks_by nat_list_cmp_total (λ (e : Entry). string_bytes e.0)) by_keys in
     sym (in_place fs (rising fs s (distinct es fs p d))) ∙ sym (same_view es fs p d)
 
@@ -90,10 +94,12 @@ rising_lent [] s d = tt
 rising_lent (e ∷ []) s d = tt
 rising_lent (e ∷ f ∷ es) s d =
     let j = string_bytes e.0.now in let k = string_bytes f.0.now in
-    let first = next_below (lent_cmp e f) (lent_cmp f e) (nat_list_cmp_total.antisymm j k) (s 0 e (omega arith) (omega arith)) (is_eq-slice_cmp j k ∙ d.0.0) in (
+    let first = next_below (lent_cmp e f) (lent_cmp f e) (nat_list_cmp_total.antisymm j k)
+    (s 0 e (omega arith) (omega arith)) (is_eq-slice_cmp j k ∙ d.0.0) in (
       first,
       rising_lent (f ∷ es) (λ i x low high. let next : suc i + 1 ≡ suc (i + 1) = omega arith in
-          subst (λ n. lower_lent (slice_index_or (e ∷ f ∷ es) n x) (slice_index_or (f ∷ es) i x) ≡ false) next (s (suc i) x (omega arith) (omega arith))) d.1,
+          subst (λ n. lower_lent (slice_index_or (e ∷ f ∷ es) n x) (slice_index_or (f ∷ es) i x) ≡ false) next
+          (s (suc i) x (omega arith) (omega arith))) d.1,
     )
 
 -- the same of a list of entries that are lent
@@ -103,7 +109,9 @@ pub sorted_lent : {F : Type 0} {g : Mut F (Bor Lent × (Bor Lent × Unit {0})) O
     → ((f1 : F) (a : Bor Lent × (Bor Lent × Unit {0})) (r : Ordering) (f2 : F) → Called g f1 a r f2 → r ≡ lent_cmp a.0.now a.1.0.now)
     → seen_entries (map entry_of fs) ≡ entries_view (map entry_of es)
 sorted_lent {g = g} {f = f} es fs d p sorted compares =
-    let by_keys : ComparesAs g lower_lent f = answers_always g (λ a r. is_lt r ≡ lower_lent a.0.now a.1.0.now) f (λ f1 a r f2 call. ap is_lt (compares f1 a r f2 call)) in
+    let by_keys : ComparesAs g lower_lent f = answers_always g (λ a r. is_lt r ≡ lower_lent a.0.now a.1.0.now)
+    f (λ f1 a r f2 call. ap is_lt (compares f1 a r f2 call)) in
     let s : IsSortedBy lower_lent fs = sorted lower_lent (ranks_by nat_list_cmp_total (λ (e : Lent). string_bytes e.0.now)) by_keys in
     let moved : IsPermutation (map entry_of es) (map entry_of fs) = IsPermutation-map entry_of es fs p in
-    sym (in_place (map entry_of fs) (rising_lent fs s (distinct (map entry_of es) (map entry_of fs) moved d))) ∙ sym (same_view (map entry_of es) (map entry_of fs) moved d)
+    sym (in_place (map entry_of fs) (rising_lent fs s (distinct (map entry_of es) (map entry_of fs) moved d)))
+    ∙ sym (same_view (map entry_of es) (map entry_of fs) moved d)

@@ -1,5 +1,6 @@
 -- What a query finds lies between its low key and its high key.
-use Rattle.std.proofs.Common.{◌≡◌, ◌∙◌, ℕ, Bool, true, false, [], ◌∷◌, ◌++◌, Option, Some, None, Ordering, Less, Equal, Greater, String, Vec, Global, refl, sym, ap, string_bytes, subst}
+use Rattle.std.proofs.Common.{◌≡◌, ◌∙◌, ℕ, Bool, true, false, [], ◌∷◌, ◌++◌, Option, Some, None, Ordering, Less, Equal}
+use Rattle.std.proofs.Common.{Greater, String, Vec, Global, refl, sym, ap, string_bytes, subst}
 use Rattle.std.proofs.lemmas.Bool.{and_parts, false≢true}
 use Rattle.std.proofs.lemmas.Cmp.{alike_right, tied_back}
 use Rattle.std.specs.Cmp.Lexicographic.{slice_cmp}

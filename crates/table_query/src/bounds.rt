@@ -1,6 +1,7 @@
 //! Where in the order of the keys a query finds its items, so that a table visits no others.
 ghost use Rattle.std.specs.Prelude.{◌≡◌, IfOk, IfSome, option_map, true};
-ghost use Rattle.table_query.specs.Bounds.{IsHigh, IsHighKey, IsLow, IsLowKey, IsNextPartition, IsPast, high_of, is_above, is_below, is_past, is_past_sort, low_of};
+ghost use Rattle.table_query.specs.Bounds.{IsHigh, IsHighKey, IsLow, IsLowKey, IsNextPartition, IsPast, high_of};
+ghost use Rattle.table_query.specs.Bounds.{is_above, is_below, is_past, is_past_sort, low_of};
 
 use crate::query::begins_with;
 use crate::{Query, SortCondition};

@@ -17,13 +17,15 @@ decreases-plain_elements l = elements_weight (elements_view l.list.now.items)
 abbrev pub invariant-plain_elements-loop-element : goal.invariant-plain_elements-loop-element
 invariant-plain_elements-loop-element l =
     record {
-      tokens : elements_behind l.self.out.tokens (elements_view (drop l.element-index l.element-items)) ≡ elements_behind l.initial.self.out.tokens (elements_view l.element-items);
+      tokens : elements_behind l.self.out.tokens (elements_view (drop l.element-index l.element-items))
+          ≡ elements_behind l.initial.self.out.tokens (elements_view l.element-items);
       before : l.self.out.before ≡ l.initial.self.out.before;
     }
 
 abbrev pub invariant-plain_members-loop-member : goal.invariant-plain_members-loop-member
 invariant-plain_members-loop-member l =
     record {
-      tokens : members_behind l.self.out.tokens (lent_view (drop l.member-index l.member-items)) ≡ members_behind l.initial.self.out.tokens (lent_view l.member-items);
+      tokens : members_behind l.self.out.tokens (lent_view (drop l.member-index l.member-items))
+          ≡ members_behind l.initial.self.out.tokens (lent_view l.member-items);
       before : l.self.out.before ≡ l.initial.self.out.before;
     }

@@ -17,7 +17,8 @@ stored_members-loop-key-preserved t c =
     let keyed = c.in_ok-key.ensures.ok ∙ ap (λ t. now ++ key t ∷ []) c.as_str.ensures.value in
     let wrote : stored (now ++ key name ∷ []) j ≡ Some new = ap (λ ts. stored ts j) (sym keyed) ∙ c.in_ok-stored.ensures.tokens in
     record {
-      tokens = sym (ap (λ (es : List Entry). stored_pairs now (members_view es)) c.in-Some.ensures.steps ∙ member_stored now new name j (members_view left) wrote) ∙ c.loop-key.invariant.tokens;
+      tokens = sym (ap (λ (es : List Entry). stored_pairs now (members_view es)) c.in-Some.ensures.steps
+          ∙ member_stored now new name j (members_view left) wrote) ∙ c.loop-key.invariant.tokens;
       before = search rules;
     }
 
@@ -26,4 +27,6 @@ stored_members-returns-clause-tokens t c =
     let now = c.loop-key.self.out.tokens in
     let es = c.args.members.now.entries in
     in_order c.args.self.now.out.tokens (members_view es) (names_in_order es c.iter-key-items.ensures.ordered)
-    ∙ sym c.loop-key.invariant.tokens ∙ ap (λ (es : List Entry). stored_pairs now (members_view es)) c.in-None.ensures.steps.0 ∙ ap Some (sym c.in_ok-end_object.ensures.ok)
+    ∙ sym c.loop-key.invariant.tokens
+    ∙ ap (λ (es : List Entry). stored_pairs now (members_view es)) c.in-None.ensures.steps.0
+    ∙ ap Some (sym c.in_ok-end_object.ensures.ok)

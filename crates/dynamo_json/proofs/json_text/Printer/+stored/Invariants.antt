@@ -7,7 +7,8 @@ use Rattle.dynamo_json.proofs.json_text.Printer.+stored.Given as goal
 abbrev pub invariant-stored_items-loop-json : goal.invariant-stored_items-loop-json
 invariant-stored_items-loop-json l =
     record {
-      tokens : stored_items l.self.out.tokens (items_view (drop l.json-index l.json-items)) ≡ stored_items l.initial.self.out.tokens (items_view l.json-items);
+      tokens : stored_items l.self.out.tokens (items_view (drop l.json-index l.json-items))
+          ≡ stored_items l.initial.self.out.tokens (items_view l.json-items);
       before : l.self.out.before ≡ l.initial.self.out.before;
     }
 

@@ -11,11 +11,15 @@ returns-in_err-plain_number-clause-tokens c =
     let xs = c.deref-text-items.result.now in
     let x = c.text-item.result in
     let failed = err_from_is_err_and c.from_residual-in_err-plain_number.result c.from_residual-in_err-plain_number.ensures.1 in
-    let none : plain_number now c.as_str.result.now ≡ None → plain_numbers c.args.self.now.out.tokens (map string_bytes c.args.set.now.items) ≡ None = λ h.
-    numbers_begun _ _ c.begin_array.new.self.tokens now (map string_bytes (drop c.loop-text.text-index xs)) (map string_bytes xs) c.in_ok-begin_array.ensures.ok (ap (map string_bytes) (sym c.deref-text-items.ensures.value)) c.loop-text.invariant.tokens
+    let none : plain_number now c.as_str.result.now ≡ None
+    → plain_numbers c.args.self.now.out.tokens (map string_bytes c.args.set.now.items) ≡ None = λ h.
+    numbers_begun _ _ c.begin_array.new.self.tokens now (map string_bytes (drop c.loop-text.text-index xs))
+    (map string_bytes xs) c.in_ok-begin_array.ensures.ok
+    (ap (map string_bytes) (sym c.deref-text-items.ensures.value)) c.loop-text.invariant.tokens
     ∙ next_of (λ ts. numbers_behind now (map string_bytes ts)) (λ _. None) xs c.loop-text.text-index x (omega arith) c.text-item.is
     (λ rest. number_refused now (string_bytes x) (map string_bytes rest) (ap (plain_number now) (sym c.as_str.ensures.value) ∙ h)) in
-    stopped _ c.in_err-plain_number.field-0.0 _ _ c.plain_number.new.self.out.tokens _ (failed.1 ∙ ap Err failed.2) c.in_err-plain_number.ensures.tokens none
+    stopped _ c.in_err-plain_number.field-0.0 _ _ c.plain_number.new.self.out.tokens _
+    (failed.1 ∙ ap Err failed.2) c.in_err-plain_number.ensures.tokens none
 
 pub loop-text-preserved : goal.loop-text-preserved
 loop-text-preserved c =
@@ -23,9 +27,12 @@ loop-text-preserved c =
     let new = c.plain_number.new.self.out.tokens in
     let xs = c.deref-text-items.result.now in
     let x = c.text-item.result in
-    let read : plain_number now (string_bytes x) ≡ Some new = ap (plain_number now) (sym c.as_str.ensures.value) ∙ c.in_ok-plain_number.ensures.tokens in
+    let read : plain_number now (string_bytes x) ≡ Some new =
+    ap (plain_number now) (sym c.as_str.ensures.value) ∙ c.in_ok-plain_number.ensures.tokens in
     record {
-      tokens = sym (next_of (λ ts. numbers_behind now (map string_bytes ts)) (λ ts. numbers_behind new (map string_bytes ts)) xs c.loop-text.text-index x (omega arith) c.text-item.is
+      tokens = sym (next_of (λ ts. numbers_behind now (map string_bytes ts))
+          (λ ts. numbers_behind new (map string_bytes ts)) xs c.loop-text.text-index x (omega arith)
+          c.text-item.is
           (λ rest. number_read now new (string_bytes x) (map string_bytes rest) read)) ∙ c.loop-text.invariant.tokens;
       before = c.plain_number.ensures.before ∙ c.loop-text.invariant.before;
     }
