@@ -51,10 +51,11 @@ pub fn value_of<T: Shaped>(alloc: Global, item: &Item) -> Result<T>
 ///
 /// # Errors
 ///
-/// What reading permits, or want of memory.
+/// The fault that reading the item permits, or `OutOfMemory`.
 pub fn value_from<T: Shaped>(alloc: Global, item: Item) -> Result<T>
     ensures read { Meets fault_of (T.reads (attribute (av.M (item_view item)))) result }
-    ensures clear { Clear T.about.shape → (value : T) → IsItemOf T.about.shape T.tells value item → MatchResult result (λ w. T.about.same value w) (λ e. fault_of e ≡ out_of_memory) }
+    ensures clear { Clear T.about.shape → (value : T) → IsItemOf T.about.shape T.tells value item
+        → MatchResult result (λ w. T.about.same value w) (λ e. fault_of e ≡ out_of_memory) }
 {
     let value: T = from_item(alloc, item)?;
     value.conforms();

@@ -12,7 +12,12 @@ none [] h = refl
 none (x ∷ xs) h = search
 
 pub loop-item-init : goal.loop-item-init
-loop-item-init g c = ([], c.into_iter-item-iterator.ensures.into_iter_gives.0, subst (AllZip (ReadsAs g.T.Deserialize.reads) []) (sym c.in_ok-values.ensures.items) tt)
+loop-item-init g c = (
+  [],
+  c.into_iter-item-iterator.ensures.into_iter_gives.0,
+  subst
+      (AllZip (ReadsAs g.T.Deserialize.reads) []) (sym c.in_ok-values.ensures.items) tt,
+)
 
 -- one value more was read
 pub loop-item-preserved : goal.loop-item-preserved
@@ -22,7 +27,8 @@ loop-item-preserved g c =
     let left = into_iter_items c.next.new.self in (
       l.0 ++ item ∷ [],
       append_assoc l.0 (item ∷ []) left ∙ ap (λ xs. l.0 ++ xs) (sym c.in-Some.ensures.steps.0) ∙ l.1,
-      rw c.in_ok-push.ensures.items (pushed (ReadsAs g.T.Deserialize.reads) l.0 c.loop-item.values.items item c.in_ok-value_from.field-0 l.2 c.in_ok-value_from.ensures.read),
+      rw c.in_ok-push.ensures.items (pushed (ReadsAs g.T.Deserialize.reads) l.0 c.loop-item.values.items item
+          c.in_ok-value_from.field-0 l.2 c.in_ok-value_from.ensures.read),
     )
 
 pub returns : goal.returns
