@@ -2,6 +2,8 @@ pub mod ByteOrder
 pub mod Decimals
 pub mod Longs
 pub mod Marks
+pub mod NextNumbers
+pub mod NextSizes
 pub mod Normals
 pub mod Scaled
 pub mod Sizes

@@ -10,13 +10,13 @@ use Rattle.dynamo_number.proofs.Sizes.{IsFull, size_cmp, pos_cmp, neg_cmp, mixed
 abbrev sized_cmp : Inside → Inside → Ordering
 sized_cmp a b = ordering_then (nat_cmp a.power b.power) (nat_cmp a.coefficient b.coefficient)
 
-full : (a : Inside) → IsNormal a → IsFull a.coefficient a.power
+pub full : (a : Inside) → IsNormal a → IsFull a.coefficient a.power
 full a h = ⊎_elim (λ z. inl (z.0, z.1)) (λ d. inr d) h
 
-is_pos : (a : Inside) → a.negative ≡ false → value_of a ≡ pos (a.coefficient * 10 ^ a.power)
+pub is_pos : (a : Inside) → a.negative ≡ false → value_of a ≡ pos (a.coefficient * 10 ^ a.power)
 is_pos a e = ap (λ b. signed b (a.coefficient * 10 ^ a.power)) e
 
-is_neg : (a : Inside) → a.negative ≡ true → value_of a ≡ neg_ℤ (pos (a.coefficient * 10 ^ a.power))
+pub is_neg : (a : Inside) → a.negative ≡ true → value_of a ≡ neg_ℤ (pos (a.coefficient * 10 ^ a.power))
 is_neg a e = ap (λ b. signed b (a.coefficient * 10 ^ a.power)) e
 
 -- a negative number is not zero

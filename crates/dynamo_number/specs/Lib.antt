@@ -1,4 +1,5 @@
 pub mod Bytes
 pub mod Digits
+pub mod Neighbours
 pub mod Normal
 pub mod Numbers

@@ -5,6 +5,7 @@ ghost use Rattle.std.specs.List.{before_first, after_first};
 ghost use Rattle.std.specs.Str.Parse.{AllDigits, digits_value_after, starts_with_minus, without_leading_sign};
 ghost use Rattle.dynamo_number.specs.Numbers.{IsNumber, IsDecimal, IsExponent, IsKept, mantissa, mark, has, signed};
 ghost use Rattle.dynamo_number.specs.Digits.{IsLong, IsScaled};
+ghost use Rattle.dynamo_number.specs.Neighbours.{IsFull, IsGreatest, IsGreatestSize, IsKeptNumber, IsLeast, IsNext, IsNextSize};
 ghost use Rattle.dynamo_number.specs.Bytes.{IsBytesOf, size_bytes};
 
 use std::alloc::AllocError;
@@ -50,6 +51,42 @@ impl Number {
         let (whole, fraction) = split_point(mantissa);
         let (negative, whole) = split_sign(whole.as_bytes());
         Number::decimal(negative, whole, fraction.as_bytes(), exponent)
+    }
+
+    /// The least number that DynamoDB keeps: `-9.99..E+125`, with 38 nines.
+    pub fn least() -> Number
+        ensures { IsLeast result }
+    {
+        Number {
+            negative: true,
+            coefficient: LEAST * 10 - 1,
+            power: u8::MAX,
+        }
+    }
+
+    /// The least number above this one that DynamoDB keeps, or `None` above the greatest.
+    ///
+    /// Numbers have 38 digits, so the next after `1` is `1` and 10^-37. The next after `0` is `1E-130`.
+    pub fn next(&self) -> Option<Number>
+        ensures kept { IsKeptNumber self.now }
+        ensures next { MatchOption result (IsGreatest self.now) (IsNext self.now) }
+    {
+        if self.negative {
+            let (coefficient, power) = size_below(self.coefficient, self.power);
+            return Some(Number {
+                negative: coefficient != 0,
+                coefficient,
+                power,
+            });
+        }
+        match size_above(self.coefficient, self.power) {
+            Some((coefficient, power)) => Some(Number {
+                negative: false,
+                coefficient,
+                power,
+            }),
+            None => None,
+        }
     }
 
     /// Eighteen bytes, which come in the order of the numbers, as [`laws::bytes_in_order`](crate::laws::bytes_in_order) says.
@@ -100,6 +137,41 @@ impl Number {
             }),
             Err(_) => None,
         }
+    }
+}
+
+// The next size above the one of these parts, or `None` above the greatest.
+fn size_above(coefficient: u128, power: u8) -> Option<(u128, u8)>
+    requires { IsFull coefficient power }
+    ensures { MatchOption result (IsGreatestSize (coefficient * 10 ^ power)) (λ above.
+        IsFull above.0 above.1 × (above.1 < 256)
+        × IsNextSize (coefficient * 10 ^ power) (above.0 * 10 ^ above.1)) }
+{
+    if coefficient == 0 {
+        Some((LEAST, 0))
+    } else if coefficient < LEAST * 10 - 1 {
+        Some((coefficient + 1, power))
+    } else if power < u8::MAX {
+        Some((LEAST, power + 1))
+    } else {
+        None
+    }
+}
+
+// The next size below the one of these parts, which isn't zero.
+fn size_below(coefficient: u128, power: u8) -> (u128, u8)
+    requires full { IsFull coefficient power }
+    requires some { 0 < coefficient }
+    ensures full { IsFull result.0 result.1 }
+    ensures byte { result.1 < 256 }
+    ensures next { IsNextSize (result.0 * 10 ^ result.1) (coefficient * 10 ^ power) }
+{
+    if coefficient > LEAST {
+        (coefficient - 1, power)
+    } else if power > 0 {
+        (LEAST * 10 - 1, power - 1)
+    } else {
+        (0, 0)
     }
 }
 
