@@ -1,4 +1,5 @@
 ghost use Rattle.std.specs.Prelude.{◌≡◌, ◌⊎◌, IfOk, IfErr, map, option_map, string_bytes};
+ghost use Rattle.table_key.specs.Held.{IsHeld, IsHeldKey};
 ghost use Rattle.table_key.specs.KeyOf.{AreNamed, AreNoWords, IsNamed, IsNoWord, Reads, ReadsAs, ReadsKey, Says, SaysKey, word_of, words_of};
 ghost use Rattle.table_key.specs.declared.error.TableError.TheVariants.{NotAnAttribute, OutOfMemory};
 
@@ -67,7 +68,8 @@ impl KeyAttribute {
     /// `Missing` where the item has no such attribute, `WrongKind` where its value is of another kind, `Empty` where it is a
     /// text or a byte string without bytes, `NotANumber` where it is the text of no number that DynamoDB keeps.
     pub fn value_in(&self, item: &Item) -> Result<KeyValue, TableError>
-        ensures { Reads self.now item.now result }
+        ensures reads { Reads self.now item.now result }
+        ensures held { IfOk result IsHeld }
     {
         let Some(value) = item.get(self.name.as_str()) else {
             return Err(TableError::Missing);
@@ -106,7 +108,8 @@ impl KeyAttribute {
 }
 
 fn text_value(alloc: Global, text: &str) -> Result<KeyValue, TableError>
-    ensures { ReadsAs KeyKind.S text.now result }
+    ensures reads { ReadsAs KeyKind.S text.now result }
+    ensures held { IfOk result IsHeld }
 {
     if text.is_empty() {
         return Err(TableError::Empty);
@@ -115,7 +118,8 @@ fn text_value(alloc: Global, text: &str) -> Result<KeyValue, TableError>
 }
 
 fn number_value(text: &str) -> Result<KeyValue, TableError>
-    ensures { ReadsAs KeyKind.N text.now result }
+    ensures reads { ReadsAs KeyKind.N text.now result }
+    ensures held { IfOk result IsHeld }
 {
     match Number::parse(text) {
         Some(number) => Ok(KeyValue::N(number)),
@@ -124,7 +128,8 @@ fn number_value(text: &str) -> Result<KeyValue, TableError>
 }
 
 fn bytes_value(alloc: Global, bytes: &[u8]) -> Result<KeyValue, TableError>
-    ensures { ReadsAs KeyKind.B bytes.now result }
+    ensures reads { ReadsAs KeyKind.B bytes.now result }
+    ensures held { IfOk result IsHeld }
 {
     if bytes.is_empty() {
         return Err(TableError::Empty);
@@ -182,7 +187,8 @@ impl KeySchema {
     ///
     /// Those of [`KeyAttribute::value_in`], the partition key's before the sort key's.
     pub fn key_of(&self, item: &Item) -> Result<Key, TableError>
-        ensures { ReadsKey self.now item.now result }
+        ensures reads { ReadsKey self.now item.now result }
+        ensures held { IfOk result IsHeldKey }
     {
         let partition = self.partition.value_in(item)?;
         let sort = match &self.sort {
