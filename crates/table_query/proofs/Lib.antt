@@ -1,6 +1,4 @@
-pub mod Beyond
-pub mod Found
 pub mod Orders
-pub mod Prefixes
-pub mod SearchKeys
-pub mod Unmet
+pub mod PrefixEnds
+pub mod PrefixLists
+pub mod TextOrder

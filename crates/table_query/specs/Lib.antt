@@ -1,3 +1,3 @@
-pub mod Bounds
 pub mod Conditions
+pub mod Prefixes
 pub mod Queries

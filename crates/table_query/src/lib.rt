@@ -1,8 +1,8 @@
 //! What is asked of a DynamoDB table: on what a change depends, and which items a query finds.
 #![tactic(auto)]
 
-mod bounds;
 mod condition;
+mod prefix;
 mod query;
 
 pub use condition::Condition;
