@@ -1,4 +1,11 @@
+pub mod Copies
+pub mod Meets
+pub mod Narrowed
+pub mod NextValues
+pub mod OrderedPlaces
 pub mod Orders
+pub mod Partitions
 pub mod PrefixEnds
 pub mod PrefixLists
+pub mod Prefixed
 pub mod TextOrder

@@ -31,7 +31,6 @@ empty_first : (xs : List ℕ) → is_gt (cmp [] xs) ≡ false
 empty_first [] = refl
 empty_first (x ∷ xs) = refl
 
-
 module _ (m : ℕ) where
   -- Of lists whose elements are at most m, those that begin with a list of m's are those from it on.
   pub from_greatest : (ms xs : List ℕ) → All (λ x. x ≡ m) ms → All (λ x. x ≤ m) xs → has xs ms ≡ is_le (cmp ms xs)
@@ -95,7 +94,7 @@ module _ (m : ℕ) where
         go : has xs (before ++ c ∷ ms) ≡ (is_le (cmp (before ++ c ∷ ms) xs) && is_gt (cmp (before ++ d ∷ []) xs))
             → (o : Ordering) → nat_cmp p x ≡ o → nat_eq p x && has xs (before ++ c ∷ ms)
             ≡ (is_le (ordering_then (nat_cmp p x) (cmp (before ++ c ∷ ms) xs))
-              && is_gt (ordering_then (nat_cmp p x) (cmp (before ++ d ∷ []) xs)))
+            && is_gt (ordering_then (nat_cmp p x) (cmp (before ++ d ∷ []) xs)))
         go rest Less e = rw (e, below p x e) refl
         go rest Equal e = rw (e, alike p x e) rest
         go rest Greater e = rw (e, above p x e) refl

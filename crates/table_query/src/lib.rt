@@ -2,8 +2,14 @@
 #![tactic(auto)]
 
 mod condition;
+mod found_range;
+mod key_range;
+mod place;
 mod prefix;
 mod query;
+mod sort_range;
 
 pub use condition::Condition;
+pub use key_range::KeyRange;
+pub use place::Place;
 pub use query::{Query, SortCondition, is_behind};
