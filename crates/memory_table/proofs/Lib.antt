@@ -1,3 +1,5 @@
+pub mod Held
+pub mod HeldKeys
 pub mod Pages
+pub mod Puts
 pub mod Scans
-pub mod Walks

@@ -1,6 +1,8 @@
 //! A DynamoDB table in memory, for the tests of a service.
 #![tactic(auto)]
 
+mod change;
+mod places;
 mod query;
 mod table;
 

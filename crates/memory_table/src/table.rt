@@ -1,163 +1,17 @@
-ghost use Rattle.std.specs.Prelude.{◌≡◌, None, [], IsTrue, ◌↔◌, length, option_map, OnOk};
-ghost use Rattle.std.specs.BTreeMap.{get, IsOrdered, Updates};
-ghost use Rattle.std.specs.Fn.{FnOnceReturnsAt};
-ghost use Rattle.memory_table.specs.Change.{DeletesIf, PutsIf, Replaces, UpdatesItem};
-ghost use Rattle.memory_table.specs.Content.{items_of, entries_of, schema_of};
-ghost use Rattle.table_key.specs.KeyOf.{ReadsKey};
-ghost use Rattle.table_key.specs.KeyOrder.{key_cmp};
-ghost use Rattle.table_query.specs.declared.condition.Condition.TheVariants.{Always};
+ghost use Rattle.std.specs.BTreeMap.{keys};
+ghost use Rattle.std.specs.List.{All};
+ghost use Rattle.table_key.specs.Held.{IsHeldKey};
 
 use dynamo_value::Item;
-use std::alloc::Global;
 use std::collections::BTreeMap;
-use table_key::{Key, KeySchema, TableError};
-use table_query::Condition;
+use table_key::{Key, KeySchema};
 
 /// A DynamoDB table in memory: items by their keys, in the keys' order.
 #[derive(Debug, Drop)]
 pub struct Table {
-    schema: KeySchema,
-    items: BTreeMap<Key, Item>,
-}
+    pub(crate) schema: KeySchema,
+    pub(crate) items: BTreeMap<Key, Item>,
 
-impl Table {
-    /// The table without items. It takes no memory.
-    pub fn new(alloc: Global, schema: KeySchema) -> Self
-        ensures schema { schema_of result ≡ schema }
-        ensures empty { entries_of result ≡ [] }
-    {
-        Table {
-            schema,
-            items: BTreeMap::new(alloc),
-        }
-    }
-
-    /// The key of an item of this table, and errors as [`KeySchema::key_of`] has them.
-    pub fn key_of(&self, item: &Item) -> Result<Key, TableError>
-        ensures { ReadsKey (schema_of self.now) item.now result }
-    {
-        self.schema.key_of(item)
-    }
-
-    /// How many items there are. Every table holds them in the order of their keys, each key once.
-    pub fn len(&self) -> usize
-        ensures len { result ≡ length (entries_of self.now) }
-        ensures ordered { IsOrdered key_cmp (items_of self.now) }
-    {
-        self.items.len()
-    }
-
-    /// Whether there are no items.
-    pub fn is_empty(&self) -> bool
-        ensures { IsTrue result ↔ (length (entries_of self.now) ≡ 0) }
-    {
-        self.items.is_empty()
-    }
-
-    /// The item under a key, where there is one.
-    pub fn get(&self, key: &Key) -> Option<&Item>
-        ensures { option_map (λ item. item.now) result ≡ get key_cmp (items_of self.now) key.now }
-    {
-        self.items.get(key)
-    }
-
-    /// Puts an item under its key, and answers the item that was there.
-    ///
-    /// # Errors
-    ///
-    /// Those of [`KeySchema::key_of`].
-    pub fn put(&mut self, item: Item) -> Result<Option<Item>, TableError>
-        ensures puts { PutsIf Always item self.old self.new result }
-        ensures ordered { OnOk result (IsOrdered key_cmp (items_of self.new)) }
-        ensures schema { schema_of self.new ≡ schema_of self.old }
-    {
-        self.put_if(Condition::Always, item)
-    }
-
-    /// Puts an item under its key where the condition holds there, and answers the item that was there.
-    ///
-    /// # Errors
-    ///
-    /// Those of [`KeySchema::key_of`], and then `ConditionFailed` where the condition doesn't hold.
-    pub fn put_if(&mut self, condition: Condition, item: Item) -> Result<Option<Item>, TableError>
-        ensures puts { PutsIf condition item self.old self.new result }
-        ensures ordered { OnOk result (IsOrdered key_cmp (items_of self.new)) }
-        ensures schema { schema_of self.new ≡ schema_of self.old }
-    {
-        let key = self.schema.key_of(&item)?;
-        if !condition.holds(self.items.contains_key(&key)) {
-            return Err(TableError::ConditionFailed);
-        }
-        Ok(self.items.insert(key, item)?)
-    }
-
-    /// Takes out the item under a key, where there is one.
-    pub fn delete(&mut self, key: &Key) -> Option<Item>
-        ensures before { result ≡ get key_cmp (items_of self.old) key.now }
-        ensures updates { Updates key_cmp (items_of self.old) (items_of self.new) key.now None }
-        ensures ordered { IsOrdered key_cmp (items_of self.new) }
-        ensures schema { schema_of self.new ≡ schema_of self.old }
-    {
-        self.items.remove(key)
-    }
-
-    /// Takes out the item under a key where the condition holds there.
-    ///
-    /// # Errors
-    ///
-    /// `ConditionFailed` where the condition doesn't hold.
-    pub fn delete_if(&mut self, condition: Condition, key: &Key) -> Result<Option<Item>, TableError>
-        ensures deletes { DeletesIf condition key.now self.old self.new result }
-        ensures ordered { OnOk result (IsOrdered key_cmp (items_of self.new)) }
-        ensures schema { schema_of self.new ≡ schema_of self.old }
-    {
-        if !condition.holds(self.items.contains_key(key)) {
-            return Err(TableError::ConditionFailed);
-        }
-        Ok(self.items.remove(key))
-    }
-
-    /// Puts what `change` makes of the item under a key in its place.
-    ///
-    /// # Errors
-    ///
-    /// `NoItem` where the key has no item, the error of `change`, those of [`KeySchema::key_of`] of the changed item, and
-    /// `KeyChanged` where that has another key.
-    pub fn update<F: FnOnce(&Item) -> Result<Item, TableError>>(
-        &mut self,
-        key: &Key,
-        change: F,
-    ) -> Result<(), TableError>
-        requires { F.IsAlwaysCallable change }
-        ensures updates { UpdatesItem (FnOnceReturnsAt F.FnOnce change) key.now self.old self.new result }
-        ensures ordered { OnOk result (IsOrdered key_cmp (items_of self.new)) }
-        ensures schema { schema_of self.new ≡ schema_of self.old }
-    {
-        let Some(item) = self.items.get(key) else {
-            return Err(TableError::NoItem);
-        };
-        let changed = change(item)?;
-        self.replace(key, changed)
-    }
-
-    // The items by their keys.
-    pub(crate) fn items(&self) -> &BTreeMap<Key, Item>
-        ensures { result.now ≡ items_of self.now }
-    {
-        &self.items
-    }
-
-    // Puts an item in the place of the one under its key, which is to be this.
-    fn replace(&mut self, key: &Key, item: Item) -> Result<(), TableError>
-        ensures replaces { Replaces key.now self.old self.new result item }
-        ensures ordered { OnOk result (IsOrdered key_cmp (items_of self.new)) }
-        ensures schema { schema_of self.new ≡ schema_of self.old }
-    {
-        let own_key = self.schema.key_of(&item)?;
-        if own_key.cmp(key).is_ne() {
-            return Err(TableError::KeyChanged);
-        }
-        self.items.insert(own_key, item)?;
-        Ok(())
-    }
+    // Its keys are read from items, so their values are ones that DynamoDB keeps.
+    ghost held: { ∥ All IsHeldKey (keys items) ∥₁ },
 }

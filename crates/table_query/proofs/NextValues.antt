@@ -13,12 +13,12 @@ use Rattle.table_query.proofs.PrefixLists.{cmp}
 
 -- ---- lists
 
-empty_first : (xs : List ℕ) → is_le (cmp [] xs) ≡ true
+pub empty_first : (xs : List ℕ) → is_le (cmp [] xs) ≡ true
 empty_first [] = refl
 empty_first (x ∷ xs) = refl
 
 -- no list lies between a list and the same with a zero behind it
-zero_added : (xs ys : List ℕ) → is_lt (cmp xs ys) ≡ is_le (cmp (xs ++ 0 ∷ []) ys)
+pub zero_added : (xs ys : List ℕ) → is_lt (cmp xs ys) ≡ is_le (cmp (xs ++ 0 ∷ []) ys)
 zero_added [] [] = refl
 zero_added [] (y ∷ ys) = go (nat_cmp 0 y) refl
   where

@@ -1,10 +1,37 @@
-use Rattle.memory_table.proofs.Walks.{from_start, up_to_start}
+use Rattle.std.proofs.Common.{◌≡◌, ◌∙◌, true, false, MatchOption, IfOk, sym, ap, subst}
+use Rattle.std.specs.Range.Bound.{bound_map}
+use Rattle.memory_table.specs.Content.{entries_of}
+use Rattle.table_query.specs.Queries.{seen}
+use Rattle.table_query.specs.Ranges.{FindsBetween, FindsNone}
+use Rattle.memory_table.proofs.Held.{answer_between, answer_none}
+use Rattle.memory_table.proofs.Pages.{Entries}
 use Rattle.memory_table.proofs.table.Table.query.Goals as goal
 
-pub find_backward-requires-clause-end : goal.find_backward-requires-clause-end
-find_backward-requires-clause-end c =
-    up_to_start c.args.query.now c.in-Some.key c.in-Some.is c.if-query.true
+pub returns-in_default : goal.returns-in_default
+returns-in_default c =
+    let query = c.args.query.now in
+    let none : FindsNone query =
+    subst (λ o. MatchOption o (FindsNone query) (FindsBetween query)) c.in_default.is c.in_ok-range.ensures in
+    ap seen c.new.ensures.items ∙ sym (answer_none query (entries_of c.args.self.now) none c.args.self.now.held)
 
-pub find_forward-requires-clause-start : goal.find_forward-requires-clause-start
-find_forward-requires-clause-start c =
-    from_start c.args.query.now c.in-Some-2.key c.in-Some-2.is c.if-query.false
+pub returns-then-query : goal.returns-then-query
+returns-then-query c =
+    let query = c.args.query.now in
+    let between : FindsBetween query c.in-Some.range =
+    subst (λ o. MatchOption o (FindsNone query) (FindsBetween query)) c.in-Some.is c.in_ok-range.ensures in
+    let low = bound_map (λ x. x.now) c.bounds.result.0 in
+    let high = bound_map (λ x. x.now) c.bounds.result.1 in
+    subst (λ (es : Entries). IfOk c.last_between.result (λ page. seen page.items ≡ es))
+    (answer_between query c.in-Some.range low high (entries_of c.args.self.now) true c.if-query.true between c.bounds.ensures.between c.args.self.now.held)
+    c.last_between.ensures
+
+pub returns : goal.returns
+returns c =
+    let query = c.args.query.now in
+    let between : FindsBetween query c.in-Some.range =
+    subst (λ o. MatchOption o (FindsNone query) (FindsBetween query)) c.in-Some.is c.in_ok-range.ensures in
+    let low = bound_map (λ x. x.now) c.bounds.result.0 in
+    let high = bound_map (λ x. x.now) c.bounds.result.1 in
+    subst (λ (es : Entries). IfOk c.first_between.result (λ page. seen page.items ≡ es))
+    (answer_between query c.in-Some.range low high (entries_of c.args.self.now) false c.if-query.false between c.bounds.ensures.between c.args.self.now.held)
+    c.first_between.ensures

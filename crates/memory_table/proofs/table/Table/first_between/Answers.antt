@@ -1,24 +1,15 @@
-use Rattle.std.proofs.Common.{◌≡◌, ◌∙◌, ◌-◌, [], ◌∷◌, ◌++◌, take, refl, ap, sym, arith, vec_len}
+use Rattle.std.proofs.Common.{◌∙◌, ◌-◌, [], ◌∷◌, ◌++◌, take, refl, ap, sym, arith, vec_len}
 use Rattle.std.proofs.lemmas.Slice.{pushed}
-use Rattle.std.specs.BTreeMap.Range.{entries_between}
-use Rattle.std.specs.Range.Bound.{bound_map}
-use Rattle.std.specs.declared.ops.Bound.TheVariants.{Unbounded}
 use Rattle.dynamo_value.specs.declared.item.Item.{Item}
-use Rattle.memory_table.specs.Content.{entries_of}
-use Rattle.table_key.specs.KeyOrder.{key_cmp}
 use Rattle.table_key.specs.declared.key.Key.{Key}
 use Rattle.table_query.specs.Queries.{seen}
 use Rattle.memory_table.proofs.Pages.{Entries, one_more, seen_more}
-use Rattle.memory_table.proofs.Walks.{all_left}
-use Rattle.memory_table.proofs.table.Table.page_from.Goals as goal
+use Rattle.memory_table.proofs.Pages.{all_left}
+use Rattle.memory_table.proofs.table.Table.first_between.Goals as goal
 
 pub loop-key-init : goal.loop-key-init
 loop-key-init c =
-    let start = bound_map (λ x. x.now) c.args.start in
-    let es = entries_of c.args.self.now in
-    let left : c.into_iter-key-iterator.result ≡ entries_between key_cmp start Unbounded es =
-    c.into_iter-key-iterator.ensures.into_iter_gives ∙ c.range-key-items.ensures.between tt
-    ∙ ap (λ m. entries_between key_cmp start Unbounded m.entries) c.items.ensures in
+    let left = c.into_iter-key-iterator.ensures.into_iter_gives ∙ c.range-key-items.ensures.between tt in
     let page = c.new-page.result in
     let empty = ap seen c.new-page.ensures.items in
     let none = c.new-page.ensures.len in
