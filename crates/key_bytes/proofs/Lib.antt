@@ -1,3 +1,2 @@
-pub mod Behind
-pub mod Between
 pub mod InOrder
+pub mod PlaceBytes

@@ -1,132 +1,59 @@
-ghost use Rattle.std.specs.Prelude.{◌≡◌, ℕ, List, true, IfOk};
-ghost use Rattle.table_query.specs.Queries.{finds};
-ghost use Rattle.table_key.specs.declared.key.Key.{Key};
-ghost use Rattle.key_bytes.specs.Between.{AreBounds, IsHigh, IsLow, IsUpTo, first_value, last_value};
-ghost use Rattle.key_bytes.specs.Bytes.{IsSortBytes};
+ghost use Rattle.std.specs.Prelude.{IfOk, MatchOption};
+ghost use Rattle.key_bytes.specs.Between.{AreBounds, IsPlaceBytes};
+ghost use Rattle.table_query.specs.Ranges.{FindsNone};
 
-use crate::{bytes_of, sort_bytes};
+use crate::sort_bytes;
 use std::alloc::{AllocError, Global};
+use std::cmp::Ordering;
 use table_key::KeyValue;
-use table_query::{Query, SortCondition};
+use table_query::{Place, Query};
 
-// What comes behind the bytes of any value.
+// What comes behind the bytes of any sort key.
 const BEHIND_ALL: u8 = 3;
 
-/// Bytes of sort keys between which all are that a query finds.
+/// The bytes of the sort keys that a query finds in its partition: those from `low` on and before
+/// `high`.
 #[derive(Drop)]
 pub struct Bounds {
-    /// What comes behind none of them.
+    /// The first bytes of the range.
     pub low: Vec<u8>,
 
-    /// What comes before none of them.
+    /// The first bytes behind the range.
     pub high: Vec<u8>,
 }
 
 impl Bounds {
-    /// Those of what a query finds.
+    /// Returns the bounds of the sort keys that a query finds, or `None` if it finds no key.
     ///
     /// # Errors
     ///
-    /// Want of memory.
-    pub fn of_query(alloc: Global, query: &Query<'_>) -> Result<Bounds, AllocError>
-        ensures { IfOk result (λ bounds. AreBounds query.now bounds.low.items bounds.high.items) }
+    /// [`AllocError`] if memory for the bounds, or for the keys at the ends of the query's range,
+    /// can't be allocated.
+    pub fn of_query(alloc: Global, query: &Query<'_>) -> Result<Option<Bounds>, AllocError>
+        ensures { IfOk result (λ bounds. MatchOption bounds (FindsNone query.now) (AreBounds query.now)) }
     {
-        Bounds::of(alloc, query.sort)?.behind(alloc, query)
-    }
-
-    /// Those that the condition of a query gives.
-    ///
-    /// # Errors
-    ///
-    /// Want of memory.
-    pub fn of(alloc: Global, sort: SortCondition<'_>) -> Result<Bounds, AllocError>
-        ensures low { IfOk result (λ bounds. IsLow sort.entry bounds.low.items) }
-        ensures high { IfOk result (λ bounds. IsHigh sort.entry bounds.high.items) }
-    {
-        Ok(Bounds {
-            low: low(alloc, sort)?,
-            high: high(alloc, sort)?,
-        })
-    }
-
-    /// Of these, those behind the key after which a query starts, where that has its partition key.
-    ///
-    /// # Errors
-    ///
-    /// Want of memory.
-    pub fn behind(self, alloc: Global, query: &Query<'_>) -> Result<Bounds, AllocError>
-        ensures low { IfOk result (λ bounds. (key : Key) (bytes : List ℕ) → finds query.now key ≡ true → IsSortBytes key.sort bytes
-            → IsUpTo self.low.items bytes → IsUpTo bounds.low.items bytes) }
-        ensures high { IfOk result (λ bounds. (key : Key) (bytes : List ℕ) → finds query.now key ≡ true → IsSortBytes key.sort bytes
-            → IsUpTo bytes self.high.items → IsUpTo bytes bounds.high.items) }
-    {
-        let Some(start) = query.start_after else {
-            return Ok(self);
+        let Some(range) = query.key_range(alloc)? else {
+            return Ok(None);
         };
-        if start.partition.cmp(query.partition).is_ne() {
-            return Ok(self);
+        Ok(Some(Bounds {
+            low: place_bytes(alloc, query.partition, &range.low)?,
+            high: place_bytes(alloc, query.partition, &range.high)?,
+        }))
+    }
+}
+
+// Returns the first bytes of the sort keys of a partition that come from a place on.
+fn place_bytes(alloc: Global, partition: &KeyValue, place: &Place) -> Result<Vec<u8>, AllocError>
+    ensures { IfOk result (λ start. IsPlaceBytes partition.now place.now start.items) }
+{
+    match place.key.partition.cmp(partition) {
+        Ordering::Less => Ok(Vec::new(alloc)),
+        Ordering::Equal if place.is_behind => {
+            let mut start = sort_bytes(alloc, &place.key.sort)?;
+            start.push(0)?;
+            Ok(start)
         }
-        let sort = sort_bytes(alloc, &start.sort)?;
-        if query.backward {
-            Ok(Bounds {
-                low: self.low,
-                high: self.high.min(sort),
-            })
-        } else {
-            Ok(Bounds {
-                low: self.low.max(sort),
-                high: self.high,
-            })
-        }
-    }
-}
-
-// What comes before the bytes of each sort key that meets a condition, or is the first of them.
-fn low(alloc: Global, sort: SortCondition<'_>) -> Result<Vec<u8>, AllocError>
-    ensures { IfOk result (λ bytes. IsLow sort.entry bytes.items) }
-{
-    match first_value(sort) {
-        Some(value) => bytes_of(alloc, value),
-        None => Ok(Vec::new(alloc)),
-    }
-}
-
-// What comes behind the bytes of each sort key that meets a condition, or is the last of them.
-fn high(alloc: Global, sort: SortCondition<'_>) -> Result<Vec<u8>, AllocError>
-    ensures { IfOk result (λ bytes. IsHigh sort.entry bytes.items) }
-{
-    match last_value(sort) {
-        Some(value) => bytes_of(alloc, value),
-        None => Ok(vec![in alloc; BEHIND_ALL]?),
-    }
-}
-
-// The value before which none meets a condition, where the condition has one.
-fn first_value(sort: SortCondition<'_>) -> Option<&KeyValue>
-    ensures { result ≡ first_value sort.entry }
-{
-    match sort {
-        SortCondition::Equal(value)
-        | SortCondition::Greater(value)
-        | SortCondition::GreaterOrEqual(value)
-        | SortCondition::Between(value, _)
-        | SortCondition::BeginsWith(value) => Some(value),
-        SortCondition::Any | SortCondition::Less(_) | SortCondition::LessOrEqual(_) => None,
-    }
-}
-
-// The value behind which none meets a condition, where the condition has one.
-fn last_value(sort: SortCondition<'_>) -> Option<&KeyValue>
-    ensures { result ≡ last_value sort.entry }
-{
-    match sort {
-        SortCondition::Equal(value)
-        | SortCondition::Less(value)
-        | SortCondition::LessOrEqual(value)
-        | SortCondition::Between(_, value) => Some(value),
-        SortCondition::Any
-        | SortCondition::Greater(_)
-        | SortCondition::GreaterOrEqual(_)
-        | SortCondition::BeginsWith(_) => None,
+        Ordering::Equal => sort_bytes(alloc, &place.key.sort),
+        Ordering::Greater => Ok(vec![in alloc; BEHIND_ALL]?),
     }
 }

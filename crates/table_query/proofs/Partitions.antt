@@ -22,11 +22,11 @@ use Rattle.table_query.proofs.OrderedPlaces.{on_side}
 use Rattle.table_query.proofs.Orders.{flipped}
 
 -- all that is above a place comes from it on, and nothing that is below it
-above_side : (behind : Bool) → on_side behind Less ≡ true
+pub above_side : (behind : Bool) → on_side behind Less ≡ true
 above_side false = refl
 above_side true = refl
 
-below_side : (behind : Bool) → on_side behind Greater ≡ false
+pub below_side : (behind : Bool) → on_side behind Greater ≡ false
 below_side false = refl
 below_side true = refl
 

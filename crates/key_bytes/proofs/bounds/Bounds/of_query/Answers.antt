@@ -1,7 +1,11 @@
-use Rattle.key_bytes.proofs.Behind.{bounds_ok}
+use Rattle.std.proofs.Common.{MatchOption, subst}
+use Rattle.table_query.specs.Ranges.{FindsBetween, FindsNone}
+use Rattle.key_bytes.proofs.PlaceBytes.{bounded}
 use Rattle.key_bytes.proofs.bounds.Bounds.of_query.Goals as goal
 
 pub returns : goal.returns
 returns c =
-    bounds_ok c.args.query.now c.in_ok-of.field-0.low.items c.in_ok-of.field-0.high.items c.in_ok-of.ensures.low c.in_ok-of.ensures.high c.behind.result
-    c.behind.ensures.low c.behind.ensures.high
+    let query = c.args.query.now in
+    let between : FindsBetween query c.in-Some.range =
+    subst (λ o. MatchOption o (FindsNone query) (FindsBetween query)) c.in-Some.is c.in_ok-range.ensures in
+    bounded query c.in-Some.range (record { low = c.in_ok-place_bytes.field-0; high = c.in_ok-place_bytes-2.field-0 }) between c.in_ok-place_bytes.ensures c.in_ok-place_bytes-2.ensures
