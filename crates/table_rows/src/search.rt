@@ -11,10 +11,10 @@ use std::alloc::Global;
 use table_query::Query;
 
 const FORWARD: &str = "SELECT item FROM dynamo_item WHERE table_id = ?1 AND partition_key = ?2 \
-     AND sort_key >= ?3 AND sort_key <= ?4 ORDER BY sort_key";
+     AND sort_key >= ?3 AND sort_key < ?4 ORDER BY sort_key LIMIT ?5";
 
 const BACKWARD: &str = "SELECT item FROM dynamo_item WHERE table_id = ?1 AND partition_key = ?2 \
-     AND sort_key >= ?3 AND sort_key <= ?4 ORDER BY sort_key DESC";
+     AND sort_key >= ?3 AND sort_key < ?4 ORDER BY sort_key DESC LIMIT ?5";
 
 const REST: &str =
     "SELECT item FROM dynamo_item WHERE table_id = ?1 AND partition_key = ?2 AND sort_key > ?3 \
@@ -23,12 +23,16 @@ const REST: &str =
 const FOLLOWING: &str = "SELECT item FROM dynamo_item WHERE table_id = ?1 AND partition_key > ?2 \
      ORDER BY partition_key, sort_key LIMIT ?3";
 
-/// The items that a query finds in a table, read from the rows under the bytes of its partition key and between bounds of the sort
-/// key, in its direction and up to its limit. No more rows are read than it takes.
+/// Returns the items that a query finds in a table, in its direction and up to its limit.
+///
+/// They are read from the rows under the bytes of its partition key and within bounds of the sort
+/// key. Bounds of the query hold the rows that it finds and no others, so one statement reads as
+/// many rows as there are items in the answer.
 ///
 /// # Errors
 ///
-/// `Unreadable` where the text of an item doesn't read, `Key` where it lacks its key, `Database` and `OutOfMemory`.
+/// `Unreadable` if the text of an item doesn't read, `Key` if it lacks its key, `Database` and
+/// `OutOfMemory`.
 pub fn find<S: Alter>(
     alloc: Global,
     conn: &mut Connection<S>,
@@ -42,7 +46,9 @@ pub fn find<S: Alter>(
 {
     let mut found = Vec::new(alloc);
     let sql = if query.backward { BACKWARD } else { FORWARD };
-    let mut rows = conn.query(sql, params![table.id, partition, &bounds.low, &bounds.high])?;
+    let limit = count_of(query.limit);
+    let params = params![table.id, partition, &bounds.low, &bounds.high, limit];
+    let mut rows = conn.query(sql, params)?;
     for _ in 0..u64::MAX {
         if found.len() >= query.limit {
             break;

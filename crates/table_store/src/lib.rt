@@ -5,6 +5,6 @@ mod depth;
 mod open;
 mod store;
 
-pub use open::{create_at, create_in_memory, open_at};
+pub use open::{create_at, create_in_memory, create_in_memory_file, open_at};
 pub use store::TableStore;
 pub use table_rows::StoreError;

@@ -3,12 +3,56 @@ ghost use Rattle.table_key.specs.KeyOf.{words_of};
 ghost use Rattle.table_store.specs.Content.{schema_of};
 
 use crate::TableStore;
-use sqlite::{Connection, File, FileStore, MemStore};
+use sqlite::{Connection, File, FileStore, Files, MemStore, Options};
+use sqlite_disk::Memory;
 use std::alloc::Global;
 use table_key::KeySchema;
 use table_rows::StoreError;
 
-/// A table without items in a database in memory.
+/// Returns a table without items in a database in memory.
+///
+/// The database is the paged one that [`create_at`] has, over files in memory, so a put, an update
+/// or a delete costs the logarithm of the number of items.
+///
+/// # Errors
+///
+/// `Database` if the database can't be opened, and `OutOfMemory`.
+///
+/// # Examples
+///
+///     let schema = KeySchema::parse(alloc, &["customer:S", "placed_at:N"])?;
+///     let mut orders = create_in_memory_file(alloc, "orders", schema)?;
+///     orders.put(&order)?;
+pub fn create_in_memory_file(
+    alloc: Global,
+    name: &str,
+    schema: KeySchema,
+) -> Result<TableStore<FileStore<Memory>>, StoreError>
+    ensures { IfOk result (λ store. words_of (schema_of store) ≡ words_of schema) }
+{
+    TableStore::create(alloc, connect_in_memory(alloc)?, name, schema)
+}
+
+// The seed of the salts of a log, which tell one log in a file from the next. A log in memory is
+// the only one.
+const SALT_SEED: u64 = 0;
+
+// A database over two files in memory, that of its pages and that of its log.
+fn connect_in_memory(alloc: Global) -> Result<Connection<FileStore<Memory>>, StoreError> {
+    let files = Files {
+        log: Memory::new(alloc),
+        db: Memory::new(alloc),
+    };
+    match Connection::open_files(alloc, files, Options::new(SALT_SEED)) {
+        Ok(conn) => Ok(conn),
+        Err((error, _)) => Err(StoreError::from(error)),
+    }
+}
+
+/// Returns a table without items in a database in memory that keeps its rows in one list.
+///
+/// A put that replaces an item, an update and a delete walk all rows of the database. Prefer
+/// [`create_in_memory_file`], or `memory_table` where no database is needed.
 ///
 /// # Errors
 ///

@@ -223,7 +223,9 @@ impl<S: Alter + Drop> TableStore<S> {
         ensures limit { IfOk result (λ items. length items.items ≤ query.now.limit) }
         ensures schema { schema_of self.new ≡ schema_of self.old }
     {
-        let bounds = Bounds::of_query(self.alloc, query)?;
+        let Some(bounds) = Bounds::of_query(self.alloc, query)? else {
+            return Ok(Vec::new(self.alloc));
+        };
         let partition = bytes_of(self.alloc, query.partition)?;
         table_rows::find(
             self.alloc,

@@ -8,6 +8,6 @@ loop-preserved g c =
     elim c.if-finds.branch [
       | then-finds+in_ok-push w ↦
           one_more c.args.table.now.schema c.args.query.now c.loop.found.items c.if-finds.found.items c.in_ok-item.item c.in_ok-key_of.field-0
-          (ap (λ v. v.items) w.found-is ∙ w.in_ok-push.ensures.items) c.loop.invariant.0 (omega (arith, c.len.ensures, c.if-len-query.false)) c.in_ok-key_of.ensures (sym c.finds.ensures ∙ w.if-finds.true)
+          (ap (λ v. v.items) w.found-is ∙ w.in_ok-push.ensures.items) c.loop.invariant.0 (omega (arith, c.len.ensures, c.if-len-query.false)) c.in_ok-key_of.ensures.reads (sym c.finds.ensures ∙ w.if-finds.true)
       | else-finds w ↦ rw (ap (λ v. v.items) w.found-is) c.loop.invariant
     ]

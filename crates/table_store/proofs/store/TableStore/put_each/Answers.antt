@@ -6,7 +6,7 @@ use Rattle.table_store.proofs.store.TableStore.put_each.Goals as goal
 
 pub loop-item-preserved : goal.loop-item-preserved
 loop-item-preserved g c =
-    let reads = subst (λ s. ReadsKey s c.item-item.result (Ok c.in_ok-key.key)) c.loop-item.invariant.0 c.in_ok-key.ensures in (
+    let reads = subst (λ s. ReadsKey s c.item-item.result (Ok c.in_ok-key.key)) c.loop-item.invariant.0 c.in_ok-key.ensures.reads in (
       c.put_at.ensures.schema ∙ c.loop-item.invariant.0,
       one_more (schema_of c.args.self.now) c.args.items.now c.loop-item.item-index c.item-item.result c.in_ok-key.key c.loop-item-test.true c.item-item.is
           c.loop-item.invariant.1 reads,
