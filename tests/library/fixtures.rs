@@ -7,6 +7,7 @@ pub(crate) mod members;
 pub(crate) mod named;
 pub(crate) mod notation;
 pub(crate) mod opener;
+pub(crate) mod readers;
 pub(crate) mod refuses;
 pub(crate) mod requests;
 pub(crate) mod rows;

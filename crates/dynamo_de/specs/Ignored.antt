@@ -1,14 +1,14 @@
 -- What ignoring a source meets: nothing, or the first fault that an ignored-any reading of it meets, at every depth.
-use Rattle.std.specs.Prelude.{ℕ, suc, max, false, List, [], ◌∷◌, Ok, Err, if◌then◌else◌, ⊤}
+use Rattle.std.specs.Prelude.{ℕ, suc, max, false, List, [], ◌∷◌, Result, Ok, Err, if◌then◌else◌, ⊤}
 use Rattle.dynamo_value.specs.Av as av
 use Rattle.dynamo_value.specs.Av.{Av, Members, Elements}
-use Rattle.dynamo_value.specs.Fault.{failed_to_parse_float, expected_unit}
+use Rattle.dynamo_value.specs.Fault.{Fault, failed_to_parse_float, expected_unit}
 use Rattle.dynamo_de.specs.Answer as answer
 use Rattle.dynamo_de.specs.Answer.{Answer}
 use Rattle.dynamo_value.specs.Steps.{◌>>=◌}
+use Rattle.dynamo_de.specs.Inside as inside
+use Rattle.dynamo_de.specs.Inside.{Inside}
 use Rattle.dynamo_de.specs.Number.{is_number_text}
-use Rattle.dynamo_de.specs.Shown.{Shown}
-use Rattle.dynamo_de.specs.Sight as sight
 use Rattle.dynamo_de.specs.Source.{Source, attribute, key_text, number_text, plain_text, byte_string, Entry}
 
 abbrev pub ignore_number : List ℕ → Answer ⊤
@@ -53,11 +53,11 @@ abbrev pub ignore_entries : List Entry → Answer ⊤
 ignore_entries [] = answer.value tt
 ignore_entries (e ∷ es) = ignore e.1 >>= λ _. ignore_entries es
 
-abbrev pub ignore_shown : Shown → Answer ⊤
-ignore_shown (Err f) = answer.fault f
-ignore_shown (Ok (sight.sequence ss)) = ignore_sources ss
-ignore_shown (Ok (sight.entries es)) = ignore_entries es
-ignore_shown (Ok _) = answer.value tt
+abbrev pub ignore_inside : Result Inside Fault → Answer ⊤
+ignore_inside (Err f) = answer.fault f
+ignore_inside (Ok inside.nothing) = answer.value tt
+ignore_inside (Ok (inside.elements ss)) = ignore_sources ss
+ignore_inside (Ok (inside.entries es)) = ignore_entries es
 
 -- ---- how deep a source nests
 
@@ -93,7 +93,7 @@ abbrev pub entries_height : List Entry → ℕ
 entries_height [] = 0
 entries_height (e ∷ es) = max (height e.1) (entries_height es)
 
-abbrev pub shown_height : Shown → ℕ
-shown_height (Ok (sight.sequence ss)) = suc (sources_height ss)
-shown_height (Ok (sight.entries es)) = suc (entries_height es)
-shown_height _ = 0
+abbrev pub inside_height : Result Inside Fault → ℕ
+inside_height (Ok (inside.elements ss)) = suc (sources_height ss)
+inside_height (Ok (inside.entries es)) = suc (entries_height es)
+inside_height _ = 0

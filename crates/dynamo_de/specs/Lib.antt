@@ -6,6 +6,7 @@ pub mod Access
 pub mod Answer
 pub mod Fields
 pub mod Ignored
+pub mod Inside
 pub mod JsonItems
 pub mod Meets
 pub mod Number

@@ -2,7 +2,7 @@ ghost use Rattle.dynamo_de.specs.Answer.{Gives};
 ghost use Rattle.dynamo_de.specs.Ignored.{read_ignored, ignore_sources, ignore_entries as ignored_entries};
 ghost use Rattle.dynamo_de.specs.Meets.{Meets};
 
-use crate::{Deserialize, Deserializer, Reader, Request, Showing};
+use crate::{Deserialize, Deserializer, Inside, Reader};
 use std::alloc::Global;
 
 /// Whatever is there, read and let go: all that lies inside is read as ignored-any too, and its first fault is the fault.
@@ -23,14 +23,14 @@ impl Deserialize for IgnoredAny {
 
 /// Reads a source and lets it go.
 #[cycle(ignore)]
-#[tactic(auto, using(crate::proofs::Ignored::ignored_as_shown, crate::proofs::Ignored::elements_fall, crate::proofs::Ignored::entries_fall))]
+#[tactic(auto, using(crate::proofs::Ignored::ignored_as_inside))]
 fn ignore<R: Reader>(reader: R) -> Result<(), R::Error>
     ensures { Meets R.Error.fault (Gives (λ u. u) (read_ignored (R.source reader))) result }
 {
-    match reader.show(Request::IgnoredAny)? {
-        Showing::Sequence(elements) => ignore_elements::<R>(elements),
-        Showing::Map(entries) => ignore_entries::<R>(entries),
-        _ => Ok(()),
+    match reader.inside()? {
+        Inside::Nothing => Ok(()),
+        Inside::Elements(elements) => ignore_elements::<R>(elements),
+        Inside::Entries(entries) => ignore_entries::<R>(entries),
     }
 }
 

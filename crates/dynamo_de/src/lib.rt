@@ -37,6 +37,6 @@ pub use kind::Kind;
 pub use reader::Reader;
 pub use reader_access::{ReaderEnumAccess, ReaderMapAccess, ReaderSeqAccess, ReaderVariantAccess};
 pub use request::Request;
-pub use showing::{Showing, Surface};
+pub use showing::{Inside, Showing, Surface};
 pub use taken::{elements_of, entries_of, identifier_of, invalid_type};
 pub use visitor::Visitor;

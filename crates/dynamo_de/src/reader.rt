@@ -1,11 +1,13 @@
 ghost use Rattle.std.specs.Prelude.{◌≡◌, ℕ, Bool, List, Option, Result};
 ghost use Rattle.dynamo_value.specs.Fault.{Fault, expected_char, map_value_before_key};
 ghost use Rattle.dynamo_de.specs.Access.{Hints, hint_of};
+ghost use Rattle.dynamo_de.specs.Inside.{ShowsInside};
 ghost use Rattle.dynamo_de.specs.Shown.{shown};
 ghost use Rattle.dynamo_de.specs.Shows.{Shows, ShowsSurface, TakesElement, TakesEntry, Names};
 ghost use Rattle.dynamo_de.specs.Source.{Source, Entry};
+ghost use Rattle.dynamo_de.specs.declared.request.Request.TheVariants as request;
 
-use crate::{Error, Request, Showing, Surface};
+use crate::{Error, Inside, Request, Showing, Surface};
 use std::alloc::Global;
 
 /// What is read from, without visitors. Who writes a reader gives these calls; those of
@@ -49,6 +51,14 @@ pub trait Reader: Sized + Drop {
         ensures { ShowsSurface Self.Error.fault (shown request (source self)) result }
     {
         Ok(self.show(request)?.surface())
+    }
+
+    /// What lies inside of the source where it is ignored, without the rest of what it shows. A reader that would copy the
+    /// rest to show it gives a call of its own.
+    fn inside(self) -> Result<Inside<Self::Elements, Self::Entries>, Self::Error>
+        ensures { ShowsInside Self.Error.fault elements entries (shown request.IgnoredAny (source self)) result }
+    {
+        Ok(self.show(Request::IgnoredAny)?.inside())
     }
 
     /// The reader of the next element. Whether those that are left are counted doesn't change.

@@ -1,5 +1,6 @@
-ghost use Rattle.std.specs.Prelude.{◌≡◌, ◌⊎◌, ℕ, List, Option, Result, Err};
+ghost use Rattle.std.specs.Prelude.{◌≡◌, ◌⊎◌, ℕ, List, Option, Result, Ok, Err};
 ghost use Rattle.dynamo_value.specs.Fault.{Fault, out_of_memory};
+ghost use Rattle.dynamo_de.specs.Inside.{inside_shown, inside_seen};
 ghost use Rattle.dynamo_de.specs.Meets.{IsMessage};
 ghost use Rattle.dynamo_de.specs.Shows.{seen, IsSurface};
 ghost use Rattle.dynamo_de.specs.Source.{Source, Entry};
@@ -43,6 +44,15 @@ pub enum Showing<D, L, M, C> {
 
 /// What is shown, without what lies inside of it.
 pub type Surface = Showing<(), (), (), ()>;
+
+/// What lies inside of what is shown, without the rest of it: the elements of a sequence, the entries of a map, and of
+/// anything else nothing.
+#[derive(Drop)]
+pub enum Inside<L, M> {
+    Nothing,
+    Elements(L),
+    Entries(M),
+}
 
 impl<D, L, M, C> Showing<D, L, M, C> {
     /// The refusal of what a type doesn't take, as `invalid type: string, expected a boolean`. What is shown is let go.
@@ -119,6 +129,20 @@ impl<D, L, M, C> Showing<D, L, M, C> {
             Showing::Sequence(_) => Showing::Sequence(()),
             Showing::Map(_) => Showing::Map(()),
             Showing::Enum(_) => Showing::Enum(()),
+        }
+    }
+
+    /// The elements or the entries that lie inside. The rest is let go.
+    pub fn inside(self) -> Inside<L, M>
+    where
+        D: Drop,
+        C: Drop,
+        ensures { (source : D → Source) (elements : L → List Source) (entries : M → List Entry) (variants : C → Result (List ℕ × Option Source) Fault) → inside_shown (Ok (seen source elements entries variants self)) ≡ Ok (inside_seen elements entries result) }
+    {
+        match self {
+            Showing::Sequence(elements) => Inside::Elements(elements),
+            Showing::Map(entries) => Inside::Entries(entries),
+            _ => Inside::Nothing,
         }
     }
 }

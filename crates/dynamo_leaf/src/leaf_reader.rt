@@ -30,24 +30,18 @@ pub trait LeafReader: Sized + Drop {
 
 /// What a reader shows where its text shows this leaf: the same, with a reader around what lies inside. `L` and `M` are the
 /// elements and the entries of its showings, of which a leaf has none. It takes no memory, and it never refuses.
-pub fn raise<R: LeafReader, L, M>(alloc: Global, leaf: Leaf) -> Showing<R, L, M, R::Choice>
-    ensures { (elements : L → List Source) (entries : M → List Entry) → seen R.leaf_source elements entries R.leaf_chosen result ≡ leaf_sight leaf }
+pub fn raise<R: LeafReader, L, M>(
+    alloc: Global,
+    leaf: Leaf,
+    text: String,
+) -> Showing<R, L, M, R::Choice>
+    ensures { (elements : L → List Source) (entries : M → List Entry) → seen R.leaf_source elements entries R.leaf_chosen result ≡ leaf_sight (string_bytes text) leaf }
 {
     match leaf {
-        Leaf::Bool(v) => Showing::Bool(v),
-        Leaf::I8(v) => Showing::I8(v),
-        Leaf::I16(v) => Showing::I16(v),
-        Leaf::I32(v) => Showing::I32(v),
-        Leaf::I64(v) => Showing::I64(v),
-        Leaf::I128(v) => Showing::I128(v),
-        Leaf::U8(v) => Showing::U8(v),
-        Leaf::U16(v) => Showing::U16(v),
-        Leaf::U32(v) => Showing::U32(v),
-        Leaf::U64(v) => Showing::U64(v),
-        Leaf::U128(v) => Showing::U128(v),
-        Leaf::NumberText(text) => Showing::NumberText(text),
-        Leaf::Text(text) => Showing::Text(text),
-        Leaf::Name(text) => Showing::Enum(R::of_name(alloc, text)),
-        Leaf::Newtype(text) => Showing::Newtype(R::of_key(alloc, text)),
+        Leaf::Scalar(scalar) => scalar.shown(),
+        Leaf::NumberText => Showing::NumberText(text),
+        Leaf::Text => Showing::Text(text),
+        Leaf::Name => Showing::Enum(R::of_name(alloc, text)),
+        Leaf::Newtype => Showing::Newtype(R::of_key(alloc, text)),
     }
 }

@@ -8,10 +8,10 @@
 //! | an element of a set of strings | [`StringDeserializer`] | [`DeserializerSeqStrings`] |
 //! | an element of a set of byte strings | [`DeserializerBytes`] | [`DeserializerSeqBytes`] |
 //!
-//! What a text shows is a [`Leaf`], by [`show_key`], [`show_number`] and [`show_plain_text`]. The three readers of texts are
-//! one [`TextDeserializer`], which a [`TextKind`] tells which of these to call. A reader turns a leaf into what it shows itself
-//! by [`raise`]; a reader of another crate that is a [`LeafReader`] can do the same. Nothing here takes memory: texts and byte
-//! strings are moved.
+//! What a text shows is a [`Leaf`], by [`show_key`], [`show_number`] and [`show_plain_text`], which are lent the text. The three
+//! readers of texts are one [`TextDeserializer`], which a [`TextKind`] tells which of these to call. A reader turns a leaf and
+//! its text into what it shows itself by [`raise`]; a reader of another crate that is a [`LeafReader`] can do the same. Nothing
+//! here takes memory: texts and byte strings are moved.
 #![tactic(auto)]
 
 mod bytes;
@@ -25,7 +25,7 @@ mod text_kind;
 mod variant_name;
 
 pub use bytes::DeserializerBytes;
-pub use leaf::{Leaf, show_key, show_number, show_plain_text};
+pub use leaf::{Leaf, NoNumber, Scalar, show_key, show_number, show_plain_text};
 pub use leaf_reader::{LeafReader, raise};
 pub use nothing::{NoElements, NoEntries, NoVariant};
 pub use number_text::is_float_text;

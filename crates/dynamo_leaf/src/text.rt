@@ -5,8 +5,7 @@ ghost use Rattle.dynamo_leaf.specs.Outright.{ShowsOutright, NamesOutright};
 ghost use Rattle.dynamo_leaf.specs.Readers.{text_source, name_chosen};
 
 use crate::{
-    KeyText, LeafReader, NoElements, NoEntries, NumberText, PlainText, TextKind, VariantName,
-    raise, show_key, show_plain_text,
+    KeyText, LeafReader, NoElements, NoEntries, NumberText, PlainText, TextKind, VariantName, raise,
 };
 use dynamo_de::{Reader, Request, Showing};
 use dynamo_value::{Error, ErrorImpl, Result};
@@ -121,12 +120,12 @@ impl<P: TextKind> Reader for TextDeserializer<P> {
             place,
             ..
         } = self;
-        let leaf = match place {
+        let (leaf, text) = match place {
             Place::Own => P::show_text(request, text)?,
-            Place::Key => show_key(request, text)?,
-            Place::Name => show_plain_text(request, text)?,
+            Place::Key => KeyText::show_text(request, text)?,
+            Place::Name => PlainText::show_text(request, text)?,
         };
-        Ok(raise(alloc, leaf))
+        Ok(raise(alloc, leaf, text))
     }
 
     fn next_element(_rest: &mut NoElements) -> Option<Self> {

@@ -2,7 +2,7 @@ ghost use Rattle.std.specs.Prelude.{ℕ, List, string_bytes};
 ghost use Rattle.dynamo_value.specs.Kind.{fault_of};
 ghost use Rattle.dynamo_de.specs.Shown.{shown};
 ghost use Rattle.dynamo_de.specs.Source.{Source, key_text, number_text, plain_text};
-ghost use Rattle.dynamo_leaf.specs.Leaf.{ShowsLeaf};
+ghost use Rattle.dynamo_leaf.specs.Leaf.{ShowsText};
 
 use crate::{Leaf, show_key, show_number, show_plain_text};
 use dynamo_de::Request;
@@ -20,9 +20,9 @@ pub trait TextKind: Sealed + Drop {
     // The source that a text of this kind is.
     ghost of_text: { List ℕ → Source };
 
-    /// What a text of this kind shows. It takes no memory.
-    fn show_text(request: Request, text: String) -> Result<Leaf>
-        ensures { ShowsLeaf fault_of (shown request (of_text (string_bytes text))) result };
+    /// What a text of this kind shows, and the text. It takes no memory.
+    fn show_text(request: Request, text: String) -> Result<(Leaf, String)>
+        ensures { ShowsText fault_of (shown request (of_text (string_bytes text))) result };
 }
 
 /// The key of a map, by [`show_key`].
@@ -34,8 +34,9 @@ impl Sealed for KeyText {}
 impl TextKind for KeyText {
     ghost of_text = { key_text };
 
-    fn show_text(request: Request, text: String) -> Result<Leaf> {
-        show_key(request, text)
+    fn show_text(request: Request, text: String) -> Result<(Leaf, String)> {
+        let leaf = show_key(request, text.as_str())?;
+        Ok((leaf, text))
     }
 }
 
@@ -48,8 +49,11 @@ impl Sealed for NumberText {}
 impl TextKind for NumberText {
     ghost of_text = { number_text };
 
-    fn show_text(request: Request, text: String) -> Result<Leaf> {
-        show_number(request, text)
+    fn show_text(request: Request, text: String) -> Result<(Leaf, String)> {
+        match show_number(request, text.as_str()) {
+            Ok(leaf) => Ok((leaf, text)),
+            Err(no_number) => Err(no_number.of_text(text)),
+        }
     }
 }
 
@@ -62,7 +66,7 @@ impl Sealed for PlainText {}
 impl TextKind for PlainText {
     ghost of_text = { plain_text };
 
-    fn show_text(request: Request, text: String) -> Result<Leaf> {
-        show_plain_text(request, text)
+    fn show_text(request: Request, text: String) -> Result<(Leaf, String)> {
+        Ok((show_plain_text(request), text))
     }
 }

@@ -44,15 +44,18 @@ asks_elements request.TupleStruct = true
 asks_elements request.Struct = true
 asks_elements _ = false
 
--- the elements of a list are counted, those of a set are not
+-- whether the elements of a source are counted: those of a list are, those of a set are not
+abbrev pub IsCounted : of.Source → Bool → Type 0
+IsCounted (of.attribute (av.L as')) counted = counted ≡ true
+IsCounted (of.attribute (av.Ss ts)) counted = counted ≡ false
+IsCounted (of.attribute (av.Ns ts)) counted = counted ≡ false
+IsCounted (of.attribute (av.Bs ts)) counted = counted ≡ false
+IsCounted _ counted = Unit {0}
+
 abbrev pub Counted : of.Source → Elements → Type 0
-Counted (of.attribute (av.L as')) e = elements_counted e ≡ true
-Counted (of.attribute (av.Ss ts)) e = elements_counted e ≡ false
-Counted (of.attribute (av.Ns ts)) e = elements_counted e ≡ false
-Counted (of.attribute (av.Bs ts)) e = elements_counted e ≡ false
-Counted _ e = Unit {0}
+Counted s e = IsCounted s (elements_counted e)
 
 -- where elements are shown, P holds of them
-abbrev pub IfElements : (Elements → Type 0) → Result (Showing Deserializer Elements Entries Choice) ErrorImpl → Type 0
+abbrev pub IfElements : {D L M C E : Type 0} → (L → Type 0) → Result (Showing D L M C) E → Type 0
 IfElements P (Ok (showing.Sequence e)) = P e
 IfElements P _ = Unit {0}

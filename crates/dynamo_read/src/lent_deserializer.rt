@@ -1,29 +1,30 @@
-ghost use Rattle.std.specs.Prelude.{◌≡◌};
+ghost use Rattle.std.specs.Prelude.{◌≡◌, true, length, Some, string_bytes};
 ghost use Rattle.dynamo_value.specs.Av as av;
 ghost use Rattle.dynamo_value.specs.Fault.{expected_char, map_value_before_key};
 ghost use Rattle.dynamo_value.specs.Kind.{fault_of};
-ghost use Rattle.dynamo_value.specs.View.{elements_view, members_view, view};
+ghost use Rattle.dynamo_value.specs.View.{members_view, view};
+ghost use Rattle.dynamo_de.specs.Access.{Hints};
 ghost use Rattle.dynamo_de.specs.Shown.{shown};
 ghost use Rattle.dynamo_de.specs.Shows.{ShowsSurface};
-ghost use Rattle.dynamo_de.specs.Source.{attribute};
-ghost use Rattle.dynamo_read.specs.Lent.{lent_chosen, lent_counted, lent_elements, lent_entries, lent_source};
-ghost use Rattle.dynamo_read.specs.Reader.{source_of};
+ghost use Rattle.dynamo_de.specs.Source.{attribute, key_text, plain_text};
+ghost use Rattle.dynamo_read.specs.Lent.{IsLentShown, LentCounted, lent_chosen, lent_counted, lent_elements, lent_entries, lent_source};
+ghost use Rattle.dynamo_read.specs.Reader.{asks_elements, IfElements};
 
-use crate::deserializer::Deserializer;
 use crate::lent_entries::only_lent;
 use crate::lent_show::{self, LentShown};
-use crate::lent_unread::{LentChoice, LentElements, LentEntries, LentForm, LentPairs, LentRest};
-use dynamo_de::{Reader, Request, Showing, Surface};
+use crate::lent_unread::{LentChoice, LentElements, LentEntries, LentForm, LentRest};
+use dynamo_de::{Inside, Reader, Request, Showing, Surface};
 use dynamo_value::{AttributeValue, Error, ErrorImpl, Result};
 use std::alloc::Global;
 use std::collections::HashMap;
 
 /// The reader of a lent attribute value, and of what stands inside of one.
 ///
-/// At each request it shows what a [`Deserializer`] of an equal value shows, or refuses by the same fault. Nothing is taken apart:
-/// the elements of a list and the entries of a map are read where they lie. A text, a number, a byte string, a set and the key of
-/// a map are copied once, where they are shown, which takes memory. To show a map takes memory, for the list of its entries,
-/// which are read in ascending order of the bytes of their keys.
+/// At each request it shows what a [`Deserializer`](crate::Deserializer) of an equal value shows, or refuses by the same fault.
+/// Nothing is taken apart: all is read where it lies. A text, a byte string, and the text of a number that is no integer of 64
+/// bits are copied where they are shown, and so is the text that an error has. To show a map takes memory, for the list of its
+/// entries, which are read in ascending order of the bytes of their keys. Nothing else takes memory: neither an integer, nor a
+/// refusal of another kind, nor a text or a byte string that is ignored.
 ///
 /// # Examples
 ///
@@ -35,14 +36,16 @@ pub struct LentDeserializer<'a> {
     source: LentSource<'a>,
 }
 
-/// A lent map, a lent list, any other attribute value; or, inside of one, the lent key of a map, and what is read of a copy.
+/// An attribute value, or the map that is one; or, inside of one, the key of a map, an element of a set of numbers or of byte
+/// strings, and a plain text, which is an element of a set of strings or the name of a variant. Each is lent.
 #[derive(Drop)]
 enum LentSource<'a> {
+    AttributeValue(&'a AttributeValue),
     Map(&'a HashMap<String, AttributeValue>),
-    List(&'a Vec<AttributeValue>),
-    Leaf(&'a AttributeValue),
-    Key(&'a String),
-    Own(Deserializer),
+    KeyText(&'a String),
+    NumberText(&'a String),
+    ByteString(&'a Vec<u8>),
+    PlainText(&'a String),
 }
 
 impl<'a> LentDeserializer<'a> {
@@ -50,13 +53,9 @@ impl<'a> LentDeserializer<'a> {
     pub fn from_attribute_value(alloc: Global, value: &'a AttributeValue) -> Self
         ensures { lent_source result ≡ attribute (view value.now) }
     {
-        match value {
-            AttributeValue::M(map) => LentDeserializer::from_map(alloc, map),
-            AttributeValue::L(values) => LentDeserializer::from_list(alloc, values),
-            leaf => LentDeserializer {
-                alloc,
-                source: LentSource::Leaf(leaf),
-            },
+        LentDeserializer {
+            alloc,
+            source: LentSource::AttributeValue(value),
         }
     }
 
@@ -70,28 +69,28 @@ impl<'a> LentDeserializer<'a> {
         }
     }
 
-    // The reader of the attribute value that is this list. It takes no memory.
-    pub(crate) fn from_list(alloc: Global, values: &'a Vec<AttributeValue>) -> Self
-        ensures { lent_source result ≡ attribute (av.L (elements_view values.now.items)) }
+    // The reader of this key. It takes no memory.
+    pub(crate) fn from_key_text(alloc: Global, text: &'a String) -> Self
+        ensures { lent_source result ≡ key_text (string_bytes text.now) }
     {
         LentDeserializer {
             alloc,
-            source: LentSource::List(values),
+            source: LentSource::KeyText(text),
         }
     }
 
-    // The reader of what this one reads from.
-    pub(crate) fn own(reader: Deserializer) -> Self
-        ensures { lent_source result ≡ source_of reader }
+    // The reader of this plain text. It takes no memory.
+    fn from_plain_text(alloc: Global, text: &'a String) -> Self
+        ensures { lent_source result ≡ plain_text (string_bytes text.now) }
     {
         LentDeserializer {
-            alloc: reader.alloc(),
-            source: LentSource::Own(reader),
+            alloc,
+            source: LentSource::PlainText(text),
         }
     }
 }
 
-// What a source shows that isn't a leaf, nor a key where a string is asked for, without what lies inside.
+// What a source shows that isn't a text where a string is asked for, without what lies inside.
 #[inline(never)]
 fn other_surface(reader: LentDeserializer<'_>, request: Request) -> Result<Surface>
     ensures { ShowsSurface fault_of (shown request (lent_source reader.entry)) result }
@@ -122,15 +121,20 @@ impl<'a> Reader for LentDeserializer<'a> {
         self.alloc
     }
 
+    /// What the source shows at a request. The elements of a list are counted, those of a set are not.
     #[inline(always)]
-    fn show(self, request: Request) -> Result<LentShown<'a>> {
+    fn show(self, request: Request) -> Result<LentShown<'a>>
+        ensures shown { IsLentShown (shown request (lent_source self.entry)) result }
+        ensures counted { asks_elements request ≡ true → IfElements (LentCounted (lent_source self.entry)) result }
+    {
         let alloc = self.alloc;
         match self.source {
+            LentSource::AttributeValue(value) => lent_show::attribute_value(alloc, request, value),
             LentSource::Map(map) => lent_show::map_value(alloc, request, map),
-            LentSource::List(values) => lent_show::list_value(alloc, request, values),
-            LentSource::Leaf(leaf) => lent_show::owned(alloc, request, leaf.clone()?),
-            LentSource::Key(key) => lent_show::key_text(alloc, request, key),
-            LentSource::Own(reader) => Ok(lent_show::lent(reader.show(request)?)),
+            LentSource::KeyText(text) => lent_show::key_text(alloc, request, text),
+            LentSource::NumberText(text) => lent_show::number_text(alloc, request, text),
+            LentSource::ByteString(bytes) => lent_show::byte_string(alloc, bytes),
+            LentSource::PlainText(text) => lent_show::plain_text(alloc, request, text),
         }
     }
 
@@ -141,28 +145,38 @@ impl<'a> Reader for LentDeserializer<'a> {
         match (request, source) {
             (
                 Request::Str | Request::String | Request::Identifier,
-                LentSource::Leaf(AttributeValue::S(text)) | LentSource::Key(text),
+                LentSource::AttributeValue(AttributeValue::S(text))
+                | LentSource::KeyText(text)
+                | LentSource::PlainText(text),
             ) => Ok(Showing::Text(text.clone()?)),
-            (request, LentSource::Leaf(leaf)) => {
-                Deserializer::from_attribute_value(alloc, leaf.clone()?).surface(request)
-            }
             (request, source) => other_surface(LentDeserializer { alloc, source }, request),
+        }
+    }
+
+    /// What lies inside of the source where it is ignored. It copies nothing but the text of what is no number, for the error.
+    #[inline(always)]
+    fn inside(self) -> Result<Inside<LentElements<'a>, LentEntries<'a>>> {
+        let alloc = self.alloc;
+        match self.source {
+            LentSource::AttributeValue(value) => lent_show::inside(alloc, value),
+            LentSource::Map(map) => Ok(Inside::Entries(LentEntries::of_map(alloc, map)?)),
+            LentSource::NumberText(text) => lent_show::inside_number(text),
+            LentSource::KeyText(_) | LentSource::ByteString(_) | LentSource::PlainText(_) => {
+                Ok(Inside::Nothing)
+            }
         }
     }
 
     #[inline(always)]
     fn next_element(rest: &mut LentElements<'a>) -> Option<LentDeserializer<'a>> {
         let alloc = rest.alloc;
-        match &mut rest.rest {
-            LentRest::Values(values) => {
-                let value = values.next()?;
-                Some(LentDeserializer::from_attribute_value(alloc, value))
-            }
-            LentRest::Own(elements) => {
-                let element = Deserializer::next_element(elements)?;
-                Some(LentDeserializer::own(element))
-            }
-        }
+        let source = match &mut rest.rest {
+            LentRest::Values(values) => LentSource::AttributeValue(values.next()?),
+            LentRest::Texts(texts) => LentSource::PlainText(texts.next()?),
+            LentRest::Numbers(numbers) => LentSource::NumberText(numbers.next()?),
+            LentRest::ByteStrings(byte_strings) => LentSource::ByteString(byte_strings.next()?),
+        };
+        Some(LentDeserializer { alloc, source })
     }
 
     #[inline(always)]
@@ -170,20 +184,9 @@ impl<'a> Reader for LentDeserializer<'a> {
         rest: &mut LentEntries<'a>,
     ) -> Option<(LentDeserializer<'a>, LentDeserializer<'a>)> {
         let alloc = rest.alloc;
-        match &mut rest.rest {
-            LentPairs::Lent(pairs) => {
-                let (key, value) = pairs.next()?;
-                let key = LentDeserializer {
-                    alloc,
-                    source: LentSource::Key(key),
-                };
-                Some((key, LentDeserializer::from_attribute_value(alloc, value)))
-            }
-            LentPairs::Own(entries) => {
-                let (key, value) = Deserializer::next_entry(entries)?;
-                Some((LentDeserializer::own(key), LentDeserializer::own(value)))
-            }
-        }
+        let (key, value) = rest.rest.next()?;
+        let key = LentDeserializer::from_key_text(alloc, key);
+        Some((key, LentDeserializer::from_attribute_value(alloc, value)))
     }
 
     fn choose(
@@ -191,19 +194,14 @@ impl<'a> Reader for LentDeserializer<'a> {
     ) -> Result<(LentDeserializer<'a>, Option<LentDeserializer<'a>>)> {
         let alloc = choice.alloc;
         match choice.form {
+            LentForm::Name(name) => Ok((LentDeserializer::from_plain_text(alloc, name), None)),
             LentForm::Map(map) => {
                 let (name, content) = only_lent(map)?;
-                let name = Deserializer::from_plain_text(alloc, name.clone()?);
                 let content = LentDeserializer::from_attribute_value(alloc, content);
-                Ok((LentDeserializer::own(name), Some(content)))
-            }
-            LentForm::Own(choice) => {
-                let (name, content) = Deserializer::choose(choice)?;
-                let name = LentDeserializer::own(name);
-                match content {
-                    None => Ok((name, None)),
-                    Some(content) => Ok((name, Some(LentDeserializer::own(content)))),
-                }
+                Ok((
+                    LentDeserializer::from_plain_text(alloc, name),
+                    Some(content),
+                ))
             }
         }
     }
@@ -225,15 +223,15 @@ impl<'a> Reader for LentDeserializer<'a> {
     fn elements_left(rest: &LentElements<'a>) -> Option<usize> {
         match &rest.rest {
             LentRest::Values(values) => Some(values.len()),
-            LentRest::Own(elements) => Deserializer::elements_left(elements),
+            LentRest::Texts(_) | LentRest::Numbers(_) | LentRest::ByteStrings(_) => None,
         }
     }
 
     /// How many entries are left, exactly.
-    fn entries_left(rest: &LentEntries<'a>) -> Option<usize> {
-        match &rest.rest {
-            LentPairs::Lent(pairs) => Some(pairs.len()),
-            LentPairs::Own(entries) => Deserializer::entries_left(entries),
-        }
+    fn entries_left(rest: &LentEntries<'a>) -> Option<usize>
+        ensures hint { Hints (lent_entries rest.now) result }
+        ensures exact { result ≡ Some (length (lent_entries rest.now)) }
+    {
+        Some(rest.rest.len())
     }
 }

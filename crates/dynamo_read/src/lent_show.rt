@@ -1,17 +1,22 @@
-ghost use Rattle.std.specs.Prelude.{◌≡◌, string_bytes};
+ghost use Rattle.std.specs.Prelude.{◌≡◌, true, Some, Ok, string_bytes};
 ghost use Rattle.dynamo_value.specs.Av as av;
-ghost use Rattle.dynamo_value.specs.View.{elements_view, members_view, view};
-ghost use Rattle.dynamo_de.specs.Shown.{attribute_shown, key_shown};
-ghost use Rattle.dynamo_de.specs.Shows.{seen};
-ghost use Rattle.dynamo_read.specs.Lent.{IsLentShown, lent_chosen, lent_elements, lent_entries, lent_source};
-ghost use Rattle.dynamo_read.specs.Reader.{source_of};
-ghost use Rattle.dynamo_read.specs.Unread.{chosen_of, elements_left, entries_left};
+ghost use Rattle.dynamo_value.specs.Integer.{IntegerKind};
+ghost use Rattle.dynamo_value.specs.Kind.{fault_of};
+ghost use Rattle.dynamo_value.specs.View.{members_view, view};
+ghost use Rattle.dynamo_de.specs.Inside.{ShowsInside};
+ghost use Rattle.dynamo_de.specs.Shown.{any_shown, attribute_shown, bytes_shown, enum_shown, key_shown, map_shown, num_shown, number_shown, number_text_shown, option_shown, plain_text_shown, seq_shown, struct_shown, text_shown};
+ghost use Rattle.dynamo_de.specs.Sight as sight;
+ghost use Rattle.dynamo_de.specs.Source.{attribute};
+ghost use Rattle.dynamo_leaf.specs.Leaf.{asked, leaf_sight};
+ghost use Rattle.dynamo_read.specs.Lent.{IsLentShown, LentCounted, lent_elements, lent_entries};
+ghost use Rattle.dynamo_read.specs.Reader.{asks_elements, IfElements};
 
 use crate::lent_deserializer::LentDeserializer;
 use crate::lent_unread::{LentChoice, LentElements, LentEntries};
-use crate::show::{self, Shown};
-use dynamo_de::{Request, Showing};
-use dynamo_value::{AttributeValue, Result};
+use crate::show::{boolean, character, null};
+use dynamo_de::{Inside, Request, Showing};
+use dynamo_leaf::{Leaf, show_key, show_number, show_plain_text};
+use dynamo_value::{AttributeValue, Error, ErrorImpl, Result};
 use std::alloc::Global;
 use std::collections::HashMap;
 
@@ -22,7 +27,46 @@ pub(crate) type LentShown<'a> = Showing<
     LentChoice<'a>,
 >;
 
-// What a lent map shows at each request. Where none of its entries is asked for, it shows what one without any does.
+// What a lent attribute value shows at each request.
+#[inline(always)]
+pub(crate) fn attribute_value<'a>(
+    alloc: Global,
+    request: Request,
+    value: &'a AttributeValue,
+) -> Result<LentShown<'a>>
+    ensures shown { IsLentShown (attribute_shown request (view value.now)) result }
+    ensures counted { asks_elements request ≡ true → IfElements (LentCounted (attribute (view value.now))) result }
+{
+    match request {
+        Request::Any | Request::IgnoredAny => any(alloc, value),
+        Request::Bool => boolean(value),
+        Request::I8
+        | Request::I16
+        | Request::I32
+        | Request::I64
+        | Request::I128
+        | Request::U8
+        | Request::U16
+        | Request::U32
+        | Request::U64
+        | Request::U128 => number(alloc, request, value),
+        Request::Char => character(value),
+        Request::Str | Request::String | Request::Identifier => text(value),
+        Request::Bytes | Request::ByteBuf => bytes(alloc, value),
+        Request::Option => option(alloc, value),
+        Request::Unit => null(ErrorImpl::ExpectedUnit, value),
+        Request::UnitStruct => null(ErrorImpl::ExpectedUnitStruct, value),
+        Request::NewtypeStruct => Ok(Showing::Newtype(LentDeserializer::from_attribute_value(
+            alloc, value,
+        ))),
+        Request::Seq | Request::Tuple | Request::TupleStruct => sequence(alloc, value),
+        Request::Map => map(alloc, value),
+        Request::Struct => structure(alloc, value),
+        Request::Enum => enumeration(alloc, value),
+    }
+}
+
+// What the attribute value that is a lent map shows at each request.
 pub(crate) fn map_value<'a>(
     alloc: Global,
     request: Request,
@@ -30,77 +74,186 @@ pub(crate) fn map_value<'a>(
 ) -> Result<LentShown<'a>>
     ensures { IsLentShown (attribute_shown request (av.M (members_view map.now.entries))) result }
 {
-    match request {
+    let refusal = match request {
         Request::Any | Request::IgnoredAny | Request::Map | Request::Struct => {
-            Ok(Showing::Map(LentEntries::of_map(alloc, map)?))
+            return Ok(Showing::Map(LentEntries::of_map(alloc, map)?));
         }
-        Request::Option => Ok(Showing::Some(LentDeserializer::from_map(alloc, map))),
-        Request::NewtypeStruct => Ok(Showing::Newtype(LentDeserializer::from_map(alloc, map))),
-        Request::Enum => Ok(Showing::Enum(LentChoice::map(alloc, map))),
-        refused => owned(alloc, refused, AttributeValue::M(HashMap::new(alloc))),
+        Request::Option => return Ok(Showing::Some(LentDeserializer::from_map(alloc, map))),
+        Request::NewtypeStruct => {
+            return Ok(Showing::Newtype(LentDeserializer::from_map(alloc, map)));
+        }
+        Request::Enum => return Ok(Showing::Enum(LentChoice::map(alloc, map))),
+        Request::Bool => ErrorImpl::ExpectedBool,
+        Request::Char => ErrorImpl::ExpectedChar,
+        Request::Str | Request::String | Request::Identifier => ErrorImpl::ExpectedString,
+        Request::Bytes | Request::ByteBuf => ErrorImpl::ExpectedBytes,
+        Request::Unit => ErrorImpl::ExpectedUnit,
+        Request::UnitStruct => ErrorImpl::ExpectedUnitStruct,
+        Request::Seq | Request::Tuple | Request::TupleStruct => ErrorImpl::ExpectedSeq,
+        _integer => ErrorImpl::ExpectedNum,
+    };
+    Err(Error::from(refusal))
+}
+
+// Whatever is there.
+fn any<'a>(alloc: Global, value: &'a AttributeValue) -> Result<LentShown<'a>>
+    ensures shown { IsLentShown (any_shown (view value.now)) result }
+    ensures counted { IfElements (LentCounted (attribute (view value.now))) result }
+{
+    match value {
+        AttributeValue::N(number) => number_text(alloc, Request::Any, number),
+        AttributeValue::S(text) => Ok(Showing::Text(text.clone()?)),
+        AttributeValue::Bool(b) => Ok(Showing::Bool(*b)),
+        AttributeValue::B(bytes) => byte_string(alloc, bytes),
+        AttributeValue::Null(true) => Ok(Showing::Unit),
+        AttributeValue::Null(false) => Err(Error::from(ErrorImpl::ExpectedUnit)),
+        AttributeValue::M(map) => Ok(Showing::Map(LentEntries::of_map(alloc, map)?)),
+        list_or_set => sequence(alloc, list_or_set),
     }
 }
 
-// What a lent list shows at each request. Where none of its elements is asked for, it shows what one without any does.
-pub(crate) fn list_value<'a>(
+// What lies inside of an ignored value. It copies nothing but the text of what is no number, for the error.
+pub(crate) fn inside<'a>(
     alloc: Global,
-    request: Request,
-    values: &'a Vec<AttributeValue>,
-) -> Result<LentShown<'a>>
-    ensures { IsLentShown (attribute_shown request (av.L (elements_view values.now.items))) result }
+    value: &'a AttributeValue,
+) -> Result<Inside<LentElements<'a>, LentEntries<'a>>>
+    ensures { ShowsInside fault_of lent_elements lent_entries (any_shown (view value.now)) result }
 {
-    match request {
-        Request::Any
-        | Request::IgnoredAny
-        | Request::Seq
-        | Request::Tuple
-        | Request::TupleStruct
-        | Request::Struct => Ok(Showing::Sequence(LentElements::values(alloc, values))),
-        Request::Option => Ok(Showing::Some(LentDeserializer::from_list(alloc, values))),
-        Request::NewtypeStruct => Ok(Showing::Newtype(LentDeserializer::from_list(alloc, values))),
-        refused => owned(alloc, refused, AttributeValue::L(Vec::new(alloc))),
+    match value {
+        AttributeValue::S(_) | AttributeValue::B(_) => Ok(Inside::Nothing),
+        AttributeValue::N(number) => inside_number(number),
+        not_copied => Ok(any(alloc, not_copied)?.inside()),
     }
 }
 
-// What this value shows, which is taken apart for it.
-pub(crate) fn owned<'a>(
-    alloc: Global,
-    request: Request,
-    value: AttributeValue,
-) -> Result<LentShown<'a>>
-    ensures { IsLentShown (attribute_shown request (view value)) result }
+// The same of the text of a number.
+pub(crate) fn inside_number<'a>(
+    text: &'a String,
+) -> Result<Inside<LentElements<'a>, LentEntries<'a>>>
+    ensures { ShowsInside fault_of lent_elements lent_entries (number_shown (string_bytes text.now)) result }
 {
-    Ok(lent(show::attribute_value(alloc, request, value)?))
+    match show_number(Request::IgnoredAny, text.as_str()) {
+        Ok(_) => Ok(Inside::Nothing),
+        Err(no_number) => Err(no_number.of_text(text.clone()?)),
+    }
 }
 
-// The same shown by a reader of lent values.
-pub(crate) fn lent<'a>(shown: Shown) -> LentShown<'a>
-    ensures { seen lent_source lent_elements lent_entries lent_chosen result ≡ seen source_of elements_left entries_left chosen_of shown }
+// An integer of the kind that is asked for.
+#[inline(always)]
+fn number<'a>(alloc: Global, request: Request, value: &'a AttributeValue) -> Result<LentShown<'a>>
+    ensures { (kind : IntegerKind) → asked request ≡ Some kind → IsLentShown (num_shown kind (view value.now)) result }
 {
-    match shown {
-        Showing::Bool(v) => Showing::Bool(v),
-        Showing::I8(v) => Showing::I8(v),
-        Showing::I16(v) => Showing::I16(v),
-        Showing::I32(v) => Showing::I32(v),
-        Showing::I64(v) => Showing::I64(v),
-        Showing::I128(v) => Showing::I128(v),
-        Showing::U8(v) => Showing::U8(v),
-        Showing::U16(v) => Showing::U16(v),
-        Showing::U32(v) => Showing::U32(v),
-        Showing::U64(v) => Showing::U64(v),
-        Showing::U128(v) => Showing::U128(v),
-        Showing::NumberText(text) => Showing::NumberText(text),
-        Showing::Char(v) => Showing::Char(v),
-        Showing::FirstChar(v) => Showing::FirstChar(v),
-        Showing::Text(text) => Showing::Text(text),
-        Showing::Bytes(bytes) => Showing::Bytes(bytes),
-        Showing::None => Showing::None,
-        Showing::Unit => Showing::Unit,
-        Showing::Some(reader) => Showing::Some(LentDeserializer::own(reader)),
-        Showing::Newtype(reader) => Showing::Newtype(LentDeserializer::own(reader)),
-        Showing::Sequence(elements) => Showing::Sequence(LentElements::own(elements)),
-        Showing::Map(entries) => Showing::Map(LentEntries::own(entries)),
-        Showing::Enum(choice) => Showing::Enum(LentChoice::own(choice)),
+    match value {
+        AttributeValue::N(number) => number_text(alloc, request, number),
+        _other => Err(Error::from(ErrorImpl::ExpectedNum)),
+    }
+}
+
+// A string.
+#[inline(always)]
+fn text<'a>(value: &'a AttributeValue) -> Result<LentShown<'a>>
+    ensures { IsLentShown (text_shown (view value.now)) result }
+{
+    match value {
+        AttributeValue::S(text) => Ok(Showing::Text(text.clone()?)),
+        _other => Err(Error::from(ErrorImpl::ExpectedString)),
+    }
+}
+
+// A byte string.
+#[inline(always)]
+fn bytes<'a>(alloc: Global, value: &'a AttributeValue) -> Result<LentShown<'a>>
+    ensures { IsLentShown (bytes_shown (view value.now)) result }
+{
+    match value {
+        AttributeValue::B(bytes) => byte_string(alloc, bytes),
+        _other => Err(Error::from(ErrorImpl::ExpectedBytes)),
+    }
+}
+
+// An option: none where `NULL` is true, and else the same value as its content, also where `NULL` is false.
+#[inline(always)]
+fn option<'a>(alloc: Global, value: &'a AttributeValue) -> Result<LentShown<'a>>
+    ensures { IsLentShown (option_shown (view value.now)) result }
+{
+    match value {
+        AttributeValue::Null(true) => Ok(Showing::None),
+        content => Ok(Showing::Some(LentDeserializer::from_attribute_value(alloc, content))),
+    }
+}
+
+// A list, or a set of whatever kind.
+fn sequence<'a>(alloc: Global, value: &'a AttributeValue) -> Result<LentShown<'a>>
+    ensures shown { IsLentShown (seq_shown (view value.now)) result }
+    ensures counted { IfElements (LentCounted (attribute (view value.now))) result }
+{
+    match value {
+        AttributeValue::L(values) => Ok(Showing::Sequence(LentElements::values(alloc, values))),
+        AttributeValue::Ss(texts) => Ok(Showing::Sequence(LentElements::texts(alloc, texts))),
+        AttributeValue::Ns(numbers) => {
+            Ok(Showing::Sequence(LentElements::numbers(alloc, numbers)))
+        }
+        AttributeValue::Bs(byte_strings) => Ok(Showing::Sequence(LentElements::byte_strings(
+            alloc,
+            byte_strings,
+        ))),
+        _other => Err(Error::from(ErrorImpl::ExpectedSeq)),
+    }
+}
+
+// A map.
+#[inline(always)]
+fn map<'a>(alloc: Global, value: &'a AttributeValue) -> Result<LentShown<'a>>
+    ensures { IsLentShown (map_shown (view value.now)) result }
+{
+    match value {
+        AttributeValue::M(map) => Ok(Showing::Map(LentEntries::of_map(alloc, map)?)),
+        _other => Err(Error::from(ErrorImpl::ExpectedMap)),
+    }
+}
+
+// A map, or a list with the fields in order; no set.
+#[inline(always)]
+fn structure<'a>(alloc: Global, value: &'a AttributeValue) -> Result<LentShown<'a>>
+    ensures shown { IsLentShown (struct_shown (view value.now)) result }
+    ensures counted { IfElements (LentCounted (attribute (view value.now))) result }
+{
+    match value {
+        AttributeValue::L(values) => Ok(Showing::Sequence(LentElements::values(alloc, values))),
+        map_or_other => map(alloc, map_or_other),
+    }
+}
+
+// A variant, by its name alone or by a map of its name to its content.
+#[inline(always)]
+fn enumeration<'a>(alloc: Global, value: &'a AttributeValue) -> Result<LentShown<'a>>
+    ensures { IsLentShown (enum_shown (view value.now)) result }
+{
+    match value {
+        AttributeValue::S(name) => Ok(Showing::Enum(LentChoice::name(alloc, name))),
+        AttributeValue::M(map) => Ok(Showing::Enum(LentChoice::map(alloc, map))),
+        _other => Err(Error::from(ErrorImpl::ExpectedEnum)),
+    }
+}
+
+// What a lent byte string shows: a copy of its bytes.
+pub(crate) fn byte_string<'a>(alloc: Global, bytes: &'a Vec<u8>) -> Result<LentShown<'a>>
+    ensures { IsLentShown (Ok (sight.bytes bytes.now.items)) result }
+{
+    Ok(Showing::Bytes(Vec::from_slice(alloc, bytes.as_slice())?))
+}
+
+// What the lent text of a number shows. The text is copied where it is shown itself, and for the error.
+pub(crate) fn number_text<'a>(
+    alloc: Global,
+    request: Request,
+    text: &'a String,
+) -> Result<LentShown<'a>>
+    ensures { IsLentShown (number_text_shown request (string_bytes text.now)) result }
+{
+    match show_number(request, text.as_str()) {
+        Ok(leaf) => of_leaf(alloc, leaf, text),
+        Err(no_number) => Err(no_number.of_text(text.clone()?)),
     }
 }
 
@@ -109,9 +262,34 @@ pub(crate) fn lent<'a>(shown: Shown) -> LentShown<'a>
 pub(crate) fn key_text<'a>(
     alloc: Global,
     request: Request,
-    key: &'a String,
+    text: &'a String,
 ) -> Result<LentShown<'a>>
-    ensures { IsLentShown (key_shown request (string_bytes key.now)) result }
+    ensures { IsLentShown (key_shown request (string_bytes text.now)) result }
 {
-    Ok(lent(show::key_text(alloc, request, key.clone()?)?))
+    of_leaf(alloc, show_key(request, text.as_str())?, text)
+}
+
+// What a lent plain text shows.
+#[inline(always)]
+pub(crate) fn plain_text<'a>(
+    alloc: Global,
+    request: Request,
+    text: &'a String,
+) -> Result<LentShown<'a>>
+    ensures { IsLentShown (plain_text_shown request (string_bytes text.now)) result }
+{
+    of_leaf(alloc, show_plain_text(request), text)
+}
+
+// What a lent text shows by its leaf, with readers round what lies inside. It is copied where it is shown itself.
+fn of_leaf<'a>(alloc: Global, leaf: Leaf, text: &'a String) -> Result<LentShown<'a>>
+    ensures { IsLentShown (Ok (leaf_sight (string_bytes text.now) leaf)) result }
+{
+    match leaf {
+        Leaf::Scalar(scalar) => Ok(scalar.shown()),
+        Leaf::NumberText => Ok(Showing::NumberText(text.clone()?)),
+        Leaf::Text => Ok(Showing::Text(text.clone()?)),
+        Leaf::Name => Ok(Showing::Enum(LentChoice::name(alloc, text))),
+        Leaf::Newtype => Ok(Showing::Newtype(LentDeserializer::from_key_text(alloc, text))),
+    }
 }

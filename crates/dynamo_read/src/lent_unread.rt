@@ -1,36 +1,36 @@
-ghost use Rattle.std.specs.Prelude.{◌≡◌, true, IfOk, IfErr};
+ghost use Rattle.std.specs.Prelude.{◌≡◌, true, false, map, string_bytes, IfOk, IfErr, Ok, None};
 ghost use Rattle.dynamo_value.specs.Fault.{out_of_memory};
 ghost use Rattle.dynamo_value.specs.Kind.{fault_of};
 ghost use Rattle.dynamo_value.specs.View.{elements_view, members_view};
 ghost use Rattle.dynamo_de.specs.Sight.{only_entry};
-ghost use Rattle.dynamo_de.specs.Source.{entries_of, values_of};
+ghost use Rattle.dynamo_de.specs.Source.{entries_of, values_of, each, plain_text, number_text, byte_string};
 ghost use Rattle.dynamo_read.specs.Lent.{lent_chosen, lent_counted, lent_elements, lent_entries};
-ghost use Rattle.dynamo_read.specs.Unread.{chosen_of, elements_counted, elements_left, entries_left};
 
 use crate::lent_entries::by_key;
-use crate::unread::{Choice, Elements, Entries};
 use dynamo_value::{AttributeValue, Result};
 use std::alloc::Global;
 use std::collections::HashMap;
 use std::slice::Iter;
 use std::vec::IntoIter;
 
-/// The elements of a lent list, or of the copy of a set, that aren't read yet.
+/// The elements of a lent list or of a lent set that aren't read yet.
 #[derive(Drop)]
 pub struct LentElements<'a> {
     pub(crate) alloc: Global,
     pub(crate) rest: LentRest<'a>,
 }
 
-/// What is left of a lent list, or of the copy of a set.
+/// What is left of a lent list, of a lent set of strings, of numbers or of byte strings.
 #[derive(Drop)]
 pub(crate) enum LentRest<'a> {
     Values(Iter<'a, AttributeValue>),
-    Own(Elements),
+    Texts(Iter<'a, String>),
+    Numbers(Iter<'a, String>),
+    ByteStrings(Iter<'a, Vec<u8>>),
 }
 
 impl<'a> LentElements<'a> {
-    // The elements of a lent list. It takes no memory.
+    // The elements of a lent list. It takes no memory, as the other three.
     pub(crate) fn values(alloc: Global, values: &'a Vec<AttributeValue>) -> Self
         ensures left { lent_elements result ≡ values_of (elements_view values.now.items) }
         ensures counted { lent_counted result ≡ true }
@@ -41,14 +41,36 @@ impl<'a> LentElements<'a> {
         }
     }
 
-    // These elements.
-    pub(crate) fn own(elements: Elements) -> Self
-        ensures left { lent_elements result ≡ elements_left elements }
-        ensures counted { lent_counted result ≡ elements_counted elements }
+    // The elements of a lent set of strings.
+    pub(crate) fn texts(alloc: Global, texts: &'a Vec<String>) -> Self
+        ensures left { lent_elements result ≡ each plain_text (map string_bytes texts.now.items) }
+        ensures counted { lent_counted result ≡ false }
     {
         LentElements {
-            alloc: elements.alloc,
-            rest: LentRest::Own(elements),
+            alloc,
+            rest: LentRest::Texts(texts.iter()),
+        }
+    }
+
+    // The elements of a lent set of numbers.
+    pub(crate) fn numbers(alloc: Global, numbers: &'a Vec<String>) -> Self
+        ensures left { lent_elements result ≡ each number_text (map string_bytes numbers.now.items) }
+        ensures counted { lent_counted result ≡ false }
+    {
+        LentElements {
+            alloc,
+            rest: LentRest::Numbers(numbers.iter()),
+        }
+    }
+
+    // The elements of a lent set of byte strings.
+    pub(crate) fn byte_strings(alloc: Global, byte_strings: &'a Vec<Vec<u8>>) -> Self
+        ensures left { lent_elements result ≡ each byte_string (map (λ b. b.items) byte_strings.now.items) }
+        ensures counted { lent_counted result ≡ false }
+    {
+        LentElements {
+            alloc,
+            rest: LentRest::ByteStrings(byte_strings.iter()),
         }
     }
 }
@@ -57,14 +79,7 @@ impl<'a> LentElements<'a> {
 #[derive(Drop)]
 pub struct LentEntries<'a> {
     pub(crate) alloc: Global,
-    pub(crate) rest: LentPairs<'a>,
-}
-
-/// What is left of a lent map, or of one that was taken apart.
-#[derive(Drop)]
-pub(crate) enum LentPairs<'a> {
-    Lent(IntoIter<(&'a String, &'a AttributeValue)>),
-    Own(Entries),
+    pub(crate) rest: IntoIter<(&'a String, &'a AttributeValue)>,
 }
 
 impl<'a> LentEntries<'a> {
@@ -74,21 +89,8 @@ impl<'a> LentEntries<'a> {
         ensures ok { IfOk result (λ entries. lent_entries entries ≡ entries_of (members_view map.now.entries)) }
         ensures err { IfErr result (λ e. fault_of e ≡ out_of_memory) }
     {
-        let pairs = by_key(alloc, map)?;
-        Ok(LentEntries {
-            alloc,
-            rest: LentPairs::Lent(pairs.into_iter()),
-        })
-    }
-
-    // These entries.
-    pub(crate) fn own(entries: Entries) -> Self
-        ensures { lent_entries result ≡ entries_left entries }
-    {
-        LentEntries {
-            alloc: entries.alloc,
-            rest: LentPairs::Own(entries),
-        }
+        let rest = by_key(alloc, map)?.into_iter();
+        Ok(LentEntries { alloc, rest })
     }
 }
 
@@ -99,14 +101,24 @@ pub struct LentChoice<'a> {
     pub(crate) form: LentForm<'a>,
 }
 
-/// A variant is written as a map of its name to its content, which is lent, or as its name.
+/// A variant is written as its name, or as a map of its name to its content; either is lent.
 #[derive(Drop)]
 pub(crate) enum LentForm<'a> {
+    Name(&'a String),
     Map(&'a HashMap<String, AttributeValue>),
-    Own(Choice),
 }
 
 impl<'a> LentChoice<'a> {
+    // The variant of this lent name, without content. It takes no memory.
+    pub(crate) fn name(alloc: Global, name: &'a String) -> Self
+        ensures { lent_chosen result ≡ Ok (string_bytes name.now, None) }
+    {
+        LentChoice {
+            alloc,
+            form: LentForm::Name(name),
+        }
+    }
+
     // The variant that the one key of the lent map names, with the value as its content. It takes no memory.
     pub(crate) fn map(alloc: Global, map: &'a HashMap<String, AttributeValue>) -> Self
         ensures { lent_chosen result ≡ only_entry (members_view map.now.entries) }
@@ -114,16 +126,6 @@ impl<'a> LentChoice<'a> {
         LentChoice {
             alloc,
             form: LentForm::Map(map),
-        }
-    }
-
-    // This variant.
-    pub(crate) fn own(choice: Choice) -> Self
-        ensures { lent_chosen result ≡ chosen_of choice }
-    {
-        LentChoice {
-            alloc: choice.alloc,
-            form: LentForm::Own(choice),
         }
     }
 }

@@ -72,7 +72,8 @@ pub fn from_item<T: Deserialize>(alloc: Global, item: Item) -> Result<T>
 ///
 /// It takes the item by reference, and `alloc`, from which what is read takes its memory. It returns one of the answers that the
 /// type permits on the map of the item's attributes, a value or a fault. No copy is made of the item: of what is read, keys,
-/// texts, numbers, byte strings and sets are copied, each by itself, and each map has a list of its entries while it is read.
+/// texts and byte strings are copied, each by itself, and the text of a number that is no integer of 64 bits; and each map has
+/// a list of its entries while it is read.
 ///
 /// # Errors
 ///

@@ -1,11 +1,12 @@
-ghost use Rattle.std.specs.Prelude.{◌≡◌, true, Some, string_bytes};
+ghost use Rattle.std.specs.Prelude.{◌≡◌, ℕ, true, List, Option, Some, Result, string_bytes};
 ghost use Rattle.std.specs.Str.{chars};
+ghost use Rattle.dynamo_value.specs.Fault.{Fault};
 ghost use Rattle.dynamo_value.specs.Integer.{IntegerKind};
 ghost use Rattle.dynamo_value.specs.Kind.{fault_of};
 ghost use Rattle.dynamo_value.specs.View.{view};
 ghost use Rattle.dynamo_de.specs.Shown.{any_shown, num_shown, bool_shown, char_shown, chars_shown, text_shown, bytes_shown, option_shown, null_shown, seq_shown, map_shown, struct_shown, enum_shown, attribute_shown, number_text_shown, key_shown, plain_text_shown};
-ghost use Rattle.dynamo_de.specs.Shows.{seen};
-ghost use Rattle.dynamo_de.specs.Source.{attribute};
+ghost use Rattle.dynamo_de.specs.Shows.{Shows, seen};
+ghost use Rattle.dynamo_de.specs.Source.{Source, Entry, attribute};
 ghost use Rattle.dynamo_leaf.specs.Leaf.{leaf_sight, asked};
 ghost use Rattle.dynamo_read.specs.Reader.{source_of, IsShown, asks_elements, Counted, IfElements};
 ghost use Rattle.dynamo_read.specs.Unread.{elements_left, entries_left, chosen_of};
@@ -13,7 +14,7 @@ ghost use Rattle.dynamo_read.specs.Unread.{elements_left, entries_left, chosen_o
 use crate::deserializer::Deserializer;
 use crate::unread::{Choice, Elements, Entries};
 use dynamo_de::{Request, Showing};
-use dynamo_leaf::{Leaf, raise, show_key, show_number, show_plain_text};
+use dynamo_leaf::{KeyText, Leaf, NumberText, PlainText, TextKind, raise};
 use dynamo_value::{AttributeValue, Error, ErrorImpl, Result};
 use std::alloc::Global;
 use std::collections::HashMap;
@@ -32,7 +33,7 @@ pub(crate) fn attribute_value(
 {
     match request {
         Request::Any | Request::IgnoredAny => any(alloc, value),
-        Request::Bool => boolean(value),
+        Request::Bool => boolean(&value),
         Request::I8
         | Request::I16
         | Request::I32
@@ -43,12 +44,12 @@ pub(crate) fn attribute_value(
         | Request::U32
         | Request::U64
         | Request::U128 => number(alloc, request, value),
-        Request::Char => character(value),
+        Request::Char => character(&value),
         Request::Str | Request::String | Request::Identifier => text(value),
         Request::Bytes | Request::ByteBuf => bytes(value),
         Request::Option => option(alloc, value),
-        Request::Unit => null(ErrorImpl::ExpectedUnit, value),
-        Request::UnitStruct => null(ErrorImpl::ExpectedUnitStruct, value),
+        Request::Unit => null(ErrorImpl::ExpectedUnit, &value),
+        Request::UnitStruct => null(ErrorImpl::ExpectedUnitStruct, &value),
         Request::NewtypeStruct => Ok(Showing::Newtype(Deserializer::from_attribute_value(
             alloc, value,
         ))),
@@ -92,19 +93,19 @@ fn number(alloc: Global, request: Request, value: AttributeValue) -> Result<Show
 
 // A boolean.
 #[inline(always)]
-fn boolean(value: AttributeValue) -> Result<Shown>
-    ensures { IsShown (bool_shown (view value)) result }
+pub(crate) fn boolean<D, L, M, C>(value: &AttributeValue) -> Result<Showing<D, L, M, C>>
+    ensures { (source : D → Source) (elements : L → List Source) (entries : M → List Entry) (variants : C → Result (List ℕ × Option Source) Fault) → Shows fault_of source elements entries variants (bool_shown (view value.now)) result }
 {
     match value {
-        AttributeValue::Bool(b) => Ok(Showing::Bool(b)),
+        AttributeValue::Bool(b) => Ok(Showing::Bool(*b)),
         _other => Err(Error::from(ErrorImpl::ExpectedBool)),
     }
 }
 
 // The one character of a string.
 #[inline(always)]
-fn character(value: AttributeValue) -> Result<Shown>
-    ensures { IsShown (char_shown (view value)) result }
+pub(crate) fn character<D, L, M, C>(value: &AttributeValue) -> Result<Showing<D, L, M, C>>
+    ensures { (source : D → Source) (elements : L → List Source) (entries : M → List Entry) (variants : C → Result (List ℕ × Option Source) Fault) → Shows fault_of source elements entries variants (char_shown (view value.now)) result }
 {
     match value {
         AttributeValue::S(text) => only_char(text.as_str()),
@@ -114,8 +115,8 @@ fn character(value: AttributeValue) -> Result<Shown>
 
 // The one character of a text; the first where there are more, which a visitor may refuse for what it is.
 #[tactic(auto, using(crate::proofs::Characters::only_one, crate::proofs::Characters::first_of_more))]
-fn only_char(text: &str) -> Result<Shown>
-    ensures { IsShown (chars_shown (chars text.now)) result }
+fn only_char<D, L, M, C>(text: &str) -> Result<Showing<D, L, M, C>>
+    ensures { (source : D → Source) (elements : L → List Source) (entries : M → List Entry) (variants : C → Result (List ℕ × Option Source) Fault) → Shows fault_of source elements entries variants (chars_shown (chars text.now)) result }
 {
     let mut chars = text.chars();
     let Some(first) = chars.next() else {
@@ -162,8 +163,11 @@ fn option(alloc: Global, value: AttributeValue) -> Result<Shown>
 
 // Null, or the fault.
 #[inline(always)]
-fn null(otherwise: ErrorImpl, value: AttributeValue) -> Result<Shown>
-    ensures { IsShown (null_shown (fault_of otherwise) (view value)) result }
+pub(crate) fn null<D, L, M, C>(
+    otherwise: ErrorImpl,
+    value: &AttributeValue,
+) -> Result<Showing<D, L, M, C>>
+    ensures { (source : D → Source) (elements : L → List Source) (entries : M → List Entry) (variants : C → Result (List ℕ × Option Source) Fault) → Shows fault_of source elements entries variants (null_shown (fault_of otherwise) (view value.now)) result }
 {
     match value {
         AttributeValue::Null(true) => Ok(Showing::Unit),
@@ -227,7 +231,8 @@ fn enumeration(alloc: Global, value: AttributeValue) -> Result<Shown>
 pub(crate) fn number_text(alloc: Global, request: Request, text: String) -> Result<Shown>
     ensures { IsShown (number_text_shown request (string_bytes text)) result }
 {
-    Ok(of_leaf(alloc, show_number(request, text)?))
+    let (leaf, text) = NumberText::show_text(request, text)?;
+    Ok(of_leaf(alloc, leaf, text))
 }
 
 // What the key of a map shows.
@@ -235,7 +240,8 @@ pub(crate) fn number_text(alloc: Global, request: Request, text: String) -> Resu
 pub(crate) fn key_text(alloc: Global, request: Request, text: String) -> Result<Shown>
     ensures { IsShown (key_shown request (string_bytes text)) result }
 {
-    Ok(of_leaf(alloc, show_key(request, text)?))
+    let (leaf, text) = KeyText::show_text(request, text)?;
+    Ok(of_leaf(alloc, leaf, text))
 }
 
 // What a plain text shows.
@@ -243,13 +249,14 @@ pub(crate) fn key_text(alloc: Global, request: Request, text: String) -> Result<
 pub(crate) fn plain_text(alloc: Global, request: Request, text: String) -> Result<Shown>
     ensures { IsShown (plain_text_shown request (string_bytes text)) result }
 {
-    Ok(of_leaf(alloc, show_plain_text(request, text)?))
+    let (leaf, text) = PlainText::show_text(request, text)?;
+    Ok(of_leaf(alloc, leaf, text))
 }
 
 // What a single text shows, with readers round what lies inside.
 #[inline(always)]
-fn of_leaf(alloc: Global, leaf: Leaf) -> Shown
-    ensures { seen source_of elements_left entries_left chosen_of result ≡ leaf_sight leaf }
+fn of_leaf(alloc: Global, leaf: Leaf, text: String) -> Shown
+    ensures { seen source_of elements_left entries_left chosen_of result ≡ leaf_sight (string_bytes text) leaf }
 {
-    raise::<Deserializer, Elements, Entries>(alloc, leaf)
+    raise::<Deserializer, Elements, Entries>(alloc, leaf, text)
 }

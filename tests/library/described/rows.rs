@@ -1,5 +1,6 @@
+use crate::fixtures::readers;
 use serde_dynamo::de::Deserialize;
-use serde_dynamo::{AttributeValue, DynamoJson, Shaped, from_attribute_value, reread};
+use serde_dynamo::{AttributeValue, DynamoJson, Shaped, reread};
 use serde_json::Value;
 use std::alloc::Global;
 use std::fmt::Debug;
@@ -28,7 +29,7 @@ pub(crate) fn reads<T: Deserialize + Debug>(
     expected: &str,
 ) -> Result<(), Fail> {
     let value = AttributeValue::from_json(alloc, &Value::from_str(alloc, json)?)?;
-    let read: serde_dynamo::Result<T> = from_attribute_value(alloc, value);
+    let read: serde_dynamo::Result<T> = readers::read(alloc, value)?;
     let answer = match read {
         Ok(value) => format!(in alloc; "{value:?}")?,
         Err(error) => error.to_string(alloc)?,

@@ -1,8 +1,8 @@
 //! Maps are read in ascending order of the bytes of their keys.
 use crate::fixtures::answers::item;
+use crate::fixtures::readers::{ask_value, read};
 use crate::fixtures::teller::Teller;
-use serde_dynamo::de::Deserializer;
-use serde_dynamo::{AttributeValue, from_attribute_value};
+use serde_dynamo::AttributeValue;
 use std::alloc::Global;
 use std::collections::HashMap;
 use std::test::Fail;
@@ -34,7 +34,7 @@ fn thousand(alloc: Global) -> Result<AttributeValue, Fail> {
 #[test]
 fn a_thousand_entries_are_read(rt: HostRuntime) -> Result<(), Fail> {
     let alloc = rt.alloc();
-    let read: HashMap<u16, u16> = from_attribute_value(alloc, thousand(alloc)?)?;
+    let read: HashMap<u16, u16> = read(alloc, thousand(alloc)?)??;
     assert_eq!(rt; read.len(), 1000);
     for number in 0..1000_u16 {
         assert!(rt; read.get(&number) == Some(&number), "{number}");
@@ -45,8 +45,7 @@ fn a_thousand_entries_are_read(rt: HostRuntime) -> Result<(), Fail> {
 #[test]
 fn the_keys_come_in_ascending_order_of_their_bytes(rt: HostRuntime) -> Result<(), Fail> {
     let alloc = rt.alloc();
-    let reader = serde_dynamo::Deserializer::from_attribute_value(alloc, thousand(alloc)?);
-    let told = reader.deserialize_map(Teller { alloc })?;
+    let told = ask_value(thousand(alloc)?, "map", Teller { alloc })??;
     let keys = told.strip_prefix("map ").ok_or("no keys")?;
     assert_eq!(rt; keys.split(' ').count(), 1000);
     assert!(rt; ascend(keys), "{keys}");
@@ -60,8 +59,7 @@ fn a_key_comes_before_those_that_it_begins(rt: HostRuntime) -> Result<(), Fail> 
     let source =
         "M {\"b\": N \"1\", \"\u{E9}\": N \"1\", \"a\": N \"1\", \"\": N \"1\", \"B\": N \"1\", \"aa\": N \"1\", \"\u{1F973}\": N \"1\", \"\u{FFFD}\": N \"1\", \"1\": N \"1\", \"10\": N \"1\", \"9\": N \"1\"}";
     let value = AttributeValue::M(item(alloc, source)?);
-    let reader = serde_dynamo::Deserializer::from_attribute_value(alloc, value);
-    let told = reader.deserialize_map(Teller { alloc })?;
+    let told = ask_value(value, "map", Teller { alloc })??;
     assert_eq!(rt;
         told.as_str(),
         "map  1 10 9 B a aa b \u{E9} \u{FFFD} \u{1F973}"

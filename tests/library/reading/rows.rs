@@ -1,6 +1,7 @@
 //! What stands in the tables of reading holds.
 use crate::fixtures::at_type::Way;
 use crate::fixtures::notation;
+use crate::fixtures::readers::read;
 use crate::fixtures::types::holds;
 use crate::json::attribute_values::NO_ITEMS;
 use crate::reading::enums::EVENTS;
@@ -12,7 +13,6 @@ use crate::reading::sequences::{
 use crate::reading::structs::{FORMS, NAMED, SETS, STATIONS, TREES, USERS};
 use crate::reading::unknown_members::IGNORED;
 use crate::tables::refusals::EXPECTED;
-use serde_dynamo::from_attribute_value;
 use std::collections::HashMap;
 use std::test::Fail;
 
@@ -52,7 +52,7 @@ fn each_value_reads_as_its_row_says(rt: HostRuntime) -> Result<(), Fail> {
 fn a_hashed_map_has_each_entry(rt: HostRuntime) -> Result<(), Fail> {
     let alloc = rt.alloc();
     let source = notation::value(alloc, r#"M {"1": S "one", "2": S "two"}"#)?;
-    let read: HashMap<u64, String> = from_attribute_value(alloc, source)?;
+    let read: HashMap<u64, String> = read(alloc, source)??;
     assert!(rt; read.len() == 2);
     assert!(rt; matches!(read.get(&1), Some(text) if text.as_str() == "one"));
     assert!(rt; matches!(read.get(&2), Some(text) if text.as_str() == "two"));

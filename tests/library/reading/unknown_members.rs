@@ -3,8 +3,8 @@
 use crate::fixtures::answers::answers;
 use crate::fixtures::named::Named;
 use crate::fixtures::notation;
+use crate::fixtures::readers::read;
 use crate::fixtures::rows::{Row, counted};
-use serde_dynamo::from_attribute_value;
 use std::alloc::Global;
 use std::process::Abort;
 use std::test::Fail;
@@ -64,7 +64,7 @@ Vec<IgnoredAny>
 // The struct of this text reads as this.
 fn reads(rt: &impl Abort, alloc: Global, source: &str, expected: &str) -> Result<(), Fail> {
     let value = notation::value(alloc, source)?;
-    Ok(answers::<Named>(rt, alloc, from_attribute_value(alloc, value), expected)?)
+    Ok(answers::<Named>(rt, alloc, read(alloc, value)?, expected)?)
 }
 
 // The member stands before the fields and after them.

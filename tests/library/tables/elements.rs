@@ -3,8 +3,8 @@ use crate::fixtures::answers::{tells, told};
 use crate::fixtures::calls::ask_elements;
 use crate::fixtures::notation;
 use crate::fixtures::opener::{Manner, Opener};
+use crate::fixtures::readers::ask_value;
 use crate::fixtures::rows::{Row, counted};
-use serde_dynamo::de::Deserializer;
 use serde_dynamo::{
     AttributeValue, DeserializerSeq, DeserializerSeqBytes, DeserializerSeqNumbers,
     DeserializerSeqStrings,
@@ -124,12 +124,11 @@ Bs [[97, 98]]
   text = ab
   text text = none"#;
 
-// What the calls answer in a visitor.
+// What the calls answer in a visitor, of a value that is taken and of one that is lent.
 fn visit(alloc: Global, source: &str, calls: &'static str) -> Result<String, Fail> {
     let value = notation::value(alloc, source)?;
-    let reader = serde_dynamo::Deserializer::from_attribute_value(alloc, value);
     let manner = Manner::Elements(calls);
-    Ok(told(alloc, reader.deserialize_seq(Opener { alloc, manner }))?)
+    Ok(told(alloc, ask_value(value, "seq", Opener { alloc, manner })?)?)
 }
 
 // What they answer on the accesses that have a name.

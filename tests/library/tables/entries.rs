@@ -2,8 +2,8 @@
 use crate::fixtures::answers::{item, tells, told};
 use crate::fixtures::calls::ask_entries;
 use crate::fixtures::opener::{Manner, Opener};
+use crate::fixtures::readers::ask_value;
 use crate::fixtures::rows::{Row, counted};
-use serde_dynamo::de::Deserializer;
 use serde_dynamo::{AttributeValue, DeserializerMap};
 use std::alloc::Global;
 use std::process::Abort;
@@ -97,12 +97,11 @@ M {"1": S "v", "x": S "w"}
   entry_of_numbers text entry_of_number text = w
   entry_of_numbers text entry_of_number text how_many = Some(0)"#;
 
-// What the calls answer in a visitor.
+// What the calls answer in a visitor, of a value that is taken and of one that is lent.
 fn visit(alloc: Global, source: &str, calls: &'static str) -> Result<String, Fail> {
     let value = AttributeValue::M(item(alloc, source)?);
-    let reader = serde_dynamo::Deserializer::from_attribute_value(alloc, value);
     let manner = Manner::Entries(calls);
-    Ok(told(alloc, reader.deserialize_map(Opener { alloc, manner }))?)
+    Ok(told(alloc, ask_value(value, "map", Opener { alloc, manner })?)?)
 }
 
 // What they answer on the entries themselves, which leave the item empty while they are read.

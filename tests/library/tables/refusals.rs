@@ -11,7 +11,7 @@ use std::process::Abort;
 use std::test::Fail;
 
 // A visitor that gives nothing a body.
-#[derive(Drop)]
+#[derive(Clone, Copy)]
 struct Nothing {
     alloc: Global,
 }

@@ -2,13 +2,13 @@
 use crate::fixtures::answers::{tells, told};
 use crate::fixtures::notation;
 use crate::fixtures::opener::{Manner, Opener};
+use crate::fixtures::readers::ask_value;
 use crate::fixtures::requests::{REQUESTS, ask_source};
 use crate::fixtures::rows::Row;
 use crate::fixtures::teller::Teller;
 use crate::tables::content_rows::MORE;
 use crate::tables::request_rows::{INSIDE, VALUES};
 use serde_dynamo::AttributeValue;
-use serde_dynamo::de::Deserializer;
 use std::alloc::Global;
 use std::process::Abort;
 use std::test::Fail;
@@ -32,12 +32,11 @@ fn around(alloc: Global, source: &str) -> Result<AttributeValue, Fail> {
 // What the source of this text tells where it stands inside of a list, a set or a map.
 fn ask_inside(alloc: Global, source: &str, request: &'static str) -> Result<String, Fail> {
     let value = around(alloc, source)?;
-    let reader = serde_dynamo::Deserializer::from_attribute_value(alloc, value);
     let first = Opener {
         alloc,
         manner: Manner::First(request),
     };
-    Ok(told(alloc, reader.deserialize_any(first))?)
+    Ok(told(alloc, ask_value(value, "any", first)?)?)
 }
 
 // What is expected at a request; nothing where no row names it. The first line is the text of the source; in
