@@ -70,6 +70,10 @@ impl Target for Serializer {
         HashMap::new(alloc)
     }
 
+    fn room_for(alloc: Global, count: usize) -> Result<HashMap<String, AttributeValue>> {
+        Ok(HashMap::with_capacity(alloc, count)?)
+    }
+
     fn insert(
         map: &mut HashMap<String, AttributeValue>,
         key: String,

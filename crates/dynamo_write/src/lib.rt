@@ -8,6 +8,7 @@ ghost use Rattle.dynamo_ser.specs.Writes.{Writes};
 ghost use Rattle.dynamo_write.specs.Answers.{AnswersDatum, AnswersItem};
 
 mod builders;
+mod fields;
 mod list_of;
 mod map_of;
 mod serializer;

@@ -2,7 +2,7 @@ ghost use Rattle.std.specs.Prelude.{◌≡◌, []};
 ghost use Rattle.dynamo_write.specs.Held.{fields_of};
 ghost use Rattle.dynamo_write.specs.Target.{GivesStruct};
 
-use crate::Target;
+use crate::{Target, fields};
 use dynamo_ser::{SerializeStruct, StructBuilder};
 use dynamo_value::{Error, Result};
 use std::alloc::Global;
@@ -11,16 +11,18 @@ use std::alloc::Global;
 #[derive(Drop)]
 pub struct StructOf<T: Target> {
     alloc: Global,
+    expected: usize,
     fields: Vec<(&'static str, T::Ok)>,
 }
 
 impl<T: Target> StructOf<T> {
-    /// The builder without fields. It takes no memory: the length is a hint that isn't used.
-    pub fn new(alloc: Global, _len: usize) -> Self
+    /// The builder without fields. It takes no memory. The first field makes room for `len` fields, and for 64 at most.
+    pub fn new(alloc: Global, len: usize) -> Self
         ensures { result.fields.items ≡ [] }
     {
         StructOf {
             alloc,
+            expected: len,
             fields: Vec::new(alloc),
         }
     }
@@ -40,7 +42,7 @@ impl<T: Target> StructBuilder<T> for StructOf<T> {
     }
 
     fn push_field(&mut self, key: &'static str, written: T::Ok) -> Result<()> {
-        self.fields.push((key, written))?;
+        fields::push(&mut self.fields, self.expected, (key, written))?;
         Ok(())
     }
 

@@ -2,7 +2,7 @@ ghost use Rattle.std.specs.Prelude.{◌≡◌, []};
 ghost use Rattle.dynamo_write.specs.Held.{fields_of};
 ghost use Rattle.dynamo_write.specs.Target.{GivesStruct, one_member};
 
-use crate::Target;
+use crate::{Target, fields};
 use dynamo_ser::{SerializeStructVariant, StructBuilder};
 use dynamo_value::{Error, Result};
 use std::alloc::Global;
@@ -12,18 +12,21 @@ use std::alloc::Global;
 pub struct StructVariantOf<'a, T: Target> {
     alloc: Global,
     key: &'a str,
+    expected: usize,
     fields: Vec<(&'static str, T::Ok)>,
 }
 
 impl<'a, T: Target> StructVariantOf<'a, T> {
-    /// The builder of the variant of this name without fields. It takes no memory: the length is a hint that isn't used.
-    pub fn new(alloc: Global, key: &'a str, _len: usize) -> Self
+    /// The builder of the variant of this name without fields. It takes no memory. The first field makes room for `len` fields, and
+    /// for 64 at most.
+    pub fn new(alloc: Global, key: &'a str, len: usize) -> Self
         ensures fields { result.fields.items ≡ [] }
         ensures name { result.key.now ≡ key.now }
     {
         StructVariantOf {
             alloc,
             key,
+            expected: len,
             fields: Vec::new(alloc),
         }
     }
@@ -43,7 +46,7 @@ impl<T: Target> StructBuilder<T> for StructVariantOf<'_, T> {
     }
 
     fn push_field(&mut self, key: &'static str, written: T::Ok) -> Result<()> {
-        self.fields.push((key, written))?;
+        fields::push(&mut self.fields, self.expected, (key, written))?;
         Ok(())
     }
 

@@ -48,6 +48,13 @@ pub trait Target: Outcomes<Error = Error> {
     fn no_members(alloc: Global) -> Self::Map
         ensures { members result ≡ [] };
 
+    /// The map without members, with room for so many where maps can have it. For none it takes no memory.
+    fn room_for(alloc: Global, _count: usize) -> Result<Self::Map>
+        ensures ok { MatchResult result (λ map. members map ≡ []) (λ e. fault_of e ≡ out_of_memory) }
+    {
+        Ok(Self::no_members(alloc))
+    }
+
     /// Puts one member; the value of an equal key is replaced.
     fn insert(map: &mut Self::Map, key: String, value: Self::Ok) -> Result<()>
         ensures ok { OnOk result (members map.new ≡ put text_cmp (string_bytes key) (about.seen value) (members map.old)) }
@@ -68,11 +75,11 @@ pub trait Target: Outcomes<Error = Error> {
         Ok(Self::map(map))
     }
 
-    /// The same of a struct's fields.
+    /// The same of a struct's fields. The map is made with room for them.
     final fn map_of_fields(alloc: Global, fields: Vec<(&'static str, Self::Ok)>) -> Result<Self::Ok>
         ensures { MatchResult result (λ v. Self.about.seen v ≡ map_of Self.about (fields_of Self.about.seen fields.entry.items)) (λ e. fault_of e ≡ out_of_memory) }
     {
-        let mut map = Self::no_members(alloc);
+        let mut map = Self::room_for(alloc, fields.len())?;
         for (name, value) in fields {
             let key = String::from_str(alloc, name)?;
             Self::insert(&mut map, key, value)?;

@@ -5,4 +5,4 @@ use Rattle.dynamo_write.proofs.struct_variant_of.StructVariantOfStructBuilder.pu
 pub returns : goal.returns
 returns g c = λ d is fs r given.
     let wrote = g.met.T.Target.answers (g.T.Target.over c.args.self.now.alloc) d c.args.written is in
-    field_pushed g.T.Target.about c.args.self.now.fields.items c.args.key c.args.written (one_member g.T.Target.about c.args.self.now.key.now) d fs r wrote (rw c.in_ok-push.ensures.items at given)
+    field_pushed g.T.Target.about c.args.self.now.fields.items c.args.key c.args.written (one_member g.T.Target.about c.args.self.now.key.now) d fs r wrote (rw c.in_ok-push.ensures.ok at given)
