@@ -9,6 +9,7 @@ mod export;
 mod lines;
 mod purchase;
 mod purchases;
+mod queries;
 mod random;
 mod records;
 mod stopped;
@@ -21,7 +22,7 @@ use crate::stopped::Stopped;
 use std::alloc::Global;
 use std::{env, io};
 
-const JOBS: [&str; 5] = ["tables", "export", "records", "texts", "store"];
+const JOBS: [&str; 6] = ["tables", "export", "records", "texts", "store", "queries"];
 
 // The digest of a round of a job.
 fn round(alloc: Global, job: &str, random: &mut Random) -> Result<u64, Stopped> {
@@ -31,6 +32,7 @@ fn round(alloc: Global, job: &str, random: &mut Random) -> Result<u64, Stopped> 
         "records" => records::round(alloc, random),
         "texts" => texts::round(alloc, random),
         "store" => store::round(alloc, random),
+        "queries" => queries::round(alloc, random),
         _no_job => Ok(0),
     }
 }

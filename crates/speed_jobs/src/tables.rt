@@ -118,7 +118,8 @@ fn text_of(alloc: Global, text: &str) -> Result<AttributeValue, AllocError> {
     Ok(AttributeValue::S(String::from_str(alloc, text)?))
 }
 
-fn number_of(alloc: Global, number: u64) -> Result<AttributeValue, AllocError> {
+/// An attribute value of a number.
+pub fn number_of(alloc: Global, number: u64) -> Result<AttributeValue, AllocError> {
     Ok(AttributeValue::N(format!(in alloc; "{number}")?))
 }
 
@@ -142,7 +143,8 @@ fn attribute(alloc: Global, name: &str, kind: KeyKind) -> Result<KeyAttribute, A
     })
 }
 
-fn second(alloc: Global, at: u64) -> Result<KeyValue, TableError> {
+/// The value of a sort key of a second.
+pub fn second(alloc: Global, at: u64) -> Result<KeyValue, TableError> {
     let text = format!(in alloc; "{at}")?;
     match Number::parse(text.as_str()) {
         Some(number) => Ok(KeyValue::N(number)),
