@@ -4,6 +4,7 @@ mod base64_texts;
 mod items;
 mod json_text;
 mod kinds;
+mod layout;
 mod refusals;
 mod texts;
 mod vectors;

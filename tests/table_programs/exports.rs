@@ -1,9 +1,9 @@
 //! The lines of an export.
 use dynamo_json::DynamoJson;
-use dynamo_value::{Error, ErrorImpl, Item};
+use dynamo_value::{AttributeValue, Error, ErrorImpl, Item};
 use fixtures::{Line, LineFault, Lines};
 use serde_json::Value;
-use std::alloc::Global;
+use std::alloc::{AllocError, Global};
 use std::io;
 use std::io::BufReader;
 
@@ -33,6 +33,46 @@ pub fn print_again(rt: &HostRuntime) -> io::Result<()> {
         match lines.next_line() {
             Some(answer) => print_line(rt, answer)?,
             None => break,
+        }
+    }
+    Ok(())
+}
+
+// The lines of so many bytes each, the line feed with them. A line has attributes that aren't in the order of their names; with
+// a member behind the item it is one of which a JSON value is made.
+fn long_lines(alloc: Global) -> Result<String, AllocError> {
+    let mut text = String::new(alloc);
+    for len in [32_768, 32_769, 70_000, 400_000, 100] {
+        for behind in ["", r#","x":{}"#] {
+            let whole = r#"{"Item":{"b":{"S":""},"a":{"N":"1"}}}"#.len() + behind.len() + 1;
+            let filled = "x".repeat(alloc, len - whole)?;
+            text.push_str(&format!(in alloc;
+                r#"{{"Item":{{"b":{{"S":"{filled}"}},"a":{{"N":"1"}}}}{behind}}}"#
+            )?)?;
+            text.push('\n')?;
+        }
+    }
+    Ok(text)
+}
+
+/// Prints the names of each item of some long lines, and the length of its text.
+pub fn print_long(rt: &HostRuntime) -> anyhow::Result<()> {
+    let text = long_lines(rt.alloc())?;
+    let mut lines = Lines::new(rt.alloc(), text.as_bytes());
+    for _ in 0..11 {
+        match lines.next_line() {
+            Some(Ok(line)) => {
+                print!(rt; "{}:", line.number)?;
+                for (name, value) in line.item.inner().iter() {
+                    match value {
+                        AttributeValue::S(text) => print!(rt; " {name} {}", text.len())?,
+                        _ => print!(rt; " {name}")?,
+                    }
+                }
+                println!(rt)?;
+            }
+            Some(Err(broken)) => println!(rt; "{broken}")?,
+            None => println!(rt; "no more")?,
         }
     }
     Ok(())

@@ -17,7 +17,7 @@ use Rattle.dynamo_json.specs.OfText.{Stands, ContentStands, ItemsStand, MembersS
 
 -- ---- what a conversion leaves
 
-abbrev pick : {A : Type 0} → A → Option A → A
+abbrev pub pick : {A : Type 0} → A → Option A → A
 pick d None = d
 pick d (Some a) = a
 
@@ -26,7 +26,7 @@ found r s None b e = absurd (cc)
 found r s (Some y) b e = let same = ap (pick (y, r)) e in (ap (λ p. p.1) same, ap (λ p. Some p.0) same)
 
 -- what was converted was parsed
-parsed : {A B : Type 0} (f : A → Option B) (o : Option (A × List Token)) (b : B) (r : List Token) → converted f o ≡ Some (b, r) → (a : A) × (o ≡ Some (a, r)) × (f a ≡ Some b)
+pub parsed : {A B : Type 0} (f : A → Option B) (o : Option (A × List Token)) (b : B) (r : List Token) → converted f o ≡ Some (b, r) → (a : A) × (o ≡ Some (a, r)) × (f a ≡ Some b)
 parsed f None b r e = absurd (cc)
 parsed f (Some p) b r e = let both = found p.1 r (f p.0) b e in (p.0, ap (λ s. Some (p.0, s)) both.0, both.1)
 

@@ -7,6 +7,7 @@ pub mod Differ
 pub mod Each
 pub mod EveryValue
 pub mod Floats
+mod Followed
 mod InText
 mod InTurn
 pub mod JsonBack
@@ -19,6 +20,7 @@ pub mod Reading
 mod Rest
 pub mod Results
 mod Rows
+mod Spelled
 mod Stored
 pub mod TellsPlain
 pub mod TellsSome

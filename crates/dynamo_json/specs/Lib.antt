@@ -1,6 +1,7 @@
 pub mod AttributeBack
 pub mod AttributeTells
 pub mod ErrorText
+pub mod Followed
 pub mod Json
 pub mod JsonBack
 pub mod KeyOrder

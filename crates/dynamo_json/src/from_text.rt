@@ -4,19 +4,22 @@
 //! says what is wrong with it.
 
 ghost use Rattle.std.specs.List.{AllByRecursion};
-ghost use Rattle.std.specs.Prelude.{◌≡◌, ◌<◌, ℕ, [], ◌∷◌, length, map, Some, IfOk, OnOk, string_bytes};
+ghost use Rattle.std.specs.Prelude.{◌≡◌, ◌≢◌, ◌<◌, ℕ, List, [], ◌∷◌, length, map, Some, IfOk, IfErr, OnOk, OnErr, string_bytes};
 ghost use Rattle.base64.specs.GeneralPurpose.{IsBytes};
 ghost use Rattle.json.specs.Json.{read_key};
 ghost use Rattle.json.specs.Token as token;
 ghost use Rattle.serde_json.specs.Read.{read};
+ghost use Rattle.dynamo_value.specs.Av.{Members};
 ghost use Rattle.dynamo_value.specs.Base64.{base64_text};
 ghost use Rattle.dynamo_value.specs.HasBytes.{HasBytes, ElementsHaveBytes, MembersHaveBytes};
 ghost use Rattle.dynamo_value.specs.PrefixView.{prefix_view};
 ghost use Rattle.dynamo_value.specs.View.{view, elements_view, members_view};
+ghost use Rattle.dynamo_json.specs.Followed.{SpellsItem, ValueIsNext, ContentIsNext, ElementsAreNext, MembersAreNext, TextsAreNext, BlobsAreNext};
 ghost use Rattle.dynamo_json.specs.Json.{json_of, item_json, elements_json, members_json};
 ghost use Rattle.dynamo_json.specs.OfText.{Stands, ContentStands, ItemsStand, MembersStand, texts_json};
 ghost use Rattle.dynamo_json.specs.OneMember.{one_member};
 
+use crate::layout::Layout;
 use dynamo_value::{AttributeValue, Error, ErrorImpl, Prefix, base64_text};
 use json::{Invalid, Reader, Scratch, Token};
 use std::alloc::{AllocError, AllocFailed, Global};
@@ -52,12 +55,22 @@ impl From<AllocError> for Stop {
 }
 
 impl<T: Drop> From<AllocFailed<T>> for Stop {
+    ghost use Rattle.dynamo_json.specs.declared.from_text.Stop.{Stop};
+
+    ghost from_gives = { λ _ stop. stop ≡ Stop.OutOfMemory };
+
     fn from(_: AllocFailed<T>) -> Stop {
         Stop::OutOfMemory
     }
 }
 
 impl From<Error> for Stop {
+    ghost use Rattle.dynamo_value.specs.Fault.{out_of_memory};
+    ghost use Rattle.dynamo_value.specs.Kind.{fault_of};
+    ghost use Rattle.dynamo_json.specs.declared.from_text.Stop.{Stop};
+
+    ghost from_gives = { λ error stop. fault_of error ≡ out_of_memory → stop ≡ Stop.OutOfMemory };
+
     fn from(error: Error) -> Stop {
         match error.kind() {
             ErrorImpl::OutOfMemory => Stop::OutOfMemory,
@@ -73,7 +86,7 @@ pub(crate) fn attribute_value(alloc: Global, text: &str) -> Result<AttributeValu
 {
     let mut scratch = Scratch::new(alloc);
     let mut reader = Reader::new(text, &mut scratch)?;
-    let value = value(alloc, &mut reader, MAX_DEPTH)?;
+    let value = value(alloc, Layout::AsRead, &mut reader, MAX_DEPTH)?;
     at_end(&mut reader)?;
     Ok(value)
 }
@@ -86,7 +99,7 @@ pub(crate) fn attributes(alloc: Global, text: &str) -> Result<HashMap<String, At
     let mut scratch = Scratch::new(alloc);
     let mut reader = Reader::new(text, &mut scratch)?;
     begin_object(&mut reader)?;
-    let map = members(alloc, &mut reader, MAX_DEPTH - 1)?;
+    let map = members(alloc, Layout::AsRead, &mut reader, MAX_DEPTH - 1)?;
     at_end(&mut reader)?;
     Ok(map)
 }
@@ -101,12 +114,13 @@ pub(crate) fn attributes_under(
     ensures members { IfOk result (λ m.
         read text.now ≡ Some (one_member name.now (item_json (members_view m.entries)))) }
     ensures bytes { IfOk result (λ m. MembersHaveBytes (members_view m.entries)) }
+    ensures follows { IfErr result (λ stop. stop ≡ Stop.Unlike → (ms : Members) → SpellsItem text.now name.now ms → ⊥) }
 {
     let mut reader = Reader::new(text, scratch)?;
     begin_object(&mut reader)?;
     key_named(&mut reader, name)?;
     begin_object(&mut reader)?;
-    let map = members(alloc, &mut reader, MAX_DEPTH - 2)?;
+    let map = members(alloc, Layout::ByName, &mut reader, MAX_DEPTH - 2)?;
     end_object(&mut reader)?;
     at_end(&mut reader)?;
     Ok(map)
@@ -114,9 +128,15 @@ pub(crate) fn attributes_under(
 
 // The attribute value that stands next: an object of one member.
 #[cycle(follow)]
-fn value(alloc: Global, reader: &mut Reader<'_>, depth: usize) -> Result<AttributeValue, Stop>
+fn value(
+    alloc: Global,
+    layout: Layout,
+    reader: &mut Reader<'_>,
+    depth: usize,
+) -> Result<AttributeValue, Stop>
     ensures value { IfOk result (λ a. Stands depth reader.old (json_of (view a)) reader.new) }
     ensures bytes { IfOk result (λ a. HasBytes (view a)) }
+    ensures follows { IfErr result (λ stop. stop ≡ Stop.Unlike → ValueIsNext depth reader.old → ⊥) }
     ensures shorter { OnOk result (length reader.new < length reader.old) }
 {
     if depth == 0 {
@@ -129,7 +149,7 @@ fn value(alloc: Global, reader: &mut Reader<'_>, depth: usize) -> Result<Attribu
     let Some(prefix) = Prefix::named(key) else {
         return Err(Stop::Unlike);
     };
-    let value = content(alloc, reader, prefix, depth - 1)?;
+    let value = content(alloc, layout, reader, prefix, depth - 1)?;
     end_object(reader)?;
     Ok(value)
 }
@@ -138,12 +158,14 @@ fn value(alloc: Global, reader: &mut Reader<'_>, depth: usize) -> Result<Attribu
 #[cycle(follow)]
 fn content(
     alloc: Global,
+    layout: Layout,
     reader: &mut Reader<'_>,
     prefix: Prefix,
     depth: usize,
 ) -> Result<AttributeValue, Stop>
     ensures value { IfOk result (λ a. ContentStands depth reader.old (prefix_view prefix) (view a) reader.new) }
     ensures bytes { IfOk result (λ a. HasBytes (view a)) }
+    ensures follows { IfErr result (λ stop. stop ≡ Stop.Unlike → ContentIsNext depth (prefix_view prefix) reader.old → ⊥) }
     ensures shorter { OnOk result (length reader.new < length reader.old) }
 {
     match (prefix, reader.next().ok_or(Stop::Unlike)?) {
@@ -159,19 +181,19 @@ fn content(
         }
         (Prefix::Null, Token::Bool(flag)) => Ok(AttributeValue::Null(flag)),
         (Prefix::M, Token::BeginObject) if depth > 0 => {
-            Ok(AttributeValue::M(members(alloc, reader, depth - 1)?).fitted())
+            Ok(AttributeValue::M(members(alloc, layout, reader, depth - 1)?).fitted())
         }
         (Prefix::L, Token::BeginArray) if depth > 0 => {
-            Ok(AttributeValue::L(elements(alloc, reader, depth - 1)?))
+            Ok(AttributeValue::L(elements(alloc, layout, reader, depth - 1)?))
         }
         (Prefix::Ss, Token::BeginArray) if depth > 0 => {
-            Ok(AttributeValue::Ss(strings(alloc, reader)?))
+            Ok(AttributeValue::Ss(strings(alloc, layout, reader)?))
         }
         (Prefix::Ns, Token::BeginArray) if depth > 0 => {
-            Ok(AttributeValue::Ns(strings(alloc, reader)?))
+            Ok(AttributeValue::Ns(strings(alloc, layout, reader)?))
         }
         (Prefix::Bs, Token::BeginArray) if depth > 0 => {
-            Ok(AttributeValue::Bs(blobs(alloc, reader)?))
+            Ok(AttributeValue::Bs(blobs(alloc, layout, reader)?))
         }
         _ => Err(Stop::Unlike),
     }
@@ -181,44 +203,53 @@ fn content(
 #[cycle(follow)]
 fn members(
     alloc: Global,
+    layout: Layout,
     reader: &mut Reader<'_>,
     depth: usize,
 ) -> Result<HashMap<String, AttributeValue>, Stop>
     ensures members { IfOk result (λ m. MembersStand depth reader.old (members_json (members_view m.entries)) reader.new) }
     ensures bytes { IfOk result (λ m. MembersHaveBytes (members_view m.entries)) }
+    ensures follows { IfErr result (λ stop. stop ≡ Stop.Unlike → MembersAreNext depth reader.old → ⊥) }
     ensures shorter { OnOk result (length reader.new < length reader.old) }
 {
     let mut map = HashMap::new(alloc);
     'members: while let Some(key) = reader.next_key()? {
         let name = String::from_str(alloc, key)?;
-        let value = value(alloc, reader, depth)?;
+        let value = value(alloc, layout, reader, depth)?;
         drop(map.insert(name, value)?);
     }
-    Ok(map)
+    Ok(layout.map(alloc, map)?)
 }
 
 // The values that stand next, to the end of their array.
 #[cycle(follow)]
 fn elements(
     alloc: Global,
+    layout: Layout,
     reader: &mut Reader<'_>,
     depth: usize,
 ) -> Result<Vec<AttributeValue>, Stop>
     ensures elements { IfOk result (λ v. ItemsStand depth reader.old (elements_json (elements_view v.items)) reader.new) }
     ensures bytes { IfOk result (λ v. ElementsHaveBytes (elements_view v.items)) }
+    ensures follows { IfErr result (λ stop. stop ≡ Stop.Unlike → ElementsAreNext depth reader.old → ⊥) }
     ensures shorter { OnOk result (length reader.new < length reader.old) }
 {
     let mut elements = Vec::new(alloc);
     'elements: while !reader.take_end_array() {
-        let value = value(alloc, reader, depth)?;
+        let value = value(alloc, layout, reader, depth)?;
         elements.push(value)?;
     }
-    Ok(elements)
+    Ok(layout.list(elements))
 }
 
 // The strings that stand next, to the end of their array.
-fn strings(alloc: Global, reader: &mut Reader<'_>) -> Result<Vec<String>, Stop>
+fn strings(
+    alloc: Global,
+    layout: Layout,
+    reader: &mut Reader<'_>,
+) -> Result<Vec<String>, Stop>
     ensures strings { IfOk result (λ v. (depth : ℕ) → ItemsStand depth reader.old (texts_json (map string_bytes v.items)) reader.new) }
+    ensures follows { IfErr result (λ stop. stop ≡ Stop.Unlike → TextsAreNext reader.old → ⊥) }
     ensures shorter { OnOk result (length reader.new < length reader.old) }
 {
     let mut strings = Vec::new(alloc);
@@ -226,13 +257,18 @@ fn strings(alloc: Global, reader: &mut Reader<'_>) -> Result<Vec<String>, Stop>
         let text = string(reader)?;
         strings.push(String::from_str(alloc, text)?)?;
     }
-    Ok(strings)
+    Ok(layout.list(strings))
 }
 
 // The byte strings whose base64 texts stand next, to the end of their array.
-fn blobs(alloc: Global, reader: &mut Reader<'_>) -> Result<Vec<Vec<u8>>, Stop>
+fn blobs(
+    alloc: Global,
+    layout: Layout,
+    reader: &mut Reader<'_>,
+) -> Result<Vec<Vec<u8>>, Stop>
     ensures blobs { IfOk result (λ v. (depth : ℕ) → ItemsStand depth reader.old (texts_json (map base64_text (map (λ b. b.items) v.items))) reader.new) }
     ensures bytes { IfOk result (λ v. AllByRecursion IsBytes (map (λ b. b.items) v.items)) }
+    ensures follows { IfErr result (λ stop. stop ≡ Stop.Unlike → BlobsAreNext reader.old → ⊥) }
     ensures shorter { OnOk result (length reader.new < length reader.old) }
 {
     let mut blobs = Vec::new(alloc);
@@ -240,13 +276,14 @@ fn blobs(alloc: Global, reader: &mut Reader<'_>) -> Result<Vec<Vec<u8>>, Stop>
         let text = string(reader)?;
         blobs.push(base64_text::decode(alloc, text)?)?;
     }
-    Ok(blobs)
+    Ok(layout.list(blobs))
 }
 
 // ---- a token
 
 fn string<'a>(reader: &mut Reader<'a>) -> Result<&'a str, Stop>
-    ensures { IfOk result (λ text. reader.old ≡ token.string text.now ∷ reader.new) }
+    ensures ok { IfOk result (λ text. reader.old ≡ token.string text.now ∷ reader.new) }
+    ensures err { OnErr result ((text : List ℕ) (rest : List token.Token) → reader.old ≢ token.string text ∷ rest) }
 {
     match reader.next() {
         Some(Token::String(text)) => Ok(text),
@@ -255,7 +292,8 @@ fn string<'a>(reader: &mut Reader<'a>) -> Result<&'a str, Stop>
 }
 
 fn begin_object(reader: &mut Reader<'_>) -> Result<(), Stop>
-    ensures { OnOk result (reader.old ≡ token.begin_object ∷ reader.new) }
+    ensures ok { OnOk result (reader.old ≡ token.begin_object ∷ reader.new) }
+    ensures err { OnErr result ((rest : List token.Token) → reader.old ≢ token.begin_object ∷ rest) }
 {
     match reader.next() {
         Some(Token::BeginObject) => Ok(()),
@@ -264,7 +302,8 @@ fn begin_object(reader: &mut Reader<'_>) -> Result<(), Stop>
 }
 
 fn end_object(reader: &mut Reader<'_>) -> Result<(), Stop>
-    ensures { OnOk result (reader.old ≡ token.end_object ∷ reader.new) }
+    ensures ok { OnOk result (reader.old ≡ token.end_object ∷ reader.new) }
+    ensures err { OnErr result ((rest : List token.Token) → reader.old ≢ token.end_object ∷ rest) }
 {
     match reader.next() {
         Some(Token::EndObject) => Ok(()),
@@ -274,7 +313,8 @@ fn end_object(reader: &mut Reader<'_>) -> Result<(), Stop>
 
 // That the key of this name stands next.
 fn key_named(reader: &mut Reader<'_>, name: &str) -> Result<(), Stop>
-    ensures { OnOk result (read_key reader.old ≡ Some (Some name.now, reader.new)) }
+    ensures ok { OnOk result (read_key reader.old ≡ Some (Some name.now, reader.new)) }
+    ensures err { OnErr result ((rest : List token.Token) → read_key reader.old ≢ Some (Some name.now, rest)) }
 {
     match reader.next_key()? {
         Some(key) if key == name => Ok(()),
@@ -284,7 +324,8 @@ fn key_named(reader: &mut Reader<'_>, name: &str) -> Result<(), Stop>
 
 // That no token follows.
 fn at_end(reader: &mut Reader<'_>) -> Result<(), Stop>
-    ensures { OnOk result (reader.old ≡ []) }
+    ensures ok { OnOk result (reader.old ≡ []) }
+    ensures err { OnErr result (reader.old ≢ []) }
 {
     match reader.next() {
         None => Ok(()),

@@ -5,6 +5,7 @@ mod dynamo;
 mod from_json;
 mod from_text;
 mod json_text;
+mod layout;
 mod plain;
 mod text_error;
 mod to_json;

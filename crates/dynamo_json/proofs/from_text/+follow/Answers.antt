@@ -1,4 +1,5 @@
-use Rattle.std.proofs.Common.{◌≡◌, ◌-◌, ◌∷◌, Some, None, map, string_bytes, refl, sym, ap, ◌∙◌, rules, arith}
+use Rattle.std.proofs.Common.{◌≡◌, ◌-◌, ◌∷◌, Some, None, Err, map, string_bytes, refl, subst, sym, ap, ◌∙◌, rules, arith}
+use Rattle.std.proofs.lemmas.Result.{err_from_is_err_and}
 use Rattle.json.specs.Token as token
 use Rattle.json.specs.Json.{after_end_array, read_key}
 use Rattle.json.specs.Reads.{token_of}
@@ -7,11 +8,15 @@ use Rattle.dynamo_value.specs.Av as av
 use Rattle.dynamo_value.specs.HasBytes.{HasBytes}
 use Rattle.dynamo_value.specs.Prefix.{prefix_of, prefixes}
 use Rattle.dynamo_value.specs.PrefixView.{prefix_view}
+use Rattle.dynamo_value.specs.Kind.{fault_of}
 use Rattle.dynamo_value.specs.View.{view, entries_view, members_view}
+use Rattle.dynamo_value.specs.declared.prefix.Prefix.{Prefix}
 use Rattle.dynamo_value.specs.declared.attribute_value.AttributeValue.{N, S, Bool, B, Null, L, Ss, Ns, Bs, the_lemmas}
 use Rattle.dynamo_value.proofs.Members.{inserted}
 use Rattle.dynamo_value.proofs.Views.{view_list, view_map, view_strings, view_numbers, view_blobs}
+use Rattle.dynamo_json.specs.Followed.{ValueIsNext, ContentIsNext, ElementsAreNext, MembersAreNext}
 use Rattle.dynamo_json.specs.Json.{json_of, members_json}
+use Rattle.dynamo_json.proofs.Followed.{stops, stops_for_memory, Inside, content_decodes, element_next, elements_left, member_next, members_left, value_of_element, value_of_member, members_go_on, no_level, begins, begun, no_key, key_missing, keyed, unknown, content_next, not_closed}
 use Rattle.dynamo_json.proofs.InText.{text_stands, flag_stands, list_stands, map_stands, items_next, items_done, members_next, members_done, pushed, all_and, single}
 use Rattle.dynamo_json.proofs.ReadBack.{among}
 use Rattle.dynamo_json.proofs.Written.{elements_json-elements_of, elements_have_bytes, members_json-put, put_has_bytes}
@@ -99,16 +104,17 @@ elements-elements-preserved t c =
       left = items_next c.args.depth c.args.reader.now (map json_of old) l.reader c.value.new.reader (json_of (view a)) _ l.invariant.left going.0 here less
           (pushed json_of old (map view c.push.new.self.items) (view a) (json_of (view a)) views refl);
       bytes = rw views (all_and HasBytes old (view a) l.invariant.bytes c.in_ok-value.ensures.bytes);
+      next = λ h. elements_left c.args.depth l.reader c.value.new.reader (json_of (view a)) (element_next c.args.depth l.reader (l.invariant.next h) going.0) here;
     }
 
 pub elements-returns-clause-bytes : goal.elements-returns-clause-bytes
-elements-returns-clause-bytes t c = elements_have_bytes (map view c.elements.elements.items) c.elements.invariant.bytes
+elements-returns-clause-bytes t c = rw c.list.ensures (elements_have_bytes (map view c.elements.elements.items) c.elements.invariant.bytes)
 
 pub elements-returns-clause-elements : goal.elements-returns-clause-elements
 elements-returns-clause-elements t c =
     let l = c.elements in
     let done = items_done c.args.depth c.args.reader.now (map json_of (map view l.elements.items)) l.reader c.take_end_array.new.self l.invariant.left (grind arith) in
-    done ∙ ap (λ js. Some (js, c.take_end_array.new.self)) (sym (elements_json-elements_of (map view l.elements.items)))
+    rw c.list.ensures (done ∙ ap (λ js. Some (js, c.take_end_array.new.self)) (sym (elements_json-elements_of (map view l.elements.items))))
 
 -- ---- objects
 
@@ -127,12 +133,13 @@ members-members-preserved t c =
       left = members_next c.args.depth c.args.reader.now (members_json (members_view l.map.entries)) l.reader s c.value.new.reader k (json_of (view a)) _ l.invariant.left named
           c.in_ok-value.ensures.value c.in_ok-value.ensures.shorter put;
       bytes = rw held (put_has_bytes (string_bytes name) (view a) (entries_view l.map.entries) c.in_ok-value.ensures.bytes l.invariant.bytes);
+      next = λ h. members_left c.args.depth s c.value.new.reader (json_of (view a)) (member_next c.args.depth l.reader s k (l.invariant.next h) named) c.in_ok-value.ensures.value;
     }
 
 pub members-returns-clause-members : goal.members-returns-clause-members
 members-returns-clause-members t c =
     let l = c.members in
-    members_done c.args.depth c.args.reader.now (members_json (members_view l.map.entries)) l.reader c.next_key.new.self l.invariant.left (grind arith)
+    rw c.in_ok-map.ensures (members_done c.args.depth c.args.reader.now (members_json (members_view l.map.entries)) l.reader c.next_key.new.self l.invariant.left (grind arith))
 
 -- ---- the object of one member
 
@@ -146,6 +153,59 @@ value-returns-clause-value t c =
     let content = c.in_ok-value.ensures.value in
     let known : prefix_of k ≡ Some p = search (rules, c.named.ensures, c.in-Some-named.is) in
     let key = among prefixes k p known in
-    let stands = single c.args.depth c.args.reader.now s u c.content.new.reader c.end_object.new.reader k content.0 (omega arith) c.in_ok-begin_object.ensures named content.1
-    c.in_ok-value.ensures.shorter c.in_ok-end_object.ensures in
+    let stands = single c.args.depth c.args.reader.now s u c.content.new.reader c.end_object.new.reader k content.0 (omega arith) c.in_ok-begin_object.ensures.ok named content.1
+    c.in_ok-value.ensures.shorter c.in_ok-end_object.ensures.ok in
     stands ∙ ap (λ d. Some (d, c.end_object.new.reader)) (ap (λ name. json.object (json.member name content.0 json.no_members)) key ∙ sym content.2)
+
+-- ---- where it stops
+
+pub content-returns-in_err-decode-in-B-String-clause-follows : goal.content-returns-in_err-decode-in-B-String-clause-follows
+content-returns-in_err-decode-in-B-String-clause-follows t c =
+    let ts = c.args.reader.now in
+    let d = c.args.depth in
+    let text = c.in-B-String.text.now in
+    let first : ts ≡ token_of c.in_ok-text.field-0 ∷ c.next.new.self = grind arith in
+    let read : ts ≡ token.string text ∷ c.next.new.self = first ∙ ap (λ k. token_of k ∷ c.next.new.self) c.in-B-String.is-1 in
+    let failed = err_from_is_err_and c.from_residual-in_err-decode-in-B-String.result c.from_residual-in_err-decode-in-B-String.ensures.1 in
+    stops_for_memory c.from_residual-in_err-decode-in-B-String.result failed.0 (ContentIsNext d (prefix_view c.args.prefix) ts) failed.1 (λ h.
+    failed.2 (content_decodes d ts c.next.new.self text (fault_of c.in_err-decode-in-B-String.field-0.0)
+    (subst (λ (p : Prefix). ContentIsNext d (prefix_view p) ts) c.in-B-String.is-0 h) read c.in_err-decode-in-B-String.ensures.err))
+
+pub members-returns-in_err-value-clause-follows : goal.members-returns-in_err-value-clause-follows
+members-returns-in_err-value-clause-follows t c =
+    let l = c.members in
+    let d = c.args.depth in
+    let s = c.next_key.new.self in
+    let k = c.in-Some.key.now in
+    let named : read_key l.reader ≡ Some (Some k, s) = grind arith in
+    let failed = err_from_is_err_and c.from_residual-in_err-value.result c.from_residual-in_err-value.ensures.1 in
+    stops c.from_residual-in_err-value.result c.in_err-value.field-0.0 (ValueIsNext d s) (MembersAreNext d c.args.reader.now) (failed.1 ∙ ap Err failed.2)
+    (λ h. value_of_member d s (member_next d l.reader s k (l.invariant.next h) named)) c.in_err-value.ensures.follows
+
+pub value-returns-in_err-value-clause-follows : goal.value-returns-in_err-value-clause-follows
+value-returns-in_err-value-clause-follows t c =
+    let ts = c.args.reader.now in
+    let d = c.args.depth in
+    let s = c.begin_object.new.reader in
+    let u = c.next_key.new.self in
+    let k = c.in-Some.key.now in
+    let p = prefix_view c.in-Some-named.prefix in
+    let named : read_key s ≡ Some (Some k, u) = grind arith in
+    let known : prefix_of k ≡ Some p = search (rules, c.named.ensures, c.in-Some-named.is) in
+    let failed = err_from_is_err_and c.from_residual-in_err-value.result c.from_residual-in_err-value.ensures.1 in
+    stops c.from_residual-in_err-value.result c.in_err-value.field-0.0 (ContentIsNext (d - 1) p u) (ValueIsNext d ts) (failed.1 ∙ ap Err failed.2)
+    (λ h. content_next (d - 1) k u p (keyed (d - 1) s u k (begun d ts s h c.in_ok-begin_object.ensures.ok) named) known) c.in_err-value.ensures.follows
+
+pub value-returns-in_err-end_object-clause-follows : goal.value-returns-in_err-end_object-clause-follows
+value-returns-in_err-end_object-clause-follows t c =
+    let ts = c.args.reader.now in
+    let d = c.args.depth in
+    let s = c.begin_object.new.reader in
+    let u = c.next_key.new.self in
+    let k = c.in-Some.key.now in
+    let p = prefix_view c.in-Some-named.prefix in
+    let named : read_key s ≡ Some (Some k, u) = grind arith in
+    let failed = err_from_is_err_and c.from_residual-in_err-end_object.result c.from_residual-in_err-end_object.ensures.1 in
+    stops c.from_residual-in_err-end_object.result c.in_err-end_object.field-0.0 (Inside (d - 1) k u) (ValueIsNext d ts) (failed.1 ∙ ap Err failed.2)
+    (λ h. keyed (d - 1) s u k (begun d ts s h c.in_ok-begin_object.ensures.ok) named)
+    (λ e h. not_closed (d - 1) k u c.content.new.reader p (view c.in_ok-value.value) h c.in_ok-value.ensures.value c.in_err-end_object.ensures.err)

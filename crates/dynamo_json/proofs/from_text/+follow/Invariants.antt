@@ -2,6 +2,7 @@ use Rattle.std.proofs.Common.{◌+◌, ◌*◌, length, map}
 use Rattle.std.specs.List.{AllByRecursion}
 use Rattle.dynamo_value.specs.HasBytes.{HasBytes, MembersHaveBytes}
 use Rattle.dynamo_value.specs.View.{view, members_view}
+use Rattle.dynamo_json.specs.Followed.{ElementsAreNext, MembersAreNext}
 use Rattle.dynamo_json.specs.Json.{json_of, members_json}
 use Rattle.dynamo_json.proofs.InText.{ItemsLeft, MembersLeft}
 use Rattle.dynamo_json.proofs.from_text.+follow.Given as goal
@@ -24,6 +25,7 @@ invariant-members-members l =
     record {
       left : MembersLeft l.depth l.initial.reader (members_json ms) l.reader;
       bytes : MembersHaveBytes ms;
+      next : MembersAreNext l.depth l.initial.reader → MembersAreNext l.depth l.reader;
     }
 
 abbrev pub decreases-members-members : goal.decreases-members-members
@@ -35,6 +37,7 @@ invariant-elements-elements l =
     record {
       left : ItemsLeft l.depth l.initial.reader (map json_of as') l.reader;
       bytes : AllByRecursion HasBytes as';
+      next : ElementsAreNext l.depth l.initial.reader → ElementsAreNext l.depth l.reader;
     }
 
 abbrev pub decreases-elements-elements : goal.decreases-elements-elements

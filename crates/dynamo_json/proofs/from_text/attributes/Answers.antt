@@ -10,6 +10,6 @@ pub returns-clause-members : goal.returns-clause-members
 returns-clause-members c =
     let ts = tokens c.args.text.now in
     let ms = members_view c.in_ok-map.map.entries in
-    let first : ts ≡ token.begin_object ∷ c.begin_object.new.reader = sym c.in_ok-reader.ensures.ok ∙ c.in_ok-begin_object.ensures in
+    let first : ts ≡ token.begin_object ∷ c.begin_object.new.reader = sym c.in_ok-reader.ensures.ok ∙ c.in_ok-begin_object.ensures.ok in
     let stands = object_stands 127 ts c.begin_object.new.reader c.members.new.reader (members_json ms) (omega arith) first c.in_ok-map.ensures.members in
-    whole c.args.text.now c.members.new.reader (item_json ms) c.in_ok-at_end.ensures stands
+    whole c.args.text.now c.members.new.reader (item_json ms) c.in_ok-at_end.ensures.ok stands
