@@ -1,5 +1,5 @@
 -- What is left of the tokens of an attribute value, of a list, a map or a set, after each step of reading.
-use Rattle.std.proofs.Common.{◌≡◌, ◌≢◌, ℕ, zero, suc, ◌-◌, ◌<◌, ◌≤◌, List, [], ◌∷◌, ◌++◌, map, Option, Some, None, refl, sym, ap, ◌∙◌, subst, arith, append_assoc, inl, inr, Result, Ok, Err, IfErr}
+use Rattle.std.proofs.Common.{◌≡◌, ◌≢◌, ℕ, suc, ◌-◌, ◌≤◌, List, [], ◌∷◌, ◌++◌, map, Option, Some, None, refl, sym, ap, ◌∙◌, subst, arith, append_assoc, inl, inr, Result, Err, IfErr}
 use Rattle.std.specs.List.{AllByRecursion}
 use Rattle.base64.specs.GeneralPurpose.{IsBytes}
 use Rattle.json.specs.Json as parse
@@ -24,7 +24,6 @@ use Rattle.dynamo_value.specs.Refusal.{Refused, refusal_in}
 use Rattle.dynamo_json.specs.Followed.{SpellsItem, ValueIsNext, ContentIsNext, ElementsAreNext, MembersAreNext, TextsAreNext, BlobsAreNext, prefix_in, content_in}
 use Rattle.dynamo_json.specs.Json.{json_of, elements_json, members_json, item_json, under}
 use Rattle.dynamo_json.specs.OfText.{Stands, ContentStands, texts_json}
-use Rattle.dynamo_json.specs.OneMember.{one_member}
 use Rattle.dynamo_json.specs.StoredText.{tokens_in, tokens_within}
 use Rattle.dynamo_json.specs.Tokens.{tokens_of}
 use Rattle.dynamo_json.specs.declared.from_text.Stop.{Stop}
@@ -106,12 +105,6 @@ key_or_end k r s e = let here : Some k ≡ None = ap (λ q. q.0) (ap (pick (Some
 abbrev pub KeyIsNext : ℕ → List Token → Type 0
 KeyIsNext d s = (a : Av) × (rest : List Token) × HasBytes a × (depth (content_in a) ≤ d) × (s ≡ after_brace a rest)
 
-pub no_level : (ts : List Token) → ValueIsNext 0 ts → ⊥
-no_level ts h = let deep : depth (json_of h.0) ≡ suc (depth (content_in h.0)) = ap depth (shape h.0) ∙ omega arith in omega (arith, h.3, deep)
-
-pub begins : (d : ℕ) (ts : List Token) → ValueIsNext d ts → ((rest : List Token) → ts ≢ token.begin_object ∷ rest) → ⊥
-begins d ts h none = none _ (h.4 ∙ tokens_are h.0 h.1)
-
 pub begun : (d : ℕ) (ts s : List Token) → ValueIsNext d ts → ts ≡ token.begin_object ∷ s → KeyIsNext (d - 1) s
 begun d ts s h is =
     let deep : depth (json_of h.0) ≡ suc (depth (content_in h.0)) = ap depth (shape h.0) ∙ omega arith in
@@ -121,12 +114,6 @@ begun d ts s h is =
 -- the content stands next, and the last brace behind it
 abbrev pub Inside : ℕ → List ℕ → List Token → Type 0
 Inside d k t = (a : Av) × (rest : List Token) × HasBytes a × (depth (content_in a) ≤ d) × (k ≡ prefix_text (prefix_in a)) × (t ≡ tokens_of (content_in a) ++ token.end_object ∷ rest)
-
-pub no_key : (d : ℕ) (s : List Token) → KeyIsNext d s → read_key s ≡ None → ⊥
-no_key d s h e = let known = ap read_key h.4 in cc
-
-pub key_missing : (d : ℕ) (s t : List Token) → KeyIsNext d s → read_key s ≡ Some (None, t) → ⊥
-key_missing d s t h e = key_or_end (prefix_text (prefix_in h.0)) _ t (sym (ap read_key h.4) ∙ e)
 
 pub keyed : (d : ℕ) (s t : List Token) (k : List ℕ) → KeyIsNext d s → read_key s ≡ Some (Some k, t) → Inside d k t
 keyed d s t k h e =
@@ -145,9 +132,6 @@ prefix_back prefix.Ss = refl
 prefix_back prefix.Ns = refl
 prefix_back prefix.Bs = refl
 
-pub unknown : (d : ℕ) (k : List ℕ) (t : List Token) → Inside d k t → prefix_of k ≡ None → ⊥
-unknown d k t h e = let known = ap prefix_of h.4 ∙ prefix_back (prefix_in h.0) in cc
-
 pub content_next : (d : ℕ) (k : List ℕ) (t : List Token) (p : Prefix) → Inside d k t → prefix_of k ≡ Some p → ContentIsNext d p t
 content_next d k t p h e =
     let known : Some (prefix_in h.0) ≡ Some p = sym (ap prefix_of h.4 ∙ prefix_back (prefix_in h.0)) ∙ e in
@@ -164,10 +148,6 @@ abbrev pub MemberIsNext : ℕ → List Token → Type 0
 MemberIsNext d s =
     (a : Av) × (ms : av.Members) × (rest : List Token) × (HasBytes a × MembersHaveBytes ms)
     × (depth (json_of a) ≤ d) × (members_depth (members_json ms) ≤ d) × (s ≡ tokens_of (json_of a) ++ (tokens_within (members_json ms) ++ rest))
-
-pub members_go_on : (d : ℕ) (ts : List Token) → MembersAreNext d ts → read_key ts ≡ None → ⊥
-members_go_on d ts (av.no_members, rest, bytes, fits, is) e = let known = ap read_key is in cc
-members_go_on d ts (av.member k a ms, rest, bytes, fits, is) e = let known = ap read_key is in cc
 
 pub member_next : (d : ℕ) (ts s : List Token) (k : List ℕ) → MembersAreNext d ts → read_key ts ≡ Some (Some k, s) → MemberIsNext d s
 member_next d ts s k (av.no_members, rest, bytes, fits, is) e = absurd (key_or_end k s rest (sym e ∙ ap read_key is))
@@ -192,9 +172,6 @@ pub element_next : (d : ℕ) (ts : List Token) → ElementsAreNext d ts → afte
 element_next d ts (av.no_elements, rest, bytes, fits, is) e = let known = ap after_end_array is in absurd cc
 element_next d ts (av.element a as', rest, bytes, fits, is) e =
     (a, as', rest, bytes, omega (arith, fits), omega (arith, fits), is ∙ append_assoc (tokens_of (json_of a)) (tokens_in (elements_json as')) rest)
-
-pub value_of_element : (d : ℕ) (s : List Token) → ElementIsNext d s → ValueIsNext d s
-value_of_element d s h = (h.0, tokens_in (elements_json h.1) ++ h.2, h.3.0, h.4, h.6)
 
 pub elements_left : (d : ℕ) (s new : List Token) (j : Data) → ElementIsNext d s → Stands d s j new → ElementsAreNext d new
 elements_left d s new j h stands = (h.1, h.2, h.3.1, h.5, follows d (json_of h.0) j s new (tokens_in (elements_json h.1) ++ h.2) h.4 h.6 stands)

@@ -243,11 +243,7 @@ fn elements(
 }
 
 // The strings that stand next, to the end of their array.
-fn strings(
-    alloc: Global,
-    layout: Layout,
-    reader: &mut Reader<'_>,
-) -> Result<Vec<String>, Stop>
+fn strings(alloc: Global, layout: Layout, reader: &mut Reader<'_>) -> Result<Vec<String>, Stop>
     ensures strings { IfOk result (λ v. (depth : ℕ) → ItemsStand depth reader.old (texts_json (map string_bytes v.items)) reader.new) }
     ensures follows { IfErr result (λ stop. stop ≡ Stop.Unlike → TextsAreNext reader.old → ⊥) }
     ensures shorter { OnOk result (length reader.new < length reader.old) }
@@ -261,11 +257,7 @@ fn strings(
 }
 
 // The byte strings whose base64 texts stand next, to the end of their array.
-fn blobs(
-    alloc: Global,
-    layout: Layout,
-    reader: &mut Reader<'_>,
-) -> Result<Vec<Vec<u8>>, Stop>
+fn blobs(alloc: Global, layout: Layout, reader: &mut Reader<'_>) -> Result<Vec<Vec<u8>>, Stop>
     ensures blobs { IfOk result (λ v. (depth : ℕ) → ItemsStand depth reader.old (texts_json (map base64_text (map (λ b. b.items) v.items))) reader.new) }
     ensures bytes { IfOk result (λ v. AllByRecursion IsBytes (map (λ b. b.items) v.items)) }
     ensures follows { IfErr result (λ stop. stop ≡ Stop.Unlike → BlobsAreNext reader.old → ⊥) }

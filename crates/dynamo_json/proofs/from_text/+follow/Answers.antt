@@ -14,9 +14,9 @@ use Rattle.dynamo_value.specs.declared.prefix.Prefix.{Prefix}
 use Rattle.dynamo_value.specs.declared.attribute_value.AttributeValue.{N, S, Bool, B, Null, L, Ss, Ns, Bs, the_lemmas}
 use Rattle.dynamo_value.proofs.Members.{inserted}
 use Rattle.dynamo_value.proofs.Views.{view_list, view_map, view_strings, view_numbers, view_blobs}
-use Rattle.dynamo_json.specs.Followed.{ValueIsNext, ContentIsNext, ElementsAreNext, MembersAreNext}
+use Rattle.dynamo_json.specs.Followed.{ValueIsNext, ContentIsNext, MembersAreNext}
 use Rattle.dynamo_json.specs.Json.{json_of, members_json}
-use Rattle.dynamo_json.proofs.Followed.{stops, stops_for_memory, Inside, content_decodes, element_next, elements_left, member_next, members_left, value_of_element, value_of_member, members_go_on, no_level, begins, begun, no_key, key_missing, keyed, unknown, content_next, not_closed}
+use Rattle.dynamo_json.proofs.Followed.{stops, stops_for_memory, Inside, content_decodes, element_next, elements_left, member_next, members_left, value_of_member, begun, keyed, content_next, not_closed}
 use Rattle.dynamo_json.proofs.InText.{text_stands, flag_stands, list_stands, map_stands, items_next, items_done, members_next, members_done, pushed, all_and, single}
 use Rattle.dynamo_json.proofs.ReadBack.{among}
 use Rattle.dynamo_json.proofs.Written.{elements_json-elements_of, elements_have_bytes, members_json-put, put_has_bytes}
