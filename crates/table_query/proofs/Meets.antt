@@ -3,19 +3,15 @@ use Rattle.std.proofs.Common.{◌≡◌, ◌∙◌, ℕ, Bool, true, false, not,
 use Rattle.std.proofs.lemmas.Bool.{and_right, eqb-true, ne_eqb}
 use Rattle.std.proofs.lemmas.Bool.Decides.{nat_tests}
 use Rattle.std.specs.Borrow.{Bor}
-use Rattle.std.specs.Option.{IfSome, option_cmp}
 use Rattle.std.specs.Ordering.{is_eq, is_ge, is_gt, is_le, is_lt, is_some_and, nat_cmp, ordering_reverse}
 use Rattle.std.specs.Prelude.{◌&&◌, ◌==◌, if◌then◌else◌}
-use Rattle.table_key.specs.Held.{IsHeld}
 use Rattle.table_key.specs.KeyLaws.{value_total}
 use Rattle.table_key.specs.KeyOrder.{kind_rank, value_cmp}
 use Rattle.table_key.specs.declared.key.KeyValue.{KeyValue}
-use Rattle.table_query.specs.Places.{is_from}
-use Rattle.table_query.specs.Queries.{compared, meets, meets_sort}
-use Rattle.table_query.specs.Ranges.{IsKindEnd, IsKindStart, IsPlaceAt, MeetsBetween, MeetsNone, is_from_end, is_from_kind, is_from_sort, is_past_kind}
+use Rattle.table_query.specs.Queries.{compared}
+use Rattle.table_query.specs.Ranges.{IsKindEnd, IsKindStart, IsPlaceAt, MeetsBetween, MeetsNone}
 use Rattle.table_query.specs.declared.query.SortCondition.{SortCondition}
 use Rattle.table_query.specs.declared.sort_range.SortPlace.{SortPlace}
-use Rattle.table_query.specs.declared.sort_range.SortRange.{SortRange}
 
 -- ---- how two values compare, and their kinds
 

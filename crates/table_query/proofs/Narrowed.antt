@@ -7,7 +7,6 @@ use Rattle.table_key.specs.KeyLaws.{key_total}
 use Rattle.table_key.specs.KeyOrder.{key_cmp}
 use Rattle.table_key.specs.declared.key.Key.{Key}
 use Rattle.table_query.specs.Places.{is_from, is_from_place, place_cmp}
-use Rattle.table_query.specs.Queries.{is_behind}
 use Rattle.table_query.specs.Ranges.{is_found_between, lies_between}
 use Rattle.table_query.specs.declared.key_range.KeyRange.{KeyRange}
 use Rattle.table_query.specs.declared.place.Place.{Place}
@@ -81,9 +80,9 @@ pub by_places : (query : Query) (low high from_on up_to : Place)
     → ((key : Key) → is_found_between query low high key ≡ (is_from_place from_on key && not (is_from_place up_to key)))
     → (range : Option KeyRange)
     → MatchOption range ((key : Key) → (is_from_place from_on key && not (is_from_place up_to key)) ≡ false)
-      (λ r. (r.low ≡ from_on) × (r.high ≡ up_to))
+    (λ r. (r.low ≡ from_on) × (r.high ≡ up_to))
     → MatchOption range ((key : Key) → is_found_between query low high key ≡ false)
-      (λ r. (key : Key) → is_found_between query low high key ≡ lies_between r key)
+    (λ r. (key : Key) → is_found_between query low high key ≡ lies_between r key)
 by_places query low high from_on up_to found None none = λ key. found key ∙ none key
 by_places query low high from_on up_to found (Some r) is = λ key. rw (is.0, is.1) (found key)
 

@@ -1,11 +1,10 @@
 -- Which value comes next to another.
-use Rattle.std.proofs.Common.{◌≡◌, ◌∙◌, ℕ, ℤ, Bool, true, false, not, List, [], ◌∷◌, ◌++◌, Ordering, Less, Equal, Greater, String, Vec, Global, refl, sym, ap, string_bytes, arith}
+use Rattle.std.proofs.Common.{◌≡◌, ◌∙◌, ℕ, ℤ, true, false, List, [], ◌∷◌, ◌++◌, Ordering, Less, Equal, Greater, String, Vec, Global, refl, sym, ap, string_bytes, arith}
 use Rattle.std.proofs.lemmas.Bool.{false≢true}
 use Rattle.std.proofs.lemmas.Bool.Decides.{nat_tests}
 use Rattle.std.proofs.lemmas.Cmp.{alike_right, int_cmp_total}
 use Rattle.std.specs.Ordering.{int_cmp, is_le, is_lt, nat_cmp, ordering_then}
 use Rattle.dynamo_number.specs.Neighbours.{IsGreatest, IsNext}
-use Rattle.table_key.specs.KeyOrder.{value_cmp}
 use Rattle.table_key.specs.declared.key.KeyValue.{KeyValue}
 use Rattle.table_query.specs.Ranges.{IsNextValue}
 use Rattle.table_query.proofs.Orders.{flipped}

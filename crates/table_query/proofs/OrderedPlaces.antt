@@ -3,7 +3,7 @@ use Rattle.std.proofs.Common.{◌≡◌, ◌∙◌, Bool, true, false, not, cond
 use Rattle.std.proofs.lemmas.Bool.{false≢true, true≢false}
 use Rattle.std.proofs.lemmas.Cmp.{alike_right}
 use Rattle.std.specs.Cmp.{IsTotalOrder}
-use Rattle.std.specs.Ordering.{bool_cmp, is_le, is_lt, ord_max, ord_min, ordering_reverse, ordering_then}
+use Rattle.std.specs.Ordering.{bool_cmp, is_le, is_lt, ordering_then}
 use Rattle.std.specs.Prelude.{◌&&◌, ◌||◌, if◌then◌else◌}
 use Rattle.table_query.proofs.Orders.{flipped}
 

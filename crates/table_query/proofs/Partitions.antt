@@ -1,11 +1,11 @@
 -- What a query finds lies between two places of its partition.
 use Rattle.std.proofs.Common.{◌≡◌, ◌∙◌, Bool, true, false, not, Ordering, Less, Equal, Greater, Option, Some, None, Result, Ok, Err, refl, sym, ap}
 use Rattle.std.proofs.lemmas.Bool.{false≢true}
-use Rattle.std.specs.Option.{IfSome, option_cmp}
+use Rattle.std.specs.Option.{option_cmp}
 use Rattle.std.specs.Ordering.{is_eq, is_le, is_lt, ordering_then}
 use Rattle.std.specs.Prelude.{◌&&◌, IfOk, MatchOption}
 use Rattle.std.specs.declared.alloc.AllocError.{AllocError}
-use Rattle.table_key.specs.Held.{IsHeld, IsHeldKey}
+use Rattle.table_key.specs.Held.{IsHeldKey}
 use Rattle.table_key.specs.KeyLaws.{value_total}
 use Rattle.table_key.specs.KeyOrder.{value_cmp}
 use Rattle.table_key.specs.declared.key.Key.{Key}
@@ -142,7 +142,7 @@ pub answers : (query : Query) (range : SortRange) (low high : Place) → MeetsBe
     → IsPlaceIn query.partition.now range.low low → ((key : Key) → IsHigh query.partition.now key range.high high)
     → (result : Result (Option KeyRange) AllocError)
     → IfOk result (λ found. MatchOption found ((key : Key) → is_found_between query low high key ≡ false)
-      (λ r. (key : Key) → is_found_between query low high key ≡ lies_between r key))
+    (λ r. (key : Key) → is_found_between query low high key ≡ lies_between r key))
     → IfOk result (λ found. MatchOption found (FindsNone query) (FindsBetween query))
 answers query range low high meets is_low is_high (Ok None) none = λ key held.
     found_between query range low high key meets is_low (is_high key) held ∙ none key

@@ -1,21 +1,17 @@
 -- The values that begin with a prefix are those between two places.
-use Rattle.std.proofs.Common.{◌≡◌, ◌∙◌, ℕ, ℤ, Bool, true, false, not, Ordering, Less, Equal, Greater, Option, Some, None, String, Vec, Global, refl, sym, ap, string_bytes}
+use Rattle.std.proofs.Common.{◌≡◌, ◌∙◌, ℕ, ℤ, false, not, Ordering, Less, Equal, Greater, Option, Some, None, String, Vec, Global, refl, ap, string_bytes}
 use Rattle.std.proofs.lemmas.Str.{IsUtf8-string_bytes}
 use Rattle.std.specs.Borrow.{Bor}
 use Rattle.std.specs.List.{All}
-use Rattle.std.specs.Option.{IfSome, option_cmp}
-use Rattle.std.specs.Ordering.{is_gt, is_le, is_lt}
-use Rattle.std.specs.Prelude.{◌&&◌, IsUtf8, option_map}
-use Rattle.table_key.specs.Held.{IsByte, IsHeld}
+use Rattle.std.specs.Ordering.{is_gt, is_le}
+use Rattle.std.specs.Prelude.{◌&&◌, IsUtf8}
+use Rattle.table_key.specs.Held.{IsByte}
 use Rattle.table_key.specs.KeyOrder.{value_cmp}
 use Rattle.table_key.specs.declared.key.KeyValue.{KeyValue}
-use Rattle.table_query.specs.Places.{is_from}
-use Rattle.table_query.specs.Prefixes.{BeginsUpTo, is_before}
-use Rattle.table_query.specs.Queries.{begins_with}
-use Rattle.table_query.specs.Ranges.{IsKindEnd, IsPlaceAt, MeetsBetween, MeetsNone, is_from_end, is_from_sort}
+use Rattle.table_query.specs.Prefixes.{BeginsUpTo}
+use Rattle.table_query.specs.Ranges.{IsKindEnd, IsPlaceAt, MeetsBetween, MeetsNone}
 use Rattle.table_query.specs.declared.query.SortCondition.{SortCondition}
 use Rattle.table_query.specs.declared.sort_range.SortPlace.{SortPlace}
-use Rattle.table_query.specs.declared.sort_range.SortRange.{SortRange}
 
 -- a comparison is above, or not
 above_is : (o : Ordering) → is_gt o ≡ not (is_le o)

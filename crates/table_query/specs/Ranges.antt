@@ -1,9 +1,9 @@
 -- The keys that a query finds, as those between two places of the keys' order.
-use Rattle.std.specs.Prelude.{◌≡◌, Bool, true, false, not, ◌&&◌, Option, Some, None}
+use Rattle.std.specs.Prelude.{◌≡◌, Bool, false, not, ◌&&◌, Option, Some, None}
 use Rattle.std.specs.Option.{IfSome, option_cmp}
 use Rattle.std.specs.Ordering.{is_le, is_lt, nat_cmp}
 use Rattle.table_key.specs.Held.{IsHeld, IsHeldKey}
-use Rattle.table_key.specs.KeyOrder.{key_cmp, kind_rank, value_cmp}
+use Rattle.table_key.specs.KeyOrder.{kind_rank, value_cmp}
 use Rattle.table_key.specs.declared.key.Key.{Key}
 use Rattle.table_key.specs.declared.key.KeyValue.{KeyValue}
 use Rattle.table_query.specs.Places.{is_from, is_from_place}

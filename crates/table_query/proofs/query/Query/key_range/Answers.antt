@@ -1,5 +1,4 @@
-use Rattle.std.proofs.Common.{◌≡◌, Some, None, MatchOption, subst, sym}
-use Rattle.table_key.specs.declared.key.Key.{Key}
+use Rattle.std.proofs.Common.{MatchOption, subst, sym}
 use Rattle.table_query.specs.Ranges.{MeetsBetween, MeetsNone}
 use Rattle.table_query.proofs.Partitions.{IsHigh, answers}
 use Rattle.table_query.proofs.query.Query.key_range.Goals as goal
