@@ -13,8 +13,8 @@ returns-in_err-put-clause-err g c =
 
 pub returns-clause-holds : goal.returns-clause-holds
 returns-clause-holds g c =
-    (c.in_ok-item.item, put_under c.in_ok-item.item c.args.self.now.table c.put.new.self c.in_ok-put.field-0 c.in_ok-key.key c.in_ok-put.ensures.puts c.in_ok-key.ensures.reads, c.in_ok-item.ensures.ok)
+    (c.in_ok-item.item, put_under c.in_ok-item.item c.args.self.now.table c.put.new.self c.in_ok-put.field-0 c.in_ok-key.key c.in_ok-put.ensures.puts c.in_ok-key.ensures, c.in_ok-item.ensures.ok)
 
 pub returns-clause-others : goal.returns-clause-others
 returns-clause-others g c other differ =
-    put_elsewhere c.in_ok-item.item c.args.self.now.table c.put.new.self c.in_ok-put.field-0 c.in_ok-key.key other c.in_ok-put.ensures.puts c.in_ok-key.ensures.reads differ
+    put_elsewhere c.in_ok-item.item c.args.self.now.table c.put.new.self c.in_ok-put.field-0 c.in_ok-key.key other c.in_ok-put.ensures.puts c.in_ok-key.ensures differ
