@@ -2,6 +2,7 @@
 #![tactic(auto)]
 
 mod account;
+mod both;
 mod derived;
 mod json;
 mod leaf_readers;
@@ -12,13 +13,15 @@ mod writing;
 use refused_rows::{Stopped, end_line, word};
 use std::io;
 
-const ROWS: [&str; 18] = [
+const ROWS: [&str; 22] = [
     "write",
     "write_no_key",
     "custom",
     "read",
     "read_too_large",
     "read_too_short",
+    "texts_read",
+    "ignored_map",
     "derived",
     "json",
     "json_refused",
@@ -31,6 +34,8 @@ const ROWS: [&str; 18] = [
     "scalars_written",
     "integers_read",
     "scalars_read",
+    "ignored",
+    "other_kinds",
 ];
 
 fn run(rt: &HostRuntime, row: &str) -> Result<(), Stopped> {
@@ -41,6 +46,8 @@ fn run(rt: &HostRuntime, row: &str) -> Result<(), Stopped> {
         "read" => reading::account(rt),
         "read_too_large" => reading::too_large(rt),
         "read_too_short" => reading::too_short(rt),
+        "texts_read" => reading::texts(rt),
+        "ignored_map" => reading::ignored_map(rt),
         "derived" => derived::order(rt),
         "json" => json::ten_kinds(rt),
         "json_refused" => json::refused(rt),
@@ -53,6 +60,8 @@ fn run(rt: &HostRuntime, row: &str) -> Result<(), Stopped> {
         "scalars_written" => without_memory::scalars_written(rt),
         "integers_read" => without_memory::integers_read(rt),
         "scalars_read" => without_memory::scalars_read(rt),
+        "ignored" => without_memory::ignored(rt),
+        "other_kinds" => without_memory::other_kinds(rt),
         _ => Ok(println!(rt; "no such row")?),
     }
 }

@@ -1,10 +1,12 @@
 //! Rows that read.
 
 use crate::account::Account;
+use crate::both::Both;
 use refused_rows::{Answer, Stopped, values};
-use serde_dynamo::de::Deserialize;
+use serde_dynamo::de::{Deserialize, IgnoredAny};
 use serde_dynamo::{
-    Items, Result, from_attribute_value, from_item, from_items, to_attribute_value, to_item,
+    ByteBuf, Items, LentDeserializer, Result, from_attribute_value, from_item, from_item_ref,
+    from_items, to_attribute_value, to_item,
 };
 use std::alloc::Global;
 use std::fmt::Debug;
@@ -16,12 +18,17 @@ pub fn account(rt: &HostRuntime) -> Result<(), Stopped> {
     let value = to_attribute_value(alloc, &account)?;
     let item = to_item(alloc, &account)?;
     let items = two_items(alloc, &account)?;
+    let lent = LentDeserializer::from_attribute_value(alloc, &value);
+    let of_lent: Result<Account> = Account::deserialize(alloc, lent);
     let of_value: Result<Account> = from_attribute_value(alloc, value);
+    let of_lent_item: Result<Account> = from_item_ref(alloc, &item);
     let of_item: Result<Account> = from_item(alloc, item);
     let of_items: Result<Vec<Account>> = from_items(alloc, items);
     println!(rt;
-        "from_attribute_value: {} | from_item: {} | from_items: {}",
+        "lent: {} | from_attribute_value: {} | from_item_ref: {} | from_item: {} | from_items: {}",
+        Answer(&of_lent.map(|read| told(read == account))),
         Answer(&of_value.map(|read| told(read == account))),
+        Answer(&of_lent_item.map(|read| told(read == account))),
         Answer(&of_item.map(|read| told(read == account))),
         Answer(&of_items.map(|read| told(are_two(&read, &account))))
     )?;
@@ -60,7 +67,27 @@ pub fn too_short(rt: &HostRuntime) -> Result<(), Stopped> {
 
 fn print_read<T: Deserialize + Debug>(rt: &HostRuntime, text: &str) -> Result<(), Stopped> {
     let value = values::value(rt.alloc(), text)?;
-    let read: Result<T> = from_attribute_value(rt.alloc(), value);
-    println!(rt; "from_attribute_value: {}", Answer(&read))?;
+    println!(rt;
+        "from_attribute_value: {}",
+        Both::<T>::of(rt.alloc(), value)
+    )?;
     Ok(())
+}
+
+/// A text and a byte string, which are copied where they are lent.
+pub fn texts(rt: &HostRuntime) -> Result<(), Stopped> {
+    let alloc = rt.alloc();
+    let text = values::value(alloc, r#"{"S":"text"}"#)?;
+    let bytes = values::value(alloc, r#"{"B":"AQI="}"#)?;
+    println!(rt;
+        "text: {} | bytes: {}",
+        Both::<String>::of(alloc, text),
+        Both::<ByteBuf>::of(alloc, bytes)
+    )?;
+    Ok(())
+}
+
+/// A map of two texts, ignored: what takes memory is the list of its entries.
+pub fn ignored_map(rt: &HostRuntime) -> Result<(), Stopped> {
+    print_read::<IgnoredAny>(rt, r#"{"M":{"a":{"S":"text"},"b":{"S":"another"}}}"#)
 }

@@ -2,14 +2,15 @@
 ghost use Rattle.std.specs.Prelude.{codes};
 ghost use Rattle.serde_dynamo.specs.Datum as datum;
 
+use crate::both::Both;
 use refused_rows::{Answer, Stopped, Written, values};
-use serde_dynamo::de::{Deserialize, EnumAccess, SeqAccess, VariantAccess};
+use serde_dynamo::de::{Deserialize, EnumAccess, IgnoredAny, SeqAccess, VariantAccess};
 use serde_dynamo::ser::{Serialize, SerializeMap, SerializeSeq, SerializeStruct, Serializer};
 use serde_dynamo::{
     AttributeValue, ByteBuf, Deserializer, DeserializerEnum, DeserializerSeq, DeserializerSeqBytes,
     DeserializerSeqNumbers, DeserializerSeqStrings, DeserializerVariant, Error, ErrorImpl, Item,
     Items, Result, SerializerMap, SerializerSeq, SerializerStruct, SerializerStructVariant,
-    SerializerTupleVariant, from_attribute_value, is_float_text, to_attribute_value,
+    SerializerTupleVariant, is_float_text, to_attribute_value,
 };
 use std::alloc::Global;
 use std::collections::HashMap;
@@ -139,14 +140,14 @@ pub fn integers_read(rt: &HostRuntime) -> Result<(), Stopped> {
     let (e, f, g, h) = (seven(alloc)?, seven(alloc)?, seven(alloc)?, seven(alloc)?);
     println!(rt;
         "i8: {} | i16: {} | i32: {} | i64: {} | u8: {} | u16: {} | u32: {} | u64: {}",
-        Answer(&from_attribute_value::<i8>(alloc, a)),
-        Answer(&from_attribute_value::<i16>(alloc, b)),
-        Answer(&from_attribute_value::<i32>(alloc, c)),
-        Answer(&from_attribute_value::<i64>(alloc, d)),
-        Answer(&from_attribute_value::<u8>(alloc, e)),
-        Answer(&from_attribute_value::<u16>(alloc, f)),
-        Answer(&from_attribute_value::<u32>(alloc, g)),
-        Answer(&from_attribute_value::<u64>(alloc, h))
+        Both::<i8>::of(alloc, a),
+        Both::<i16>::of(alloc, b),
+        Both::<i32>::of(alloc, c),
+        Both::<i64>::of(alloc, d),
+        Both::<u8>::of(alloc, e),
+        Both::<u16>::of(alloc, f),
+        Both::<u32>::of(alloc, g),
+        Both::<u64>::of(alloc, h)
     )?;
     Ok(())
 }
@@ -155,13 +156,43 @@ pub fn integers_read(rt: &HostRuntime) -> Result<(), Stopped> {
 pub fn scalars_read(rt: &HostRuntime) -> Result<(), Stopped> {
     let alloc = rt.alloc();
     let letter = values::value(alloc, r#"{"S":"a"}"#)?;
-    let text = values::value(alloc, r#"{"S":"text"}"#)?;
+    let pair = values::value(alloc, r#"{"NS":["1","2"]}"#)?;
     println!(rt;
-        "bool: {} | char: {} | unit: {} | text: {}",
-        Answer(&from_attribute_value::<bool>(alloc, AttributeValue::Bool(true))),
-        Answer(&from_attribute_value::<char>(alloc, letter)),
-        Answer(&from_attribute_value::<()>(alloc, AttributeValue::Null(true))),
-        Answer(&from_attribute_value::<String>(alloc, text))
+        "bool: {} | char: {} | unit: {} | pair: {}",
+        Both::<bool>::of(alloc, AttributeValue::Bool(true)),
+        Both::<char>::of(alloc, letter),
+        Both::<()>::of(alloc, AttributeValue::Null(true)),
+        Both::<(u8, u8)>::of(alloc, pair)
+    )?;
+    Ok(())
+}
+
+/// A list of leaves and sets of all kinds, ignored.
+pub fn ignored(rt: &HostRuntime) -> Result<(), Stopped> {
+    let alloc = rt.alloc();
+    let leaves =
+        r#"{"L":[{"N":"1"},{"N":"1.5"},{"S":"text"},{"BOOL":true},{"B":"AQI="},{"NULL":true},
+        {"SS":["a","b"]},{"NS":["1","1e9"]},{"BS":["AQI=","Ag=="]},{"L":[{"L":[]}]}]}"#;
+    let leaves = values::value(alloc, leaves)?;
+    println!(rt; "leaves: {}", Both::<IgnoredAny>::of(alloc, leaves))?;
+    Ok(())
+}
+
+/// What is refused since it is of another kind.
+pub fn other_kinds(rt: &HostRuntime) -> Result<(), Stopped> {
+    let alloc = rt.alloc();
+    let bytes = values::value(alloc, r#"{"B":"AQIDBAUGBwg="}"#)?;
+    let text = values::value(alloc, r#"{"S":"text"}"#)?;
+    let number = values::value(alloc, r#"{"N":"1.5"}"#)?;
+    let texts = values::value(alloc, r#"{"SS":["a","b"]}"#)?;
+    let map = values::value(alloc, r#"{"M":{"a":{"S":"text"}}}"#)?;
+    println!(rt;
+        "bytes: {} | text: {} | number: {} | texts: {} | map: {}",
+        Both::<bool>::of(alloc, bytes),
+        Both::<u8>::of(alloc, text),
+        Both::<String>::of(alloc, number),
+        Both::<Option<char>>::of(alloc, texts),
+        Both::<(u8, u8)>::of(alloc, map)
     )?;
     Ok(())
 }

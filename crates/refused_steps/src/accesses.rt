@@ -1,19 +1,31 @@
 //! Rows of what stands in an access after a call. What is read in a box takes memory; what is read without takes none.
 
 use refused_rows::{Answer, Stopped, Written, values};
-use serde_dynamo::de::{Deserialize, MapAccess, SeqAccess, TypeSeed};
+use serde_dynamo::de::{
+    Deserialize, MapAccess, ReaderMapAccess, ReaderSeqAccess, Request, SeqAccess, TypeSeed,
+    elements_of, entries_of,
+};
 use serde_dynamo::{
     AttributeValue, ByteBuf, DeserializerMap, DeserializerSeq, DeserializerSeqBytes,
-    DeserializerSeqNumbers, DeserializerSeqStrings, Error, Item, Result,
+    DeserializerSeqNumbers, DeserializerSeqStrings, Error, Item, LentDeserializer, Result,
 };
+use std::alloc::Global;
+use std::collections::HashMap;
 use std::fmt::Debug;
 
 const TWO_ENTRIES: &str = r#"{"1":{"N":"10"},"2":{"N":"20"}}"#;
 
-/// A key of a map, and then its value and the next key.
-pub fn next_key(rt: &HostRuntime) -> Result<(), Stopped> {
+// The entries of a lent map.
+fn lent_entries<'a>(
+    alloc: Global,
+    map: &'a HashMap<String, AttributeValue>,
+) -> Result<ReaderMapAccess<LentDeserializer<'a>>> {
+    let reader = LentDeserializer::from_map(alloc, map);
+    Ok(ReaderMapAccess::new(entries_of(alloc, reader, "a map")?))
+}
+
+fn print_key<A: MapAccess<Error = Error>>(rt: &HostRuntime, mut map: A) -> Result<(), Stopped> {
     let alloc = rt.alloc();
-    let mut map = DeserializerMap::from_item(alloc, &mut values::map(alloc, TWO_ENTRIES)?)?;
     let key = map.next_key_seed(TypeSeed::<Box<u8>>::new(alloc));
     let left = map.size_hint();
     let value = map.next_value_seed(TypeSeed::<u8>::new(alloc));
@@ -27,10 +39,27 @@ pub fn next_key(rt: &HostRuntime) -> Result<(), Stopped> {
     Ok(())
 }
 
-/// A value of a map, that value again, and then the next key and value.
-pub fn next_value(rt: &HostRuntime) -> Result<(), Stopped> {
+/// A key of a map, and then its value and the next key.
+pub fn next_key(rt: &HostRuntime) -> Result<(), Stopped> {
+    let mut map = values::map(rt.alloc(), TWO_ENTRIES)?;
+    print_key(rt, DeserializerMap::from_item(rt.alloc(), &mut map)?)
+}
+
+fn print_lent_key<'a>(
+    rt: &HostRuntime,
+    map: &'a HashMap<String, AttributeValue>,
+) -> Result<(), Stopped> {
+    let entries = lent_entries(rt.alloc(), map)?;
+    print_key::<ReaderMapAccess<LentDeserializer<'a>>>(rt, entries)
+}
+
+/// The same of a lent map.
+pub fn next_lent_key(rt: &HostRuntime) -> Result<(), Stopped> {
+    print_lent_key(rt, &values::map(rt.alloc(), TWO_ENTRIES)?)
+}
+
+fn print_value<A: MapAccess<Error = Error>>(rt: &HostRuntime, mut map: A) -> Result<(), Stopped> {
     let alloc = rt.alloc();
-    let mut map = DeserializerMap::from_item(alloc, &mut values::map(alloc, TWO_ENTRIES)?)?;
     let key = map.next_key_seed(TypeSeed::<u8>::new(alloc));
     let value = map.next_value_seed(TypeSeed::<Box<u8>>::new(alloc));
     let again = map.next_value_seed(TypeSeed::<u8>::new(alloc));
@@ -44,6 +73,25 @@ pub fn next_value(rt: &HostRuntime) -> Result<(), Stopped> {
         Answer(&next)
     )?;
     Ok(())
+}
+
+/// A value of a map, that value again, and then the next key and value.
+pub fn next_value(rt: &HostRuntime) -> Result<(), Stopped> {
+    let mut map = values::map(rt.alloc(), TWO_ENTRIES)?;
+    print_value(rt, DeserializerMap::from_item(rt.alloc(), &mut map)?)
+}
+
+fn print_lent_value<'a>(
+    rt: &HostRuntime,
+    map: &'a HashMap<String, AttributeValue>,
+) -> Result<(), Stopped> {
+    let entries = lent_entries(rt.alloc(), map)?;
+    print_value::<ReaderMapAccess<LentDeserializer<'a>>>(rt, entries)
+}
+
+/// The same of a lent map.
+pub fn next_lent_value(rt: &HostRuntime) -> Result<(), Stopped> {
+    print_lent_value(rt, &values::map(rt.alloc(), TWO_ENTRIES)?)
 }
 
 // Prints an element that is read in a box, and then the next one and that there is no third.
@@ -64,41 +112,85 @@ fn print_elements<T: Deserialize + Debug, A: SeqAccess<Error = Error>>(
     Ok(())
 }
 
-/// The elements of a list.
-pub fn list(rt: &HostRuntime) -> Result<(), Stopped> {
-    let alloc = rt.alloc();
-    let list = vec![in alloc;
+// The elements of a lent list or set.
+fn lent_elements<'a>(
+    alloc: Global,
+    value: &'a AttributeValue,
+) -> Result<ReaderSeqAccess<LentDeserializer<'a>>> {
+    let reader = LentDeserializer::from_attribute_value(alloc, value);
+    let elements = elements_of(alloc, Request::Seq, reader, "a sequence")?;
+    Ok(ReaderSeqAccess::new(elements))
+}
+
+// The same of a value that is lent.
+fn print_lent<'a, T: Deserialize + Debug>(
+    rt: &HostRuntime,
+    value: &'a AttributeValue,
+) -> Result<(), Stopped> {
+    let elements = lent_elements(rt.alloc(), value)?;
+    print_elements::<T, ReaderSeqAccess<LentDeserializer<'a>>>(rt, elements)
+}
+
+fn two_values(alloc: Global) -> Result<Vec<AttributeValue>> {
+    Ok(vec![in alloc;
         values::value(alloc, r#"{"N":"1"}"#)?,
         values::value(alloc, r#"{"N":"2"}"#)?,
-    ]?;
-    print_elements::<u8, _>(rt, DeserializerSeq::from_vec(alloc, list))
+    ]?)
+}
+
+fn two_texts(alloc: Global, first: &str, second: &str) -> Result<Vec<String>> {
+    Ok(vec![in alloc;
+        String::from_str(alloc, first)?,
+        String::from_str(alloc, second)?,
+    ]?)
+}
+
+fn two_byte_strings(alloc: Global) -> Result<Vec<Vec<u8>>> {
+    Ok(vec![in alloc; vec![in alloc; 1]?, vec![in alloc; 2]?]?)
+}
+
+/// The elements of a list.
+pub fn list(rt: &HostRuntime) -> Result<(), Stopped> {
+    let list = two_values(rt.alloc())?;
+    print_elements::<u8, _>(rt, DeserializerSeq::from_vec(rt.alloc(), list))
+}
+
+/// The elements of a lent list.
+pub fn lent_list(rt: &HostRuntime) -> Result<(), Stopped> {
+    print_lent::<u8>(rt, &AttributeValue::L(two_values(rt.alloc())?))
 }
 
 /// The elements of a set of strings.
 pub fn strings(rt: &HostRuntime) -> Result<(), Stopped> {
-    let alloc = rt.alloc();
-    let set = vec![in alloc;
-        String::from_str(alloc, "a")?,
-        String::from_str(alloc, "b")?,
-    ]?;
-    print_elements::<String, _>(rt, DeserializerSeqStrings::from_vec(alloc, set))
+    let set = two_texts(rt.alloc(), "a", "b")?;
+    print_elements::<String, _>(rt, DeserializerSeqStrings::from_vec(rt.alloc(), set))
+}
+
+/// The elements of a lent set of strings.
+pub fn lent_strings(rt: &HostRuntime) -> Result<(), Stopped> {
+    print_lent::<String>(rt, &AttributeValue::Ss(two_texts(rt.alloc(), "a", "b")?))
 }
 
 /// The elements of a set of numbers.
 pub fn numbers(rt: &HostRuntime) -> Result<(), Stopped> {
-    let alloc = rt.alloc();
-    let set = vec![in alloc;
-        String::from_str(alloc, "1")?,
-        String::from_str(alloc, "2")?,
-    ]?;
-    print_elements::<u8, _>(rt, DeserializerSeqNumbers::from_vec(alloc, set))
+    let set = two_texts(rt.alloc(), "1", "2")?;
+    print_elements::<u8, _>(rt, DeserializerSeqNumbers::from_vec(rt.alloc(), set))
+}
+
+/// The elements of a lent set of numbers.
+pub fn lent_numbers(rt: &HostRuntime) -> Result<(), Stopped> {
+    print_lent::<u8>(rt, &AttributeValue::Ns(two_texts(rt.alloc(), "1", "2")?))
 }
 
 /// The elements of a set of byte strings.
 pub fn byte_strings(rt: &HostRuntime) -> Result<(), Stopped> {
-    let alloc = rt.alloc();
-    let set = vec![in alloc; vec![in alloc; 1]?, vec![in alloc; 2]?]?;
-    print_elements::<ByteBuf, _>(rt, DeserializerSeqBytes::from_vec(alloc, set))
+    let set = two_byte_strings(rt.alloc())?;
+    print_elements::<ByteBuf, _>(rt, DeserializerSeqBytes::from_vec(rt.alloc(), set))
+}
+
+/// The elements of a lent set of byte strings.
+pub fn lent_byte_strings(rt: &HostRuntime) -> Result<(), Stopped> {
+    print_lent::<ByteBuf>(rt, &AttributeValue::Bs(two_byte_strings(rt.alloc())?))
 }
 
 /// The entries of an item, which leave it, and what is left of the item.
