@@ -132,12 +132,14 @@ impl<D, L, M, C> Showing<D, L, M, C> {
         }
     }
 
-    /// The elements or the entries that lie inside. The rest is let go.
+    /// Returns the elements or the entries that lie inside, and drops the rest.
     pub fn inside(self) -> Inside<L, M>
     where
         D: Drop,
         C: Drop,
-        ensures { (source : D → Source) (elements : L → List Source) (entries : M → List Entry) (variants : C → Result (List ℕ × Option Source) Fault) → inside_shown (Ok (seen source elements entries variants self)) ≡ Ok (inside_seen elements entries result) }
+        ensures { (source : D → Source) (elements : L → List Source) (entries : M → List Entry)
+            (variants : C → Result (List ℕ × Option Source) Fault)
+            → inside_shown (Ok (seen source elements entries variants self)) ≡ Ok (inside_seen elements entries result) }
     {
         match self {
             Showing::Sequence(elements) => Inside::Elements(elements),

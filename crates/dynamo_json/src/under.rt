@@ -22,7 +22,7 @@ use std::alloc::{AllocError, Global};
 /// one with other spaces or escapes, with the attributes in another order, or with a name twice, of which the last value stays.
 ///
 /// `None` where the text isn't followed to its end: it is no JSON, or deeper than 127 levels; it is no such object, as
-/// `{"Item": {}, "Count": 1}` isn't; or what stands under the name isn't written as DynamoDB JSON is, as in `{"Item": {"Id": 103}}`.
+/// `{"Item": {}, "Count": 1}` isn't; or the value under the name isn't written as DynamoDB JSON is, as in `{"Item": {"Id": 103}}`.
 /// Whether there is an item all the same, and otherwise what is wrong, the JSON value of the text tells.
 ///
 /// The item is as `DynamoJson::from_json` makes it: at every depth a map is walked by the names of its attributes, and a list or a

@@ -46,7 +46,9 @@ pub enum Scalar {
 impl Scalar {
     /// What a reader shows of it. It takes no memory.
     pub fn shown<D, L, M, C>(self) -> Showing<D, L, M, C>
-        ensures { (source : D → Source) (elements : L → List Source) (entries : M → List Entry) (variants : C → Result (List ℕ × Option Source) Fault) → seen source elements entries variants result ≡ scalar_sight self }
+        ensures { (source : D → Source) (elements : L → List Source) (entries : M → List Entry)
+            (variants : C → Result (List ℕ × Option Source) Fault)
+            → seen source elements entries variants result ≡ scalar_sight self }
     {
         match self {
             Scalar::Bool(v) => Showing::Bool(v),

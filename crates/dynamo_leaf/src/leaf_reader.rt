@@ -35,7 +35,8 @@ pub fn raise<R: LeafReader, L, M>(
     leaf: Leaf,
     text: String,
 ) -> Showing<R, L, M, R::Choice>
-    ensures { (elements : L → List Source) (entries : M → List Entry) → seen R.leaf_source elements entries R.leaf_chosen result ≡ leaf_sight (string_bytes text) leaf }
+    ensures { (elements : L → List Source) (entries : M → List Entry)
+        → seen R.leaf_source elements entries R.leaf_chosen result ≡ leaf_sight (string_bytes text) leaf }
 {
     match leaf {
         Leaf::Scalar(scalar) => scalar.shown(),

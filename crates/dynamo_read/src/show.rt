@@ -94,7 +94,9 @@ fn number(alloc: Global, request: Request, value: AttributeValue) -> Result<Show
 // A boolean.
 #[inline(always)]
 pub(crate) fn boolean<D, L, M, C>(value: &AttributeValue) -> Result<Showing<D, L, M, C>>
-    ensures { (source : D → Source) (elements : L → List Source) (entries : M → List Entry) (variants : C → Result (List ℕ × Option Source) Fault) → Shows fault_of source elements entries variants (bool_shown (view value.now)) result }
+    ensures { (source : D → Source) (elements : L → List Source) (entries : M → List Entry)
+        (variants : C → Result (List ℕ × Option Source) Fault)
+        → Shows fault_of source elements entries variants (bool_shown (view value.now)) result }
 {
     match value {
         AttributeValue::Bool(b) => Ok(Showing::Bool(*b)),
@@ -105,7 +107,9 @@ pub(crate) fn boolean<D, L, M, C>(value: &AttributeValue) -> Result<Showing<D, L
 // The one character of a string.
 #[inline(always)]
 pub(crate) fn character<D, L, M, C>(value: &AttributeValue) -> Result<Showing<D, L, M, C>>
-    ensures { (source : D → Source) (elements : L → List Source) (entries : M → List Entry) (variants : C → Result (List ℕ × Option Source) Fault) → Shows fault_of source elements entries variants (char_shown (view value.now)) result }
+    ensures { (source : D → Source) (elements : L → List Source) (entries : M → List Entry)
+        (variants : C → Result (List ℕ × Option Source) Fault)
+        → Shows fault_of source elements entries variants (char_shown (view value.now)) result }
 {
     match value {
         AttributeValue::S(text) => only_char(text.as_str()),
@@ -116,7 +120,9 @@ pub(crate) fn character<D, L, M, C>(value: &AttributeValue) -> Result<Showing<D,
 // The one character of a text; the first where there are more, which a visitor may refuse for what it is.
 #[tactic(auto, using(crate::proofs::Characters::only_one, crate::proofs::Characters::first_of_more))]
 fn only_char<D, L, M, C>(text: &str) -> Result<Showing<D, L, M, C>>
-    ensures { (source : D → Source) (elements : L → List Source) (entries : M → List Entry) (variants : C → Result (List ℕ × Option Source) Fault) → Shows fault_of source elements entries variants (chars_shown (chars text.now)) result }
+    ensures { (source : D → Source) (elements : L → List Source) (entries : M → List Entry)
+        (variants : C → Result (List ℕ × Option Source) Fault)
+        → Shows fault_of source elements entries variants (chars_shown (chars text.now)) result }
 {
     let mut chars = text.chars();
     let Some(first) = chars.next() else {
@@ -167,7 +173,9 @@ pub(crate) fn null<D, L, M, C>(
     otherwise: ErrorImpl,
     value: &AttributeValue,
 ) -> Result<Showing<D, L, M, C>>
-    ensures { (source : D → Source) (elements : L → List Source) (entries : M → List Entry) (variants : C → Result (List ℕ × Option Source) Fault) → Shows fault_of source elements entries variants (null_shown (fault_of otherwise) (view value.now)) result }
+    ensures { (source : D → Source) (elements : L → List Source) (entries : M → List Entry)
+        (variants : C → Result (List ℕ × Option Source) Fault)
+        → Shows fault_of source elements entries variants (null_shown (fault_of otherwise) (view value.now)) result }
 {
     match value {
         AttributeValue::Null(true) => Ok(Showing::Unit),
