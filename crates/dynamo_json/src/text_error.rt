@@ -51,3 +51,5 @@ impl fmt::Display for TextError {
         }
     }
 }
+
+impl std::error::Error for TextError {}

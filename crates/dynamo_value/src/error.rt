@@ -198,6 +198,10 @@ impl fmt::Display for ErrorImpl {
     }
 }
 
+impl std::error::Error for Error {}
+
+impl std::error::Error for ErrorImpl {}
+
 // What Rust's `ParseIntError` prints.
 fn why_no_integer(cause: &ParseIntError) -> &'static str
     ensures { result.now ≡ integer_cause (error_kind cause.now) }
