@@ -6,12 +6,13 @@ use crate::tables::{number_of, second};
 use crate::{digest, purchases};
 use dynamo_value::{AttributeValue, Item};
 use memory_table::Table;
-use sqlite::MemStore;
+use sqlite::FileStore;
+use sqlite_disk::Memory;
 use std::alloc::{AllocError, Global};
 use std::collections::HashMap;
 use table_key::{Key, KeySchema, KeyValue};
 use table_query::{Query, SortCondition};
-use table_store::{TableStore, create_in_memory};
+use table_store::{TableStore, create_in_memory_file};
 
 const READINGS_KEYS: [&str; 2] = ["of:S", "at:N"];
 
@@ -103,7 +104,7 @@ impl Asked for Table {
 }
 
 // The table in a database that is asked.
-type Database = TableStore<MemStore>;
+type Database = TableStore<FileStore<Memory>>;
 
 impl Asked for Database {
     fn put_all(&mut self, items: Vec<Item>) -> Result<(), Stopped> {
@@ -130,7 +131,7 @@ impl Asked for Database {
 
 // A table without items in a database.
 fn database(alloc: Global, keys: &[&str]) -> Result<Database, Stopped> {
-    Ok(create_in_memory(alloc, "asked", KeySchema::parse(alloc, keys)?)?)
+    Ok(create_in_memory_file(alloc, "asked", KeySchema::parse(alloc, keys)?)?)
 }
 
 /// The digest of a round.
