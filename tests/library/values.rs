@@ -1,4 +1,5 @@
 //! Attribute values, items and errors themselves.
+mod carried;
 mod equality;
 mod faults;
 mod floats;
