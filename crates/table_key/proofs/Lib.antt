@@ -1,3 +1,4 @@
 pub mod Clones
+pub mod EqualKeys
 pub mod OneKey
 pub mod Words

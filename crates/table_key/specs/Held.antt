@@ -1,5 +1,5 @@
 -- What the values of a key can be.
-use Rattle.std.specs.Prelude.{ℕ, ◌^◌, ◌<◌, ⊤}
+use Rattle.std.specs.Prelude.{ℕ, ◌<◌, ⊤}
 use Rattle.std.specs.List.{All}
 use Rattle.std.specs.Option.{IfSome}
 use Rattle.dynamo_number.specs.Neighbours.{IsKeptNumber}

@@ -2,7 +2,7 @@ ghost use Rattle.std.specs.Prelude.{◌≡◌, ◌≢◌, refl, MatchOption};
 ghost use Rattle.std.specs.Cmp.{partial_equiv_from_equiv, eq_by_cmp_equiv, po};
 ghost use Rattle.std.specs.Ordering.{eq_by_cmp, as_partial_cmp};
 ghost use Rattle.std.specs.declared.cmp.Ordering.TheVariants.{Equal};
-ghost use Rattle.table_key.specs.KeyOrder.{kind_name, kind_rank, value_cmp};
+ghost use Rattle.table_key.specs.KeyOrder.{key_cmp, kind_name, kind_rank, value_cmp};
 ghost use Rattle.table_key.specs.KeyLaws.{value_total};
 
 use dynamo_number::Number;
@@ -99,6 +99,18 @@ impl Clone for KeyValue {
             KeyValue::B(bytes) => {
                 KeyValue::B(Vec::from_slice(*bytes.allocator(), bytes.as_slice())?)
             }
+        })
+    }
+}
+
+/// The clone is equal. Cloning numbers takes no memory.
+impl Clone for Key {
+    ghost is_clone = { λ key copy. key_cmp copy key ≡ Equal };
+
+    fn clone(&self) -> Result<Key, AllocError> {
+        Ok(Key {
+            partition: self.partition.clone()?,
+            sort: self.sort.as_ref().cloned()?,
         })
     }
 }

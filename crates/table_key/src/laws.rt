@@ -1,6 +1,7 @@
 //! Laws that tie the definitions together. Each is a function that does nothing, whose contract says the law.
 ghost use Rattle.std.specs.Prelude.{◌≡◌, ℕ, ℤ, List, Ok};
 ghost use Rattle.dynamo_value.specs.declared.item.Item.{Item};
+ghost use Rattle.table_key.specs.Held.{IsHeldKey};
 ghost use Rattle.table_key.specs.KeyOf.{ReadsKey};
 ghost use Rattle.table_key.specs.KeyOrder.{key_cmp};
 ghost use Rattle.dynamo_number.specs.Numbers.{IsNumber};
@@ -10,8 +11,13 @@ ghost use Rattle.std.specs.declared.cmp.Ordering.TheVariants.{Equal};
 
 /// All keys that are read from one item are one key, so that what is put is found under every key that is read from it; a text
 /// says one number.
+///
+/// A key that is equal to an item's is the item's too, and its values are ones that DynamoDB keeps if those of the other are.
 pub fn one_key()
     ensures key { (schema : KeySchema) (item : Item) (key other : Key)
         → ReadsKey schema item (Ok key) → ReadsKey schema item (Ok other) → key_cmp key other ≡ Equal }
+    ensures equal { (schema : KeySchema) (item : Item) (key other : Key)
+        → ReadsKey schema item (Ok key) → key_cmp other key ≡ Equal → ReadsKey schema item (Ok other) }
+    ensures held { (key other : Key) → IsHeldKey key → key_cmp other key ≡ Equal → IsHeldKey other }
     ensures number { (text : List ℕ) (y z : ℤ) → IsNumber text y → IsNumber text z → y ≡ z }
 {}

@@ -1,3 +1,4 @@
+use Rattle.table_key.proofs.EqualKeys.{equal_too, held_key_too}
 use Rattle.table_key.proofs.OneKey.{key_once, number_once}
 use Rattle.table_key.proofs.laws.one_key.Goals as goal
 
@@ -6,3 +7,9 @@ returns-clause-key c = key_once
 
 pub returns-clause-number : goal.returns-clause-number
 returns-clause-number c = number_once
+
+pub returns-clause-equal : goal.returns-clause-equal
+returns-clause-equal c = equal_too
+
+pub returns-clause-held : goal.returns-clause-held
+returns-clause-held c = held_key_too

@@ -1,4 +1,4 @@
-use Rattle.std.proofs.Common.{◌≡◌, ◌∙◌}
+use Rattle.std.proofs.Common.{◌∙◌}
 use Rattle.table_key.proofs.Clones.{same_bytes, same_number, same_text}
 use Rattle.table_key.proofs.key.KeyValueClone.clone.Goals.{in-S+in_ok-clone-in-S, in-N+in_ok-clone-in-N, in-B+in_ok-from_slice-in-B}
 use Rattle.table_key.proofs.key.KeyValueClone.clone.Goals as goal
