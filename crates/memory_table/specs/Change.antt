@@ -1,5 +1,5 @@
 -- What a change of a table answers, and what it leaves.
-use Rattle.std.specs.Prelude.{◌≡◌, Option, Some, None, Result, Ok, Err, MatchResult, MatchOption, is_some}
+use Rattle.std.specs.Prelude.{◌≡◌, ◌⊎◌, Option, Some, None, Result, Ok, Err, MatchResult, MatchOption, is_some}
 use Rattle.std.specs.BTreeMap.{get, Updates}
 use Rattle.std.specs.Bool.{MatchBool}
 use Rattle.std.specs.Ordering.{is_ne}
@@ -30,6 +30,16 @@ PutsIf condition item old new r =
     × MatchResult key
     (λ k. MatchBool (holds condition (is_some (get key_cmp (items_of old) k))) (Puts k item old new r) (Refuses TableError.ConditionFailed old new r))
     (λ error. Refuses error old new r)
+
+-- The item is put under its own key, which is returned, and other keys keep what they have. Or the item has no key, or memory
+-- is wanting.
+abbrev pub PutsItem : Item → Table → Table → Result Key TableError → Type 0
+PutsItem item old new r =
+    MatchResult r
+    (λ key. ReadsKey (schema_of old) item (Ok key)
+    × Updates key_cmp (items_of old) (items_of new) key (Some item))
+    (λ error. (ReadsKey (schema_of old) item (Err error) ⊎ (error ≡ TableError.OutOfMemory))
+    × (entries_of new ≡ entries_of old))
 
 -- nothing is under the key from now on, where the condition holds of what was there, which is the answer
 abbrev pub DeletesIf : Condition → Key → Table → Table → Result (Option Item) TableError → Type 0

@@ -1,7 +1,7 @@
 ghost use Rattle.std.specs.Prelude.{◌≡◌, None, [], IsTrue, ◌↔◌, length, option_map, OnOk};
 ghost use Rattle.std.specs.BTreeMap.{get, IsOrdered, Updates};
 ghost use Rattle.std.specs.Fn.{FnOnceReturnsAt};
-ghost use Rattle.memory_table.specs.Change.{DeletesIf, PutsIf, Replaces, UpdatesItem};
+ghost use Rattle.memory_table.specs.Change.{DeletesIf, PutsIf, PutsItem, UpdatesItem};
 ghost use Rattle.memory_table.specs.Content.{items_of, entries_of, schema_of};
 ghost use Rattle.table_key.specs.KeyOf.{ReadsKey};
 ghost use Rattle.table_key.specs.KeyOrder.{key_cmp};
@@ -95,6 +95,22 @@ impl Table {
         }
     }
 
+    /// Puts an item under its key, and returns the key. It drops the item that was there.
+    ///
+    /// # Errors
+    ///
+    /// Those of [`KeySchema::key_of`], and `OutOfMemory`. The table has then the items that it had.
+    pub fn put_returning_key(&mut self, item: Item) -> Result<Key, TableError>
+        ensures puts { PutsItem item self.old self.new result }
+        ensures ordered { OnOk result (IsOrdered key_cmp (items_of self.new)) }
+        ensures schema { schema_of self.new ≡ schema_of self.old }
+    {
+        let key = self.schema.key_of(&item)?;
+        let copy = key.clone()?;
+        self.items.insert(key, item)?;
+        Ok(copy)
+    }
+
     /// Takes out the item under a key, where there is one.
     pub fn delete(&mut self, key: &Key) -> Option<Item>
         ensures before { result ≡ get key_cmp (items_of self.old) key.now }
@@ -121,12 +137,11 @@ impl Table {
                 Some(item) => Ok(Some(item)),
                 None => Err(TableError::ConditionFailed),
             },
-            Condition::NotExists => {
-                if self.items.contains_key(key) {
-                    return Err(TableError::ConditionFailed);
-                }
-                Ok(self.items.remove(key))
-            }
+            // Of a search alone, only `get_mut` says that the items are in order.
+            Condition::NotExists => match self.items.get_mut(key) {
+                Some(_) => Err(TableError::ConditionFailed),
+                None => Ok(None),
+            },
         }
     }
 
@@ -146,24 +161,15 @@ impl Table {
         ensures ordered { OnOk result (IsOrdered key_cmp (items_of self.new)) }
         ensures schema { schema_of self.new ≡ schema_of self.old }
     {
-        let Some(item) = self.items.get(key) else {
+        let Some(place) = self.items.get_mut(key) else {
             return Err(TableError::NoItem);
         };
-        let changed = change(item)?;
-        self.replace(key, changed)
-    }
-
-    // Puts an item in the place of the one under its key, which is to be this.
-    fn replace(&mut self, key: &Key, item: Item) -> Result<(), TableError>
-        ensures replaces { Replaces key.now self.old self.new result item }
-        ensures ordered { OnOk result (IsOrdered key_cmp (items_of self.new)) }
-        ensures schema { schema_of self.new ≡ schema_of self.old }
-    {
+        let item = change(place)?;
         let own_key = self.schema.key_of(&item)?;
         if own_key.cmp(key).is_ne() {
             return Err(TableError::KeyChanged);
         }
-        self.items.insert(own_key, item)?;
+        *place = item;
         Ok(())
     }
 }

@@ -6,9 +6,14 @@ use Rattle.memory_table.proofs.table.Table.found_among_few.Goals as goal
 
 pub returns : goal.returns
 returns c =
+    let query = c.args.query.now in
     let found = c.loop-key.found.items in
-    let turned : c.if-query.found.items ≡ (if c.args.query.now.backward then reverse found else found) = elim c.if-query.branch [
-      | then-query w ↦ (λ i. (w.found-is i).items) ∙ w.reverse.ensures.items ∙ ap (λ b. if b then reverse found else found) (sym w.if-query.true)
-      | else-query w ↦ (λ i. (w.found-is i).items) ∙ ap (λ b. if b then reverse found else found) (sym w.if-query.false)
+    let kept = c.if-query.found.items in
+    let turned : kept ≡ (if query.backward then reverse found else found) = elim c.if-query.branch [
+      | then-query w ↦ (λ i. (w.found-is i).items) ∙ w.reverse.ensures.items
+          ∙ ap (λ b. if b then reverse found else found) (sym w.if-query.true)
+      | else-query w ↦ (λ i. (w.found-is i).items)
+          ∙ ap (λ b. if b then reverse found else found) (sym w.if-query.false)
     ] in
-    answered c.args.query.now (entries_of c.args.self.now) _ found c.if-query.found.items c.truncate.new.self.items c.in-None.ensures.steps.0 c.loop-key.invariant turned c.truncate.ensures.items
+    answered query (entries_of c.args.self.now) _ found kept c.truncate.new.self.items
+    c.in-None.ensures.steps.0 c.loop-key.invariant turned c.truncate.ensures.items
