@@ -64,9 +64,7 @@ impl<T: Keyed> TypedTable<T> {
         ensures schema { schema_of (table_of self.new) ≡ schema_of (table_of self.old) }
     {
         let item = item_of(self.alloc, value)?;
-        let key = self.table.key_of(&item)?;
-        self.table.put(item)?;
-        Ok(key)
+        Ok(self.table.put_returning_key(item)?)
     }
 
     /// The value under a key, where there is one.
