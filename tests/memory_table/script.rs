@@ -20,6 +20,7 @@ pub fn answer(alloc: Global, table: &mut Table, line: &str) -> Result<String, Ta
         "put" => put(alloc, table, Condition::Always, line),
         "put-new" => put(alloc, table, Condition::NotExists, line),
         "put-there" => put(alloc, table, Condition::Exists, line),
+        "put-key" => put_key(alloc, table, line),
         "delete" => delete(alloc, table, line),
         "delete-new" => delete_if(alloc, table, Condition::NotExists, line),
         "delete-there" => delete_if(alloc, table, Condition::Exists, line),
@@ -68,6 +69,13 @@ fn put(
     let item = item(alloc, line, 3)?;
     let before = table.put_if(condition, item)?;
     told(alloc, before.as_ref())
+}
+
+// What is under the key that the put returns.
+fn put_key(alloc: Global, table: &mut Table, line: &str) -> Result<String, TableError> {
+    let item = item(alloc, line, 3)?;
+    let key = table.put_returning_key(item)?;
+    told(alloc, table.get(&key))
 }
 
 fn get(alloc: Global, table: &Table, line: &str) -> Result<String, TableError> {
