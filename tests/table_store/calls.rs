@@ -98,6 +98,24 @@ fn number(alloc: Global, number: usize) -> Result<AttributeValue, AllocError> {
     Ok(AttributeValue::N(format!(in alloc; "{number}")?))
 }
 
+/// The kinds of the keys of twelve tables: partition keys of each kind, with a sort key of each kind and without one.
+pub fn shapes(alloc: Global) -> Result<Vec<Shape>, AllocError> {
+    let mut shapes = Vec::new(alloc);
+    for partition in KINDS {
+        shapes.push(Shape {
+            partition,
+            sort: None,
+        })?;
+        for sort in KINDS {
+            shapes.push(Shape {
+                partition,
+                sort: Some(sort),
+            })?;
+        }
+    }
+    Ok(shapes)
+}
+
 impl Shape {
     /// The names and the kinds of the keys.
     pub fn schema(self, alloc: Global) -> Result<KeySchema, AllocError> {

@@ -3,23 +3,33 @@
 //! Ten thousand calls are drawn at random, each on one of twelve tables: their partition keys are of each of the three kinds,
 //! with a sort key of each kind and without one. What the list answers, items or a refusal, the table in memory and the one in
 //! the database have to answer too, and to have as many items afterwards. Printed is how many calls there were of each kind,
-//! how many of them were refused, and the first that differs, if any does.
+//! how many of them were refused, and the first that differs, if any does. Fewer calls follow on tables in a database of pages
+//! in memory, where each change copies the log.
+//!
+//! Then both kinds of tables are queried for values that lie close to each other, and answer as a plain filter does. Last the
+//! rows are counted that a database reads for a query.
 #![tactic(auto)]
 
 mod calls;
+mod counting;
+mod decimal;
 mod list;
+mod pools;
+mod queries;
+mod question;
+mod reads;
 mod tables;
 mod three;
 mod words;
 
-use calls::{Call, Draw, NAMES, Shape};
-use sqlite::{Alter, MemStore};
+use calls::{Call, Draw, NAMES, Shape, shapes};
+use sqlite::{Alter, FileStore, MemStore};
+use sqlite_disk::Memory;
 use std::alloc::Global;
 use std::io;
 use table_key::KeyKind;
-use table_store::{StoreError, create_in_memory};
+use table_store::{StoreError, create_in_memory, create_in_memory_file};
 use three::{Outcome, Three};
-use words::KINDS;
 
 // How many calls of one kind were made, and how many of them refused.
 #[derive(Clone, Copy)]
@@ -46,23 +56,31 @@ impl Tally {
     }
 }
 
-fn empty(
-    alloc: Global,
-    partition: KeyKind,
-    sort: Option<KeyKind>,
-) -> Result<Three<MemStore>, StoreError> {
-    let shape = Shape { partition, sort };
-    let store = create_in_memory(alloc, "table", shape.schema(alloc)?)?;
-    Three::new(alloc, shape, store)
+// The tables in a database that keeps its rows in one list.
+fn listed(alloc: Global) -> Result<Vec<Three<MemStore>>, StoreError> {
+    let mut tables = Vec::new(alloc);
+    for shape in shapes(alloc)? {
+        let store = create_in_memory(alloc, "table", shape.schema(alloc)?)?;
+        tables.push(Three::new(alloc, shape, store)?)?;
+    }
+    Ok(tables)
 }
 
-fn twelve(alloc: Global) -> Result<Vec<Three<MemStore>>, StoreError> {
+// Four of the tables, in databases of pages. Each takes the memory of two thousand pages at once.
+fn paged(alloc: Global) -> Result<Vec<Three<FileStore<Memory>>>, StoreError> {
     let mut tables = Vec::new(alloc);
-    for partition in KINDS {
-        tables.push(empty(alloc, partition, None)?)?;
-        for sort in KINDS {
-            tables.push(empty(alloc, partition, Some(sort))?)?;
-        }
+    for shape in [
+        (KeyKind::S, None),
+        (KeyKind::N, Some(KeyKind::S)),
+        (KeyKind::B, Some(KeyKind::N)),
+        (KeyKind::S, Some(KeyKind::B)),
+    ] {
+        let shape = Shape {
+            partition: shape.0,
+            sort: shape.1,
+        };
+        let store = create_in_memory_file(alloc, "table", shape.schema(alloc)?)?;
+        tables.push(Three::new(alloc, shape, store)?)?;
     }
     Ok(tables)
 }
@@ -76,7 +94,7 @@ fn call<S: Alter + Drop>(
 ) -> Result<bool, StoreError> {
     // A put is drawn twice as often as a call of another kind.
     let name = draw.below(10) % 8;
-    let Some(three) = tables.get_mut(draw.below(12)) else {
+    let Some(three) = tables.get_mut(draw.below(tables.len())) else {
         return Ok(false);
     };
     let call = draw.call(name, three.shape());
@@ -88,7 +106,11 @@ fn call<S: Alter + Drop>(
     Ok(outcome != Outcome::Differs)
 }
 
-fn run<S: Alter + Drop>(alloc: Global, tables: &mut [Three<S>]) -> Result<Tally, StoreError> {
+fn run<S: Alter + Drop>(
+    alloc: Global,
+    tables: &mut [Three<S>],
+    calls: u32,
+) -> Result<Tally, StoreError> {
     let mut draw = Draw::new(20);
     let mut tally = Tally {
         counts: [Count {
@@ -97,7 +119,7 @@ fn run<S: Alter + Drop>(alloc: Global, tables: &mut [Three<S>]) -> Result<Tally,
         }; 8],
         differing: None,
     };
-    for _ in 0..10_000u32 {
+    for _ in 0..calls {
         if !call(alloc, tables, &mut draw, &mut tally)? {
             break;
         }
@@ -106,14 +128,25 @@ fn run<S: Alter + Drop>(alloc: Global, tables: &mut [Three<S>]) -> Result<Tally,
 }
 
 fn counted(alloc: Global) -> Result<Tally, StoreError> {
-    let mut tables = twelve(alloc)?;
-    run(alloc, tables.as_mut_slice())
+    let mut tables = listed(alloc)?;
+    run(alloc, tables.as_mut_slice(), 10_000)
+}
+
+fn counted_in_pages(alloc: Global) -> Result<Tally, StoreError> {
+    let mut tables = paged(alloc)?;
+    run(alloc, tables.as_mut_slice(), 400)
 }
 
 fn print(rt: &HostRuntime, tally: &Tally) -> io::Result<()> {
-    let mut all = 0u64;
     for (name, count) in NAMES.iter().zip(tally.counts.iter()) {
         println!(rt; "{name}: {} calls, {} refused", count.made, count.refused)?;
+    }
+    print_all(rt, tally)
+}
+
+fn print_all(rt: &HostRuntime, tally: &Tally) -> io::Result<()> {
+    let mut all = 0u64;
+    for count in tally.counts {
         all = all.saturating_add(count.made);
     }
     match tally.differing {
@@ -124,7 +157,13 @@ fn print(rt: &HostRuntime, tally: &Tally) -> io::Result<()> {
 
 fn main(rt: HostRuntime) -> io::Result<()> {
     match counted(rt.alloc()) {
-        Ok(tally) => print(&rt, &tally),
-        Err(error) => println!(rt; "{error}"),
+        Ok(tally) => print(&rt, &tally)?,
+        Err(error) => println!(rt; "{error}")?,
     }
+    match counted_in_pages(rt.alloc()) {
+        Ok(tally) => print_all(&rt, &tally)?,
+        Err(error) => println!(rt; "{error}")?,
+    }
+    queries::print_answers(&rt)?;
+    reads::print_reads(&rt)
 }
