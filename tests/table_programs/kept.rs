@@ -3,7 +3,9 @@ use crate::member::Member;
 use crate::members::member;
 use sqlite::{Alter, Connection, MemStore};
 use table_query::Query;
+use table_store::create_in_memory_file;
 use typed_store::TypedStore;
+use typed_table::Keyed;
 
 // A member that is put, found and taken out.
 fn print_life<S: Alter + Drop>(
@@ -38,6 +40,19 @@ fn print_items<S: Alter + Drop>(
 pub fn print_calls(rt: &HostRuntime) -> anyhow::Result<()> {
     let conn = Connection::open_in_memory(rt.alloc())?;
     let mut store: TypedStore<Member, MemStore> = TypedStore::create(rt.alloc(), conn, "members")?;
+    print_life(rt, &mut store)?;
+    print_items(rt, store)
+}
+
+/// Prints what the same calls answer on a table that is there already, in a database of pages in memory.
+///
+/// # Errors
+///
+/// Those of the calls, and of printing.
+pub fn print_calls_in_pages(rt: &HostRuntime) -> anyhow::Result<()> {
+    let schema = Member::key_schema(rt.alloc())?;
+    let items = create_in_memory_file(rt.alloc(), "members", schema)?;
+    let mut store = TypedStore::create(rt.alloc(), items.into_connection(), "members")?;
     print_life(rt, &mut store)?;
     print_items(rt, store)
 }

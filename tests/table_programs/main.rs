@@ -1,7 +1,7 @@
 //! Runs what stands on the tables. Each line of `requests.txt` is a request file, whose requests are printed, or its fault. The
 //! lines of the input are an export: each item is printed as it is after it was written and read again, or why there is none. Long lines
 //! follow, of which the lengths are printed.
-//! At the end a table of members is used, in memory and in a database.
+//! At the end a table of members is used, in memory, in a database and in one of pages.
 #![tactic(auto)]
 
 mod exports;
@@ -15,5 +15,6 @@ fn main(rt: HostRuntime) -> anyhow::Result<()> {
     exports::print_again(&rt)?;
     exports::print_long(&rt)?;
     members::print_calls(&rt)?;
-    kept::print_calls(&rt)
+    kept::print_calls(&rt)?;
+    kept::print_calls_in_pages(&rt)
 }
