@@ -2,7 +2,9 @@
 
 import os
 import re
+import signal
 import subprocess
+import sys
 
 TOP = os.path.dirname(os.path.dirname(os.path.realpath(__file__)))
 
@@ -10,17 +12,36 @@ TOP = os.path.dirname(os.path.dirname(os.path.realpath(__file__)))
 PROGRAMS = ["dynamo_tool", "dynamo_table", "dynamo_derive"]
 
 # What `rt try` says behind the standard error of the program that it ran.
-SAID = re.compile(r"((?:^(?:checked|interpreter|races|note): .*\n)*)^run=ended status=(\d+) .*proved=no\n\Z", re.M)
+SAID = re.compile(r"((?:^(?:checked|interpreter|races): .*\n)*)^run=ended status=(\d+) .*proved=no\n\Z", re.M)
+
+
+# The commands that were started.
+RUNNING = []
 
 
 class Wrong(Exception):
     """What is wrong, in a sentence."""
 
 
+def read(file):
+    """The bytes of a file, None where there is no such file."""
+    if not os.path.isfile(file):
+        return None
+    with open(file, "rb") as it:
+        return it.read()
+
+
+def write(file, content):
+    """Writes a file, with the folders above it."""
+    os.makedirs(os.path.dirname(file), exist_ok=True)
+    with open(file, "wb") as it:
+        it.write(content)
+
+
 def read_crates(file=f"{TOP}/crates.txt"):
     """The lines of a crates.txt: each crate with the libraries that it stands on, lowest first in this repository's."""
-    with open(file, encoding="utf-8") as lines:
-        rows = [line.partition("#")[0].partition(":") for line in lines]
+    lines = (read(file) or b"").decode().splitlines()
+    rows = [line.partition("#")[0].partition(":") for line in lines]
     return {name.split()[0]: below.split() for name, _, below in rows if name.strip()}
 
 
@@ -58,21 +79,40 @@ def is_built(program):
     return all(os.path.getmtime(made) > os.path.getmtime(it) for it in [f"{TOP}/crates.txt", *sources_of(with_below([program]))])
 
 
-def try_words(words, flags=()):
-    """The command that runs a program by `rt try`, for ten minutes at most."""
-    return ["rt", "try", "--seconds", "600", *flags, "--", *words]
+def start(words, folder, **how):
+    """Starts a command in a folder, which a signal ends with this script, if `end_by_signals` was called."""
+    RUNNING.append(subprocess.Popen(words, cwd=folder, **how))
+    return RUNNING[-1]
 
 
-def read_tried(said):
-    """Of the standard error of `rt try`: the program's own, and the status that it ended with, None where it didn't end."""
+def end_by_signals():
+    """Has a signal that ends this script end the commands that it started, too."""
+
+    def end(number, _):
+        for it in RUNNING:
+            it.terminate()
+        sys.exit(128 + number)
+
+    for number in (signal.SIGINT, signal.SIGTERM, signal.SIGHUP):
+        signal.signal(number, end)
+
+
+def try_program(folder, words, given=subprocess.DEVNULL, flags=()):
+    """Runs a program by `rt try`, for ten minutes at most, and gives it this file to read: what it printed, what it or else `rt try` said
+    on standard error, and the status that it ended with, None where there is no answer."""
+    how = {"stdin": given, "stdout": subprocess.PIPE, "stderr": subprocess.PIPE}
+    printed, said = start(["rt", "try", "--seconds", "600", *flags, "--", *words], folder, **how).communicate()
+    said = said.decode(errors="surrogateescape")
     found = SAID.search(said)
-    return (said[: found.start()], int(found[2])) if found else (said, None)
+    return (printed, said[: found.start()], int(found[2])) if found else (printed, said, None)
 
 
 def run_all(words, folder):
-    """Runs a command without input, with all that it says as its output."""
+    """Runs a command without input: its status, and all that it said."""
     how = {"stdin": subprocess.DEVNULL, "stdout": subprocess.PIPE, "stderr": subprocess.STDOUT}
-    return subprocess.run(words, cwd=folder, text=True, errors="replace", **how)
+    ran = start(words, folder, text=True, errors="replace", **how)
+    said = ran.communicate()[0]
+    return ran.returncode, said
 
 
 def build(program, command, folder, status):
