@@ -1,4 +1,4 @@
-ghost use Rattle.std.specs.Prelude.{◌≡◌, ◌≤◌, All, IfOk, OnOk, is_some, length, true};
+ghost use Rattle.std.specs.Prelude.{◌≡◌, ◌≤◌, All, IfOk, Ok, OnOk, is_some, length, true};
 ghost use Rattle.std.specs.Fn.{FnOnceReturnsAt};
 ghost use Rattle.table_key.specs.KeyOf.{ReadsKey, words_of};
 ghost use Rattle.table_query.specs.Conditions.{holds};
@@ -148,11 +148,40 @@ impl<S: Alter + Drop> TableStore<S> {
     {
         let key = self.table.schema.key_of(item)?;
         let key = KeyBytes::of(self.alloc, &key)?;
-        let before = table_rows::get(self.alloc, &mut self.conn, self.table.id, &key)?;
+        self.put_where(condition, &key, item)
+    }
+
+    /// Puts an item under its key, and returns the key. It drops the item that was there.
+    ///
+    /// # Errors
+    ///
+    /// Those of [`TableStore::put`].
+    pub fn put_returning_key(&mut self, item: &Item) -> Result<Key, StoreError>
+        ensures needs { NeedsKey (schema_of self.old) item.now result }
+        ensures key { IfOk result (λ key. ReadsKey (schema_of self.old) item.now (Ok key)) }
+        ensures schema { schema_of self.new ≡ schema_of self.old }
+    {
+        let key = self.table.schema.key_of(item)?;
+        let bytes = KeyBytes::of(self.alloc, &key)?;
+        drop(self.put_where(Condition::Always, &bytes, item)?);
+        Ok(key)
+    }
+
+    // Puts an item under a key where the condition holds there, and returns the item that was there.
+    fn put_where(
+        &mut self,
+        condition: Condition,
+        key: &KeyBytes,
+        item: &Item,
+    ) -> Result<Option<Item>, StoreError>
+        ensures condition { IfOk result (λ before. holds condition (is_some before) ≡ true) }
+        ensures schema { schema_of self.new ≡ schema_of self.old }
+    {
+        let before = table_rows::get(self.alloc, &mut self.conn, self.table.id, key)?;
         if !condition.holds(before.is_some()) {
             return Err(StoreError::Key(TableError::ConditionFailed));
         }
-        self.put_at(&key, item)?;
+        self.put_at(key, item)?;
         Ok(before)
     }
 

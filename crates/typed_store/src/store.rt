@@ -52,9 +52,7 @@ impl<T: Keyed, S: Alter + Drop> TypedStore<T, S> {
         ensures schema { schema_of self.new ≡ schema_of self.old }
     {
         let item = item_of(self.alloc, value)?;
-        let key = self.store.key_of(&item)?;
-        self.store.put(&item)?;
-        Ok(key)
+        Ok(self.store.put_returning_key(&item)?)
     }
 
     /// The value under a key, where there is one: what the item that the database has there reads as.
