@@ -32,6 +32,10 @@ struct Lexer {
 
     // The line that the text of a token began on.
     began: u32,
+
+    // How many characters were read, and how many before the token began.
+    at: usize,
+    start: usize,
 }
 
 /// The tokens of the declarations, without their comments.
@@ -48,6 +52,8 @@ pub fn tokens(alloc: Global, declarations: &str) -> Result<Vec<Token>, Failure> 
         text: String::new(alloc),
         line: 1,
         began: 1,
+        at: 0,
+        start: 0,
     };
     for c in declarations.chars() {
         lexer.read(c)?;
@@ -61,7 +67,7 @@ impl Lexer {
             Place::Between => self.read_between(c)?,
             Place::Word if is_of_word(c) => self.text.push(c)?,
             Place::Word => {
-                self.end(Kind::Word)?;
+                self.end(Kind::Word, self.at)?;
                 self.read_between(c)?;
             }
             Place::Text => self.read_text(c)?,
@@ -76,11 +82,13 @@ impl Lexer {
         if c == '\n' {
             self.line = self.line.saturating_add(1);
         }
+        self.at = self.at.saturating_add(1);
         Ok(())
     }
 
     fn read_between(&mut self, c: char) -> Result<(), Failure> {
         self.began = self.line;
+        self.start = self.at;
         match c {
             ' ' | '\t' | '\r' | '\n' => Ok(()),
             '"' => {
@@ -118,7 +126,7 @@ impl Lexer {
             _ => return self.refuse(Reason::Character(c)),
         }
         self.text.push(c)?;
-        self.end(Kind::Mark)?;
+        self.end(Kind::Mark, self.at.saturating_add(1))?;
         if let Some(closing) = closing {
             let line = self.line;
             self.open.push(Open { closing, line })?;
@@ -128,7 +136,7 @@ impl Lexer {
 
     fn read_text(&mut self, c: char) -> Result<(), Failure> {
         match c {
-            '"' => self.end(Kind::Text),
+            '"' => self.end(Kind::Text, self.at.saturating_add(1)),
             '\\' => {
                 self.place = Place::Escape;
                 Ok(self.text.push(c)?)
@@ -148,8 +156,8 @@ impl Lexer {
         }
     }
 
-    // Ends a token, whose text was read.
-    fn end(&mut self, kind: Kind) -> Result<(), Failure> {
+    // Ends a token, whose text was read, before the character at this place.
+    fn end(&mut self, kind: Kind, end: usize) -> Result<(), Failure> {
         let text = mem::replace(&mut self.text, String::new(self.alloc));
         let line = self.began;
         let depth = self.open.len();
@@ -158,6 +166,8 @@ impl Lexer {
             text,
             line,
             depth,
+            start: self.start,
+            end,
         })?;
         self.place = Place::Between;
         Ok(())
@@ -168,9 +178,10 @@ impl Lexer {
     }
 
     fn finish(mut self) -> Result<Vec<Token>, Failure> {
+        let at = self.at;
         match self.place {
             Place::Between | Place::Comment => {}
-            Place::Word => self.end(Kind::Word)?,
+            Place::Word => self.end(Kind::Word, at)?,
             Place::Slash => return Err(Failure::Refused(self.line, Reason::Character('/'))),
             Place::Text | Place::Escape => {
                 return Err(Failure::Refused(self.began, Reason::OpenText));

@@ -2,16 +2,22 @@
 #![tactic(auto)]
 
 mod attributes;
+mod cut;
 mod declaration;
 mod failure;
+mod import;
 mod lexer;
+mod module;
 mod parser;
 mod parts;
 mod rename;
 mod token;
+mod types;
 mod variants;
 
 pub use declaration::{Body, Contents, Declaration, Field, Form, Parameter, SetKind, Variant};
 pub use failure::{Failure, Reason};
+pub use import::Import;
+pub use module::{Module, read_module};
 pub use parser::read_declarations;
 pub use rename::RenameRule;

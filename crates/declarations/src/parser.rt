@@ -2,9 +2,11 @@ use crate::attributes::{Attributes, read_attributes};
 use crate::declaration::{Body, Declaration, Field, Form, Parameter};
 use crate::failure::{Failure, Reason};
 use crate::lexer::tokens;
+use crate::module::imported;
 use crate::parts::{after_visibility, attributed, bracketed, line_of, parts, type_text};
 use crate::rename::RenameRule;
 use crate::token::Token;
+use crate::types::{refuse_default, refuse_type};
 use crate::variants::enum_body;
 use std::alloc::Global;
 
@@ -20,14 +22,20 @@ pub fn read_declarations(alloc: Global, text: &str) -> Result<Vec<Declaration>, 
     let tokens = tokens(alloc, text)?;
     let mut found = Vec::new(alloc);
     for item in tokens.split_inclusive(ends_item) {
-        found.push(read_declaration(alloc, item)?)?;
+        if imported(item).is_none() && !is_end(item) {
+            found.push(read_declaration(alloc, item)?)?;
+        }
     }
     refuse_equal_lists(alloc, found.as_slice())?;
     Ok(found)
 }
 
-// Refuses two lists of fields that would be declared by one name.
-fn refuse_equal_lists(alloc: Global, declarations: &[Declaration]) -> Result<(), Failure> {
+/// Refuses two lists of fields that would be declared by one name.
+///
+/// # Errors
+///
+/// `Refused` with the line of the second, and out of memory.
+pub fn refuse_equal_lists(alloc: Global, declarations: &[Declaration]) -> Result<(), Failure> {
     let mut names: Vec<&str> = Vec::new(alloc);
     for declaration in declarations {
         for name in declaration.lists(alloc)? {
@@ -41,11 +49,22 @@ fn refuse_equal_lists(alloc: Global, declarations: &[Declaration]) -> Result<(),
     Ok(())
 }
 
-fn ends_item(token: &Token) -> bool {
+/// Whether an item ends with this token. Behind an import with braces the mark that ends it is an item of its own.
+pub fn ends_item(token: &Token) -> bool {
     token.depth == 0 && (token.is(";") || token.is("}"))
 }
 
-fn read_declaration(alloc: Global, item: &[Token]) -> Result<Declaration, Failure> {
+/// Whether the item is no more than the mark behind an import with braces.
+pub fn is_end(item: &[Token]) -> bool {
+    matches!(item, [end] if end.is(";"))
+}
+
+/// Reads a struct or an enum.
+///
+/// # Errors
+///
+/// Refuses what is not described, with its line; out of memory.
+pub fn read_declaration(alloc: Global, item: &[Token]) -> Result<Declaration, Failure> {
     let start = line_of(item, 1);
     let (above, rest) = attributed(item);
     let about = read_attributes(alloc, above)?;
@@ -198,7 +217,9 @@ fn unnamed_field(alloc: Global, tokens: &[Token], line: u32) -> Result<String, F
     if about.line != 0 {
         return Err(Failure::Refused(about.line, Reason::UnnamedAttribute));
     }
-    type_text(alloc, after_visibility(rest), line_of(tokens, line))
+    let of = after_visibility(rest);
+    refuse_type(alloc, of)?;
+    type_text(alloc, of, line_of(tokens, line))
 }
 
 /// The named fields between braces. Where they have no names of their own, those that they are written under go by the rule.
@@ -230,6 +251,10 @@ fn named_field(
         _ => return Err(Failure::Refused(line_of(rest, line), Reason::Field)),
     };
     let form = about.form()?;
+    refuse_type(alloc, of)?;
+    if form == Form::Defaulted {
+        refuse_default(alloc, of)?;
+    }
     let of = match (form, of) {
         (Form::Set(_), [vec, ..]) if vec.is("Vec") => match bracketed(&of[1..], "<") {
             Some((item, [])) => type_text(alloc, item, name.line)?,

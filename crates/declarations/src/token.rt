@@ -11,13 +11,17 @@ pub enum Kind {
     Mark,
 }
 
-/// A token, the line that it stands on, and how many brackets are open around it. Angle brackets count.
+/// A token, its line, and how many brackets are open around it. Angle brackets count.
 #[derive(Drop)]
 pub struct Token {
     pub kind: Kind,
     pub text: String,
     pub line: u32,
     pub depth: usize,
+
+    /// How many characters come before it, and how many before what follows it.
+    pub start: usize,
+    pub end: usize,
 }
 
 impl Token {

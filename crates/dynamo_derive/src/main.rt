@@ -1,40 +1,55 @@
-//! Reads structs and enums from standard input, and prints the impls by which `dynamo_record` describes them.
+//! Reads structs and enums with serde's attributes from standard input, and prints the file of the module that has them, described by
+//! `dynamo_record`.
 #![tactic(auto)]
 
-use declarations::{Failure, read_declarations};
-use impl_printer::{ModulePath, impls_of};
+use declarations::{Failure, read_declarations, read_module};
+use impl_printer::{ModulePath, file_of, impls_of};
 use std::alloc::Global;
 use std::process::ExitCode;
 use std::{env, io};
 
-const USAGE: &str = "usage: dynamo_derive [CRATE::MODULE] < DECLARATIONS";
+const USAGE: &str = "usage: dynamo_derive [--impls] [CRATE::MODULE] < DECLARATIONS";
 
-// The module that the words after the program's name give; none where they are no path.
-fn given_path(rt: &HostRuntime) -> io::Result<Option<ModulePath>> {
+// What is printed: the whole file, or the impls alone with their imports.
+#[derive(Drop)]
+struct Request {
+    is_whole: bool,
+    path: ModulePath,
+}
+
+// What the words after the program's name ask for; none where they are wrong.
+fn wanted(rt: &HostRuntime) -> io::Result<Option<Request>> {
     let mut words = env::args(rt)?.skip(1);
-    match (words.next(), words.next()) {
-        (None, _) => Ok(Some(ModulePath::unknown(rt.alloc())?)),
-        (Some(word), None) => Ok(ModulePath::of(rt.alloc(), word.as_str())?),
-        _ => Ok(None),
+    let first = words.next();
+    let is_whole = first.as_ref().is_none_or(|word| word.as_str() != "--impls");
+    let word = if is_whole { first } else { words.next() };
+    let path = match (word, words.next()) {
+        (None, _) => Some(ModulePath::unknown(rt.alloc())?),
+        (Some(word), None) => ModulePath::of(rt.alloc(), word.as_str())?,
+        _ => None,
+    };
+    Ok(path.map(|path| Request { is_whole, path }))
+}
+
+// What is printed for the declarations in the text.
+fn derive(alloc: Global, request: &Request, text: &str) -> Result<String, Failure> {
+    if request.is_whole {
+        return Ok(file_of(alloc, &request.path, &read_module(alloc, text)?)?);
     }
-}
-
-// The impls of the declarations in the text.
-fn derive(alloc: Global, path: &ModulePath, text: &str) -> Result<String, Failure> {
     let declarations = read_declarations(alloc, text)?;
-    Ok(impls_of(alloc, path, declarations.as_slice())?)
+    Ok(impls_of(alloc, &request.path, declarations.as_slice())?)
 }
 
-// Prints the impls, or the failure, and answers the status that the program ends with.
+// Prints what is asked for, or the failure, and returns the status that the program ends with.
 fn run(rt: &HostRuntime) -> io::Result<u8> {
-    let Some(path) = given_path(rt)? else {
+    let Some(request) = wanted(rt)? else {
         eprintln!(rt; "{USAGE}")?;
         return Ok(2);
     };
     let text = io::read_to_string(rt.alloc(), rt.reader())?;
-    match derive(rt.alloc(), &path, text.as_str()) {
-        Ok(impls) => {
-            print!(rt; "{impls}")?;
+    match derive(rt.alloc(), &request, text.as_str()) {
+        Ok(printed) => {
+            print!(rt; "{printed}")?;
             Ok(0)
         }
         Err(failure) => {

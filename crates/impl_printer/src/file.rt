@@ -1,42 +1,85 @@
 use crate::impls::print_impls;
-use crate::imports::{mentioned, print_ghost_imports, print_imports};
+use crate::imports::{add_mentioned, mentioned, print_ghost_imports};
 use crate::module_path::ModulePath;
-use declarations::{Body, Declaration, RenameRule};
+use crate::uses::Uses;
+use declarations::{Body, Declaration, Import, Module, RenameRule};
 use std::alloc::{AllocError, Global};
 use std::fmt::Write;
 
-/// The imports and the impls of the declarations, which stand in this module.
+/// The imports and the impls of the declarations, which are to be put below them in this module.
 ///
 /// # Errors
 ///
-/// Want of memory.
+/// Out of memory.
 pub fn impls_of(
     alloc: Global,
     path: &ModulePath,
     declarations: &[Declaration],
 ) -> Result<String, AllocError> {
     let mut out = String::new(alloc);
-    if declarations.is_empty() {
-        return Ok(out);
+    if !declarations.is_empty() {
+        print_imports(alloc, &mut out, path, declarations, None)?;
+        print_all(alloc, &mut out, declarations)?;
     }
+    Ok(out)
+}
+
+/// The whole file of this module: its imports, the declarations, and their impls.
+///
+/// # Errors
+///
+/// Out of memory.
+pub fn file_of(alloc: Global, path: &ModulePath, module: &Module) -> Result<String, AllocError> {
+    let mut out = String::new(alloc);
+    let declarations = module.declarations.as_slice();
+    if !declarations.is_empty() {
+        out.push_str(module.docs.as_str())?;
+        let imports = Some(module.imports.as_slice());
+        print_imports(alloc, &mut out, path, declarations, imports)?;
+        out.push('\n')?;
+        out.push_str(module.text.as_str())?;
+        print_all(alloc, &mut out, declarations)?;
+    }
+    Ok(out)
+}
+
+fn print_imports(
+    alloc: Global,
+    out: &mut String,
+    path: &ModulePath,
+    declarations: &[Declaration],
+    own: Option<&[Import]>,
+) -> Result<(), AllocError> {
     let found = mentioned(declarations);
     if !path.is_given && (found.units || found.choices) {
         out.push_str(
             "// Write the crate and the module of the enums for my_crate and my_module below.\n",
         )?;
     }
-    print_ghost_imports(alloc, &mut out, &found)?;
+    print_ghost_imports(alloc, out, &found)?;
     for declaration in declarations {
-        print_enum_import(alloc, &mut out, path, declarations, declaration)?;
+        print_enum_import(alloc, out, path, declarations, declaration)?;
     }
     out.push('\n')?;
-    print_imports(alloc, &mut out, &found)?;
+    let mut uses = Uses::new(alloc);
+    add_mentioned(alloc, &mut uses, &found)?;
+    if let Some(imports) = own {
+        uses.add_own(alloc, imports, declarations)?;
+    }
+    uses.print(alloc, out)
+}
+
+fn print_all(
+    alloc: Global,
+    out: &mut String,
+    declarations: &[Declaration],
+) -> Result<(), AllocError> {
     for declaration in declarations {
         out.push('\n')?;
         let alias = alias(alloc, declarations, declaration)?;
-        print_impls(alloc, &mut out, declaration, alias.as_str())?;
+        print_impls(alloc, out, declaration, alias.as_str())?;
     }
-    Ok(out)
+    Ok(())
 }
 
 // What the imports name the variants of an enum by. Several enums of a kind have an alias each.

@@ -1,11 +1,8 @@
 // The imports that the printed impls need.
-use code_layout::filled;
+use crate::uses::Uses;
 use declarations::{Body, Contents, Declaration, Field, Form, SetKind, Variant};
 use std::alloc::{AllocError, Global};
 use std::fmt::Write;
-
-// The width past which an import stands on several lines.
-const WIDTH: usize = 98;
 
 /// What the printed impls mention.
 #[derive(Clone, Copy, Default)]
@@ -182,9 +179,14 @@ fn print_ghost(
     writeln!(out, "ghost use Rattle.{path}.{{{line}}};")
 }
 
-/// Prints the imports of types, traits and functions.
-pub fn print_imports(alloc: Global, out: &mut String, found: &Mentions) -> Result<(), AllocError> {
-    print_record_imports(alloc, out, found)?;
+/// Adds the types, traits and functions that the printed impls mention.
+///
+/// # Errors
+///
+/// Out of memory.
+pub fn add_mentioned(alloc: Global, uses: &mut Uses, found: &Mentions) -> Result<(), AllocError> {
+    uses.add_wanted(alloc, "dynamo_record", &record_types(found))?;
+    uses.add_wanted(alloc, "dynamo_record", &record_functions(found))?;
     let shaped = [
         ("BinarySet", found.binaries),
         ("NumberSet", found.numbers),
@@ -192,29 +194,12 @@ pub fn print_imports(alloc: Global, out: &mut String, found: &Mentions) -> Resul
         ("ShapedKey", found.keys()),
         ("StringSet", found.strings),
     ];
-    let shaped = wanted(alloc, &shaped)?;
-    let is_alone = shaped.len() == 1;
-    if is_alone {
-        print_use(alloc, out, "serde_dynamo", shaped.as_slice())?;
-    }
-    out.push_str("use serde_dynamo::de::{Deserialize, Deserializer, Error};\n")?;
-    out.push_str("use serde_dynamo::ser::{Serialize, Serializer};\n")?;
-    if !is_alone {
-        print_use(alloc, out, "serde_dynamo", shaped.as_slice())?;
-    }
-    out.push_str("use std::alloc::Global;\n")
-}
-
-fn print_record_imports(
-    alloc: Global,
-    out: &mut String,
-    found: &Mentions,
-) -> Result<(), AllocError> {
-    let mut names = wanted(alloc, &record_types(found))?;
-    for name in wanted(alloc, &record_functions(found))? {
-        names.push(name)?;
-    }
-    print_use(alloc, out, "dynamo_record", names.as_slice())
+    uses.add_wanted(alloc, "serde_dynamo", &shaped)?;
+    let read = ["Deserialize", "Deserializer", "Error"].map(|name| (name, true));
+    uses.add_wanted(alloc, "serde_dynamo::de", &read)?;
+    let written = ["Serialize", "Serializer"].map(|name| (name, true));
+    uses.add_wanted(alloc, "serde_dynamo::ser", &written)?;
+    uses.add(alloc, "std::alloc", "Global")
 }
 
 // The types and the traits of `dynamo_record`, and whether they are mentioned.
@@ -267,24 +252,6 @@ fn record_functions(found: &Mentions) -> [(&'static str, bool); 22] {
         ("write_unit", found.nothing),
         ("write_unit_enum", found.units),
     ]
-}
-
-fn print_use(
-    alloc: Global,
-    out: &mut String,
-    path: &str,
-    names: &[String],
-) -> Result<(), AllocError> {
-    if let [name] = names {
-        return writeln!(out, "use {path}::{name};");
-    }
-    let line = names.join(alloc, ", ")?;
-    let line = format!(in alloc; "use {path}::{{{line}}};")?;
-    if line.len() <= WIDTH {
-        return writeln!(out, "{line}");
-    }
-    let lines = filled(alloc, "    ", names)?;
-    writeln!(out, "use {path}::{{\n{lines}}};")
 }
 
 // The names that are marked.

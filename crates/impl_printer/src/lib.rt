@@ -16,6 +16,7 @@ mod tree;
 mod tuple_struct;
 mod unit_enum;
 mod unit_struct;
+mod uses;
 
-pub use file::impls_of;
+pub use file::{file_of, impls_of};
 pub use module_path::ModulePath;

@@ -1,0 +1,208 @@
+use crate::cut::{Cut, cut_text};
+use crate::declaration::Declaration;
+use crate::failure::Failure;
+use crate::import::{Import, read_imports};
+use crate::lexer::tokens;
+use crate::parser::{ends_item, is_end, read_declaration, refuse_equal_lists};
+use crate::parts::{after_visibility, attributed, bracketed, parts};
+use crate::token::Token;
+use std::alloc::{AllocError, Global};
+
+/// A file of declarations.
+#[derive(Drop)]
+pub struct Module {
+    pub declarations: Vec<Declaration>,
+
+    /// What its `use` declarations bring in, without the names of serde.
+    pub imports: Vec<Import>,
+
+    /// The documentation of the module, at the head of the file.
+    pub docs: String,
+
+    /// The rest of its text, without its imports, the attributes of serde, and derives that Rattle doesn't have. A type derives
+    /// `Drop` or `Copy`.
+    pub text: String,
+}
+
+/// Reads a file of declarations: structs and enums, and the imports above them.
+///
+/// # Errors
+///
+/// Refuses what is not described, with its line; out of memory.
+pub fn read_module(alloc: Global, text: &str) -> Result<Module, Failure> {
+    let tokens = tokens(alloc, text)?;
+    let mut declarations = Vec::new(alloc);
+    let mut imports = Vec::new(alloc);
+    let mut cuts = Vec::new(alloc);
+    for item in tokens.split_inclusive(ends_item) {
+        if let Some(names) = imported(item) {
+            let mut found = read_imports(alloc, names)?;
+            imports.append(&mut found)?;
+            cuts.push(whole(alloc, item))?;
+        } else if is_end(item) {
+            cuts.push(whole(alloc, item))?;
+        } else {
+            let declaration = read_declaration(alloc, item)?;
+            cut_item(alloc, item, declaration.body.are_units(), &mut cuts)?;
+            declarations.push(declaration)?;
+        }
+    }
+    refuse_equal_lists(alloc, declarations.as_slice())?;
+    let text = cut_text(alloc, text, cuts.as_slice())?;
+    let (docs, text) = without_docs(alloc, text.as_str())?;
+    Ok(Module {
+        declarations,
+        imports,
+        docs,
+        text,
+    })
+}
+
+// The lines of documentation that a text begins with, and the others.
+fn without_docs(alloc: Global, text: &str) -> Result<(String, String), AllocError> {
+    let mut docs = String::new(alloc);
+    let mut rest = String::new(alloc);
+    for line in text.lines() {
+        if rest.is_empty() && line.starts_with("//!") {
+            docs.push_str(line)?;
+            docs.push('\n')?;
+        } else if !rest.is_empty() || !line.is_empty() {
+            rest.push_str(line)?;
+            rest.push('\n')?;
+        }
+    }
+    Ok((docs, rest))
+}
+
+/// What follows `use`, if the item is an import.
+pub fn imported(item: &[Token]) -> Option<&[Token]> {
+    let (_, rest) = attributed(item);
+    match after_visibility(rest) {
+        [word, names @ ..] if word.is("use") => Some(names),
+        _ => None,
+    }
+}
+
+// The cut of all tokens.
+fn whole(alloc: Global, tokens: &[Token]) -> Cut {
+    Cut {
+        start: tokens.first().map_or(0, |token| token.start),
+        end: tokens.last().map_or(0, |token| token.end),
+        put: String::new(alloc),
+    }
+}
+
+// Adds the cuts of a declaration, in order. The printed impls copy the values of an enum of unit variants, and drop those of others.
+fn cut_item(
+    alloc: Global,
+    item: &[Token],
+    are_units: bool,
+    cuts: &mut Vec<Cut>,
+) -> Result<(), AllocError> {
+    let (above, rest) = attributed(item);
+    let derived = derived(alloc, above)?;
+    let has = |name: &str| derived.iter().any(|it| it.is(name));
+    let mut wanted = match (are_units, has("Copy"), has("Clone"), has("Drop")) {
+        (_, true, _, _) | (false, false, _, true) => "",
+        (true, false, true, _) => "Copy",
+        (true, false, false, _) => "Clone, Copy",
+        (false, false, _, false) => "Drop",
+    };
+    for at in 0..item.len() {
+        let Some((attribute, inside)) = attribute_at(item, at) else {
+            continue;
+        };
+        let Some((name, rest)) = inside.split_first() else {
+            continue;
+        };
+        if name.is("serde") {
+            cuts.push(whole(alloc, attribute))?;
+        } else if name.is("derive") {
+            let mut cut = whole(alloc, attribute);
+            cut.put = derive_text(alloc, rest, wanted)?;
+            cuts.push(cut)?;
+            wanted = "";
+        }
+    }
+    if let Some(token) = rest.first()
+        && !wanted.is_empty()
+    {
+        let cut = Cut {
+            start: token.start,
+            end: token.start,
+            put: format!(in alloc; "#[derive({wanted})]\n")?,
+        };
+        let place = cuts.iter().position(|it| it.start > token.start);
+        return Ok(cuts.insert(place.unwrap_or(cuts.len()), cut)?);
+    }
+    Ok(())
+}
+
+// The tokens of the attribute that begins at this place, and those inside of its brackets.
+fn attribute_at(item: &[Token], at: usize) -> Option<(&[Token], &[Token])> {
+    let tokens = item.get(at..)?;
+    let (mark, rest) = tokens.split_first()?;
+    if !mark.is("#") {
+        return None;
+    }
+    let (inside, _) = bracketed(rest, "[")?;
+    let attribute = tokens.get(..inside.len().saturating_add(3))?;
+    Some((attribute, inside))
+}
+
+// The last words of all paths that the attributes derive.
+fn derived(alloc: Global, above: &[Token]) -> Result<Vec<&Token>, AllocError> {
+    let mut found = Vec::new(alloc);
+    for at in 0..above.len() {
+        if let Some((_, [name, rest @ ..])) = attribute_at(above, at)
+            && name.is("derive")
+        {
+            let mut names = derived_by(alloc, rest)?;
+            found.append(&mut names)?;
+        }
+    }
+    Ok(found)
+}
+
+fn derived_by(alloc: Global, tokens: &[Token]) -> Result<Vec<&Token>, AllocError> {
+    let mut found = Vec::new(alloc);
+    if let Some((inside, _)) = bracketed(tokens, "(") {
+        for part in parts(alloc, inside)? {
+            if let Some(name) = part.last() {
+                found.push(name)?;
+            }
+        }
+    }
+    Ok(found)
+}
+
+// A derive of the names that Rattle has, and of those that are wanted; empty where no name is left.
+fn derive_text(alloc: Global, tokens: &[Token], wanted: &str) -> Result<String, AllocError> {
+    let mut text = String::new(alloc);
+    for name in derived_by(alloc, tokens)? {
+        if is_derived_in_rattle(name.text.as_str()) {
+            push_name(&mut text, name.text.as_str())?;
+        }
+    }
+    if !wanted.is_empty() {
+        push_name(&mut text, wanted)?;
+    }
+    if text.is_empty() {
+        return Ok(text);
+    }
+    format!(in alloc; "#[derive({text})]")
+}
+
+fn push_name(text: &mut String, name: &str) -> Result<(), AllocError> {
+    if !text.is_empty() {
+        text.push_str(", ")?;
+    }
+    text.push_str(name)
+}
+
+fn is_derived_in_rattle(name: &str) -> bool {
+    matches!(
+        name,
+        "Clone" | "Copy" | "PartialEq" | "Eq" | "PartialOrd" | "Ord" | "Default" | "Hash" | "Debug"
+    ) || name == "Drop"
+}

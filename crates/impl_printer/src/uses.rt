@@ -1,0 +1,155 @@
+//! The `use` lines of types, traits and functions.
+use code_layout::filled;
+use declarations::{Body, Contents, Declaration, Field, Import};
+use std::alloc::{AllocError, Global};
+use std::fmt::Write;
+
+// The width past which an import is printed on several lines.
+const WIDTH: usize = 98;
+
+// The types of the library and of `std` that a field may have and that need an import.
+const KNOWN: [(&str, &str); 5] = [
+    ("serde_dynamo", "AttributeValue"),
+    ("serde_dynamo", "ByteBuf"),
+    ("serde_dynamo", "Item"),
+    ("std::collections", "BTreeMap"),
+    ("std::collections", "HashMap"),
+];
+
+/// The names that a file imports.
+#[derive(Drop)]
+pub struct Uses {
+    found: Vec<Import>,
+}
+
+impl Uses {
+    pub fn new(alloc: Global) -> Uses {
+        Uses {
+            found: Vec::new(alloc),
+        }
+    }
+
+    /// Adds a name of a path.
+    pub fn add(&mut self, alloc: Global, path: &str, name: &str) -> Result<(), AllocError> {
+        let import = Import {
+            path: String::from_str(alloc, path)?,
+            name: String::from_str(alloc, name)?,
+        };
+        Ok(self.found.push(import)?)
+    }
+
+    /// Adds the names of a path that are marked.
+    pub fn add_wanted(
+        &mut self,
+        alloc: Global,
+        path: &str,
+        names: &[(&str, bool)],
+    ) -> Result<(), AllocError> {
+        for (name, is_wanted) in names {
+            if *is_wanted {
+                self.add(alloc, path, name)?;
+            }
+        }
+        Ok(())
+    }
+
+    /// Adds what a file of declarations imports, and the known types that its fields have, if they aren't other types there.
+    pub fn add_own(
+        &mut self,
+        alloc: Global,
+        imports: &[Import],
+        declarations: &[Declaration],
+    ) -> Result<(), AllocError> {
+        for import in imports {
+            self.add(alloc, import.path.as_str(), import.name.as_str())?;
+        }
+        for (path, name) in KNOWN {
+            let is_other = imports.iter().any(|import| import.brings(name))
+                || declarations.iter().any(|it| it.name.as_str() == name);
+            if !is_other && declarations.iter().any(|it| has_type(it, name)) {
+                self.add(alloc, path, name)?;
+            }
+        }
+        Ok(())
+    }
+
+    /// Prints the imports, a line or more for each path.
+    pub fn print(mut self, alloc: Global, out: &mut String) -> Result<(), AllocError> {
+        self.found.sort_unstable();
+        self.found.dedup();
+        let mut lines = Vec::new(alloc);
+        let mut names = Vec::new(alloc);
+        let mut path = String::new(alloc);
+        for import in self.found {
+            let Import { path: next, name } = import;
+            if next != path && !names.is_empty() {
+                lines.push(use_line(alloc, path.as_str(), names.as_slice())?)?;
+                names = Vec::new(alloc);
+            }
+            path = next;
+            names.push(name)?;
+        }
+        if !names.is_empty() {
+            lines.push(use_line(alloc, path.as_str(), names.as_slice())?)?;
+        }
+        lines.sort_unstable();
+        for line in lines {
+            writeln!(out, "{line}")?;
+        }
+        Ok(())
+    }
+}
+
+fn use_line(alloc: Global, path: &str, names: &[String]) -> Result<String, AllocError> {
+    let separator = if path.is_empty() { "" } else { "::" };
+    if let [name] = names {
+        return format!(in alloc; "use {path}{separator}{name};");
+    }
+    let names = self_first(alloc, names)?;
+    let line = names.join(alloc, ", ")?;
+    let line = format!(in alloc; "use {path}{separator}{{{line}}};")?;
+    if line.len() <= WIDTH {
+        return Ok(line);
+    }
+    let lines = filled(alloc, "    ", names.as_slice())?;
+    format!(in alloc; "use {path}{separator}{{\n{lines}}};")
+}
+
+// The names with `self` before the others.
+fn self_first(alloc: Global, names: &[String]) -> Result<Vec<String>, AllocError> {
+    let mut found = Vec::new(alloc);
+    for is_self in [true, false] {
+        for name in names {
+            if (name.as_str() == "self") == is_self {
+                found.push(name.clone()?)?;
+            }
+        }
+    }
+    Ok(found)
+}
+
+// Whether a field of the declaration has a type with this name.
+fn has_type(declaration: &Declaration, name: &str) -> bool {
+    match &declaration.body {
+        Body::Record(fields) => have_type(fields, name),
+        Body::Newtype(of) => says(of.as_str(), name),
+        Body::Tuple(types) => types.iter().any(|of| says(of.as_str(), name)),
+        Body::Unit | Body::Units(_) => false,
+        Body::Choices(variants) => variants.iter().any(|variant| match &variant.contents {
+            Contents::Nothing => false,
+            Contents::One(of) => says(of.as_str(), name),
+            Contents::Several(types) => types.iter().any(|of| says(of.as_str(), name)),
+            Contents::Named(fields) => have_type(fields, name),
+        }),
+    }
+}
+
+fn have_type(fields: &[Field], name: &str) -> bool {
+    fields.iter().any(|field| says(field.of.as_str(), name))
+}
+
+// Whether the text of a type has this word.
+fn says(of: &str, name: &str) -> bool {
+    of.split(|c: char| c != '_' && !c.is_ascii_alphanumeric())
+        .any(|word| word == name)
+}
