@@ -43,7 +43,8 @@ pub fn read_module(alloc: Global, text: &str) -> Result<Module, Failure> {
             cuts.push(whole(alloc, item))?;
         } else {
             let declaration = read_declaration(alloc, item)?;
-            cut_item(alloc, item, declaration.body.are_units(), &mut cuts)?;
+            let mut own = cuts_of(alloc, item, declaration.body.are_units())?;
+            cuts.append(&mut own)?;
             declarations.push(declaration)?;
         }
     }
@@ -92,39 +93,21 @@ fn whole(alloc: Global, tokens: &[Token]) -> Cut {
     }
 }
 
-// Adds the cuts of a declaration, in order. The printed impls copy the values of an enum of unit variants, and drop those of others.
-fn cut_item(
-    alloc: Global,
-    item: &[Token],
-    are_units: bool,
-    cuts: &mut Vec<Cut>,
-) -> Result<(), AllocError> {
+// The cuts of a declaration, in order. The printed impls copy the values of an enum of unit variants, and drop those of others.
+fn cuts_of(alloc: Global, item: &[Token], are_units: bool) -> Result<Vec<Cut>, AllocError> {
     let (above, rest) = attributed(item);
     let derived = derived(alloc, above)?;
     let has = |name: &str| derived.iter().any(|it| it.is(name));
-    let mut wanted = match (are_units, has("Copy"), has("Clone"), has("Drop")) {
+    let wanted = match (are_units, has("Copy"), has("Clone"), has("Drop")) {
         (_, true, _, _) | (false, false, _, true) => "",
         (true, false, true, _) => "Copy",
         (true, false, false, _) => "Clone, Copy",
         (false, false, _, false) => "Drop",
     };
-    for at in 0..item.len() {
-        let Some((attribute, inside)) = attribute_at(item, at) else {
-            continue;
-        };
-        let Some((name, rest)) = inside.split_first() else {
-            continue;
-        };
-        if name.is("serde") {
-            cuts.push(whole(alloc, attribute))?;
-        } else if name.is("derive") {
-            let mut cut = whole(alloc, attribute);
-            cut.put = derive_text(alloc, rest, wanted)?;
-            cuts.push(cut)?;
-            wanted = "";
-        }
-    }
+    let first = (0..above.len()).find(|at| attribute_of(above, *at, "derive").is_some());
+    let mut cuts = attribute_cuts(alloc, item, first, wanted)?;
     if let Some(token) = rest.first()
+        && first.is_none()
         && !wanted.is_empty()
     {
         let cut = Cut {
@@ -133,9 +116,46 @@ fn cut_item(
             put: format!(in alloc; "#[derive({wanted})]\n")?,
         };
         let place = cuts.iter().position(|it| it.start > token.start);
-        return Ok(cuts.insert(place.unwrap_or(cuts.len()), cut)?);
+        cuts.insert(place.unwrap_or(cuts.len()), cut)?;
     }
-    Ok(())
+    Ok(cuts)
+}
+
+// The cuts of serde's attributes and of derives, of which the one at the first place derives these names too.
+fn attribute_cuts(
+    alloc: Global,
+    item: &[Token],
+    first: Option<usize>,
+    wanted: &str,
+) -> Result<Vec<Cut>, AllocError> {
+    let mut cuts = Vec::new(alloc);
+    for at in 0..item.len() {
+        if let Some((attribute, _)) = attribute_of(item, at, "serde") {
+            cuts.push(whole(alloc, attribute))?;
+        }
+        if let Some((attribute, names)) = attribute_of(item, at, "derive") {
+            let wanted = if first == Some(at) { wanted } else { "" };
+            let mut cut = whole(alloc, attribute);
+            cut.put = derive_text(alloc, names, wanted)?;
+            cuts.push(cut)?;
+        }
+    }
+    Ok(cuts)
+}
+
+// The tokens of the attribute of this name that begins at this place, and those behind the name inside of its brackets.
+fn attribute_of<'a>(
+    tokens: &'a [Token],
+    at: usize,
+    name: &str,
+) -> Option<(&'a [Token], &'a [Token])> {
+    let (attribute, inside) = attribute_at(tokens, at)?;
+    let (word, rest) = inside.split_first()?;
+    if word.is(name) {
+        Some((attribute, rest))
+    } else {
+        None
+    }
 }
 
 // The tokens of the attribute that begins at this place, and those inside of its brackets.
@@ -154,10 +174,8 @@ fn attribute_at(item: &[Token], at: usize) -> Option<(&[Token], &[Token])> {
 fn derived(alloc: Global, above: &[Token]) -> Result<Vec<&Token>, AllocError> {
     let mut found = Vec::new(alloc);
     for at in 0..above.len() {
-        if let Some((_, [name, rest @ ..])) = attribute_at(above, at)
-            && name.is("derive")
-        {
-            let mut names = derived_by(alloc, rest)?;
+        if let Some((_, names)) = attribute_of(above, at, "derive") {
+            let mut names = derived_by(alloc, names)?;
             found.append(&mut names)?;
         }
     }
