@@ -2,7 +2,7 @@
 
 use refused_rows::{Answer, Stopped, Written, values};
 use serde_dynamo::de::{
-    Deserialize, MapAccess, ReaderMapAccess, ReaderSeqAccess, Request, SeqAccess, TypeSeed,
+    Deserialize, MapAccess, Reader, ReaderMapAccess, ReaderSeqAccess, Request, SeqAccess, TypeSeed,
     elements_of, entries_of,
 };
 use serde_dynamo::{
@@ -10,19 +10,9 @@ use serde_dynamo::{
     DeserializerSeqNumbers, DeserializerSeqStrings, Error, Item, LentDeserializer, Result,
 };
 use std::alloc::Global;
-use std::collections::HashMap;
 use std::fmt::Debug;
 
 const TWO_ENTRIES: &str = r#"{"1":{"N":"10"},"2":{"N":"20"}}"#;
-
-// The entries of a lent map.
-fn lent_entries<'a>(
-    alloc: Global,
-    map: &'a HashMap<String, AttributeValue>,
-) -> Result<ReaderMapAccess<LentDeserializer<'a>>> {
-    let reader = LentDeserializer::from_map(alloc, map);
-    Ok(ReaderMapAccess::new(entries_of(alloc, reader, "a map")?))
-}
 
 fn print_key<A: MapAccess<Error = Error>>(rt: &HostRuntime, mut map: A) -> Result<(), Stopped> {
     let alloc = rt.alloc();
@@ -45,17 +35,16 @@ pub fn next_key(rt: &HostRuntime) -> Result<(), Stopped> {
     print_key(rt, DeserializerMap::from_item(rt.alloc(), &mut map)?)
 }
 
-fn print_lent_key<'a>(
-    rt: &HostRuntime,
-    map: &'a HashMap<String, AttributeValue>,
-) -> Result<(), Stopped> {
-    let entries = lent_entries(rt.alloc(), map)?;
-    print_key::<ReaderMapAccess<LentDeserializer<'a>>>(rt, entries)
+// The same of the entries that a reader gives.
+fn print_key_read<R: Reader<Error = Error>>(rt: &HostRuntime, reader: R) -> Result<(), Stopped> {
+    let entries = entries_of(rt.alloc(), reader, "a map")?;
+    print_key(rt, ReaderMapAccess::<R>::new(entries))
 }
 
 /// The same of a lent map.
 pub fn next_lent_key(rt: &HostRuntime) -> Result<(), Stopped> {
-    print_lent_key(rt, &values::map(rt.alloc(), TWO_ENTRIES)?)
+    let map = values::map(rt.alloc(), TWO_ENTRIES)?;
+    print_key_read(rt, LentDeserializer::from_map(rt.alloc(), &map))
 }
 
 fn print_value<A: MapAccess<Error = Error>>(rt: &HostRuntime, mut map: A) -> Result<(), Stopped> {
@@ -81,17 +70,16 @@ pub fn next_value(rt: &HostRuntime) -> Result<(), Stopped> {
     print_value(rt, DeserializerMap::from_item(rt.alloc(), &mut map)?)
 }
 
-fn print_lent_value<'a>(
-    rt: &HostRuntime,
-    map: &'a HashMap<String, AttributeValue>,
-) -> Result<(), Stopped> {
-    let entries = lent_entries(rt.alloc(), map)?;
-    print_value::<ReaderMapAccess<LentDeserializer<'a>>>(rt, entries)
+// The same of the entries that a reader gives.
+fn print_value_read<R: Reader<Error = Error>>(rt: &HostRuntime, reader: R) -> Result<(), Stopped> {
+    let entries = entries_of(rt.alloc(), reader, "a map")?;
+    print_value(rt, ReaderMapAccess::<R>::new(entries))
 }
 
 /// The same of a lent map.
 pub fn next_lent_value(rt: &HostRuntime) -> Result<(), Stopped> {
-    print_lent_value(rt, &values::map(rt.alloc(), TWO_ENTRIES)?)
+    let map = values::map(rt.alloc(), TWO_ENTRIES)?;
+    print_value_read(rt, LentDeserializer::from_map(rt.alloc(), &map))
 }
 
 // Prints an element that is read in a box, and then the next one and that there is no third.
@@ -112,23 +100,22 @@ fn print_elements<T: Deserialize + Debug, A: SeqAccess<Error = Error>>(
     Ok(())
 }
 
-// The elements of a lent list or set.
-fn lent_elements<'a>(
-    alloc: Global,
-    value: &'a AttributeValue,
-) -> Result<ReaderSeqAccess<LentDeserializer<'a>>> {
-    let reader = LentDeserializer::from_attribute_value(alloc, value);
-    let elements = elements_of(alloc, Request::Seq, reader, "a sequence")?;
-    Ok(ReaderSeqAccess::new(elements))
+// The same of the elements that a reader gives.
+fn print_elements_read<T: Deserialize + Debug, R: Reader<Error = Error>>(
+    rt: &HostRuntime,
+    reader: R,
+) -> Result<(), Stopped> {
+    let elements = elements_of(rt.alloc(), Request::Seq, reader, "a sequence")?;
+    print_elements::<T, _>(rt, ReaderSeqAccess::<R>::new(elements))
 }
 
 // The same of a value that is lent.
-fn print_lent<'a, T: Deserialize + Debug>(
+fn print_lent<T: Deserialize + Debug>(
     rt: &HostRuntime,
-    value: &'a AttributeValue,
+    value: &AttributeValue,
 ) -> Result<(), Stopped> {
-    let elements = lent_elements(rt.alloc(), value)?;
-    print_elements::<T, ReaderSeqAccess<LentDeserializer<'a>>>(rt, elements)
+    let reader = LentDeserializer::from_attribute_value(rt.alloc(), value);
+    print_elements_read::<T, _>(rt, reader)
 }
 
 fn two_values(alloc: Global) -> Result<Vec<AttributeValue>> {
