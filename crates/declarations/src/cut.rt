@@ -18,7 +18,7 @@ struct Editor {
     line: String,
     is_cut: bool,
 
-    // Whether blanks are passed over, since all before them on the line was taken out.
+    // Whether blanks are passed over: something was taken out behind a blank, or at the head of the line.
     skips_blanks: bool,
 }
 
@@ -78,7 +78,8 @@ impl Editor {
     fn cut(&mut self, cut: &Cut) -> Result<(), AllocError> {
         self.is_cut = true;
         self.line.push_str(cut.put.as_str())?;
-        self.skips_blanks = self.line.trim().is_empty();
+        self.skips_blanks = cut.put.is_empty()
+            && (self.line.is_empty() || self.line.ends_with(' ') || self.line.ends_with('\t'));
         Ok(())
     }
 
