@@ -39,14 +39,14 @@ def write(file, content):
 
 
 def read_crates(file=f"{TOP}/crates.txt"):
-    """The lines of a crates.txt: each crate with the libraries that it stands on, lowest first in this repository's."""
+    """The lines of a crates.txt: each crate with its libraries, lowest first in this repository's."""
     lines = (read(file) or b"").decode().splitlines()
     rows = [line.partition("#")[0].partition(":") for line in lines]
     return {name.split()[0]: below.split() for name, _, below in rows if name.strip()}
 
 
 def with_below(names):
-    """These crates of the repository and those that they stand on, lowest first."""
+    """These crates of the repository and all crates below them, lowest first."""
     crates, wanted = read_crates(), set(names)
     if not wanted <= set(crates):
         raise Wrong(f"no crates of this repository: {' '.join(sorted(wanted - set(crates)))}")

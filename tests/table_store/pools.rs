@@ -269,7 +269,7 @@ fn unordered(kind: KeyKind) -> Option<Value> {
     None
 }
 
-/// The first value of a pool that doesn't compare to the next as the list of the pool says, or to its other spelling.
+/// The first value of a pool that isn't less than the next one, or the first other spelling that isn't equal to its number.
 pub fn misplaced() -> Option<Value> {
     for kind in KINDS {
         if let Some(value) = unordered(kind) {

@@ -302,7 +302,7 @@ impl Report {
         self.pages = self.pages.saturating_add(pages);
     }
 
-    // Whether the draw asks what it is to ask: a quarter of the queries find items, and there are more pages than chains.
+    // Whether the drawn queries test enough: a quarter of them find items, and there are more pages than queries asked in pages.
     fn is_telling(&self) -> bool {
         self.found.saturating_mul(4) >= self.asked && self.pages > self.chained
     }
