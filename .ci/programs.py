@@ -101,7 +101,7 @@ def try_program(folder, words, given=subprocess.DEVNULL, flags=()):
     """Runs a program by `rt try`, for ten minutes at most, with this file as its input: what it printed, what it or else `rt try`
     said on standard error, and the status that it ended with, None where there is no answer."""
     how = {"stdin": given, "stdout": subprocess.PIPE, "stderr": subprocess.PIPE}
-    printed, said = start(["rt", "try", "--seconds", "600", *flags, "--", *words], folder, **how).communicate()
+    printed, said = start(["rt", "try", "--seconds", "1800", *flags, "--", *words], folder, **how).communicate()
     said = said.decode(errors="surrogateescape")
     found = SAID.search(said)
     return (printed, said[: found.start()], int(found[2])) if found else (printed, said, None)

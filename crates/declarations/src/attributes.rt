@@ -77,6 +77,9 @@ pub fn read_attributes(alloc: Global, tokens: &[Token]) -> Result<Attributes, Fa
         if name.is("cfg") || name.is("cfg_attr") {
             return Err(Failure::Refused(name.line, Reason::Conditional));
         }
+        if name.is("serde_as") || name.is("serde_with") {
+            unknown(alloc, name)?;
+        }
         if name.is("derive") {
             derives_ord = derives_ord || rest.iter().any(|token| token.is("Ord"));
             derives_hash = derives_hash || rest.iter().any(|token| token.is("Hash"));

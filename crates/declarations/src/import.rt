@@ -22,16 +22,13 @@ impl Import {
 
     // Whether it is of serde, whose names the printed impls import where they need them.
     fn is_of_serde(&self) -> bool {
-        let first = match self.path.as_str().split_once("::") {
-            Some((first, _)) => first,
-            None => self.path.as_str(),
-        };
-        let whole = if first.is_empty() {
-            self.name.as_str()
+        let path = if self.path.is_empty() {
+            &self.name
         } else {
-            first
+            &self.path
         };
-        matches!(whole, "serde" | "serde_derive" | "serde_bytes")
+        let first = path.as_str().split(|c: char| c == ':' || c == ' ').next();
+        matches!(first, Some("serde" | "serde_derive" | "serde_bytes"))
     }
 }
 
@@ -44,6 +41,7 @@ struct Reader {
     open: Vec<String>,
     path: String,
     name: Option<String>,
+    wants_name: bool,
     is_renamed: bool,
     found: Vec<Import>,
 }
@@ -59,6 +57,7 @@ pub fn read_imports(alloc: Global, tokens: &[Token]) -> Result<Vec<Import>, Fail
         open: Vec::new(alloc),
         path: String::new(alloc),
         name: None,
+        wants_name: true,
         is_renamed: false,
         found: Vec::new(alloc),
     };
@@ -71,13 +70,16 @@ pub fn read_imports(alloc: Global, tokens: &[Token]) -> Result<Vec<Import>, Fail
 
 impl Reader {
     fn read(&mut self, token: &Token) -> Result<(), Failure> {
-        if token.is(":") || token.is(";") {
-            Ok(())
+        let is_name = token.is("*") || (token.is_word() && !token.is("as"));
+        if is_name != self.wants_name && (is_name || token.is("as") || token.is(";")) {
+            return Err(Failure::Refused(token.line, Reason::Import));
+        }
+        self.wants_name = !is_name && !token.is("}") && !token.is(";");
+        if is_name {
+            Ok(self.read_name(token.text.as_str())?)
         } else if token.is("as") {
             self.is_renamed = true;
             Ok(())
-        } else if token.is_word() || token.is("*") {
-            Ok(self.read_name(token.text.as_str())?)
         } else if token.is("{") {
             self.enter_name()?;
             Ok(self.open.push(self.path.clone()?)?)
@@ -87,6 +89,8 @@ impl Reader {
             self.end_name()?;
             drop(self.open.pop());
             Ok(self.return_to_open()?)
+        } else if token.is(":") || token.is(";") {
+            Ok(())
         } else {
             Err(Failure::Refused(token.line, Reason::Import))
         }
@@ -119,7 +123,12 @@ impl Reader {
     // Ends a name, and goes back to the path of the braces around it.
     fn end_name(&mut self) -> Result<(), AllocError> {
         if let Some(name) = self.name.take() {
-            let path = self.path.clone()?;
+            let is_buffer = self.path.as_str() == "serde_bytes" && name.starts_with("ByteBuf");
+            let path = if is_buffer {
+                String::from_str(self.alloc, "serde_dynamo")?
+            } else {
+                self.path.clone()?
+            };
             let import = Import { path, name };
             if !import.is_of_serde() {
                 self.found.push(import)?;

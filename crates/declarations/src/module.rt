@@ -4,13 +4,14 @@ use crate::failure::Failure;
 use crate::import::{Import, read_imports};
 use crate::lexer::tokens;
 use crate::parser::{ends_item, is_end, read_declaration, refuse_equal_lists};
-use crate::parts::{after_visibility, attributed, bracketed, parts};
+use crate::parts::{attributed, bracketed, parts};
 use crate::token::Token;
 use std::alloc::{AllocError, Global};
 
 /// A file of declarations.
 #[derive(Drop)]
 pub struct Module {
+    /// Its structs and enums, in order.
     pub declarations: Vec<Declaration>,
 
     /// What its `use` declarations bring in, without the names of serde.
@@ -59,26 +60,28 @@ pub fn read_module(alloc: Global, text: &str) -> Result<Module, Failure> {
     })
 }
 
-// The lines of documentation that a text begins with, and the others.
+// The documentation that a text begins with, with the comments before it, and the rest.
 fn without_docs(alloc: Global, text: &str) -> Result<(String, String), AllocError> {
     let mut docs = String::new(alloc);
     let mut rest = String::new(alloc);
+    let mut is_head = true;
     for line in text.lines() {
-        if rest.is_empty() && line.starts_with("//!") {
-            docs.push_str(line)?;
-            docs.push('\n')?;
-        } else if !rest.is_empty() || !line.is_empty() {
-            rest.push_str(line)?;
-            rest.push('\n')?;
+        is_head = is_head
+            && (line.is_empty() || (line.starts_with("//") && !line.starts_with("///")));
+        rest.push_str(line)?;
+        rest.push('\n')?;
+        if is_head && line.starts_with("//!") {
+            docs.push_str(rest.as_str())?;
+            rest = String::new(alloc);
         }
     }
+    let rest = String::from_str(alloc, rest.trim_start())?;
     Ok((docs, rest))
 }
 
-/// What follows `use`, if the item is an import.
+/// What follows `use`, if the item is an import. One with an attribute or a visibility is none.
 pub fn imported(item: &[Token]) -> Option<&[Token]> {
-    let (_, rest) = attributed(item);
-    match after_visibility(rest) {
+    match item {
         [word, names @ ..] if word.is("use") => Some(names),
         _ => None,
     }
@@ -198,7 +201,8 @@ fn derived_by(alloc: Global, tokens: &[Token]) -> Result<Vec<&Token>, AllocError
 fn derive_text(alloc: Global, tokens: &[Token], wanted: &str) -> Result<String, AllocError> {
     let mut text = String::new(alloc);
     for name in derived_by(alloc, tokens)? {
-        if is_derived_in_rattle(name.text.as_str()) {
+        let is_dropped = name.is("Drop") && wanted.ends_with("Copy");
+        if is_derived_in_rattle(name.text.as_str()) && !is_dropped {
             push_name(&mut text, name.text.as_str())?;
         }
     }
@@ -218,9 +222,10 @@ fn push_name(text: &mut String, name: &str) -> Result<(), AllocError> {
     text.push_str(name)
 }
 
+// Rattle has `Default` too, but not of texts and lists.
 fn is_derived_in_rattle(name: &str) -> bool {
     matches!(
         name,
-        "Clone" | "Copy" | "PartialEq" | "Eq" | "PartialOrd" | "Ord" | "Default" | "Hash" | "Debug"
-    ) || name == "Drop"
+        "Clone" | "Copy" | "PartialEq" | "Eq" | "PartialOrd" | "Ord" | "Hash" | "Debug" | "Drop"
+    )
 }

@@ -19,8 +19,10 @@ pub struct Token {
     pub line: u32,
     pub depth: usize,
 
-    /// How many characters come before it, and how many before what follows it.
+    /// How many characters come before it.
     pub start: usize,
+
+    /// How many characters come before what follows it.
     pub end: usize,
 }
 

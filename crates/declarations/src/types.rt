@@ -4,7 +4,7 @@ use crate::token::Token;
 use std::alloc::Global;
 
 // Types and words of types that no field has: those that DynamoDB's values don't hold, and those that a description doesn't read.
-const REFUSED: [&str; 41] = [
+const REFUSED: [&str; 26] = [
     "f32",
     "f64",
     "usize",
@@ -19,33 +19,18 @@ const REFUSED: [&str; 41] = [
     "BinaryHeap",
     "Rc",
     "Arc",
-    "Weak",
     "Cow",
-    "Cell",
     "RefCell",
     "Mutex",
     "RwLock",
-    "Result",
     "PhantomData",
-    "Wrapping",
-    "Reverse",
-    "Range",
-    "RangeInclusive",
-    "Bound",
-    "Duration",
-    "Instant",
     "SystemTime",
-    "Path",
     "PathBuf",
-    "OsStr",
     "OsString",
-    "CStr",
     "CString",
-    "IpAddr",
-    "Ipv4Addr",
-    "Ipv6Addr",
     "dyn",
     "impl",
+    "fn",
 ];
 
 /// Refuses a type that no field of a described type has.
@@ -74,17 +59,16 @@ pub fn refuse_default(alloc: Global, tokens: &[Token]) -> Result<(), Failure> {
     let Some(token) = tokens.first() else {
         return Ok(());
     };
-    const NONE: [&str; 8] = [
+    let has_none = [
+        "(",
         "char",
         "Box",
         "ByteBuf",
         "AttributeValue",
-        "Item",
-        "Value",
         "BTreeMap",
         "HashMap",
     ];
-    if token.is("(") || NONE.iter().any(|name| token.is(name)) {
+    if has_none.iter().any(|name| token.is(name)) {
         let text = String::from_str(alloc, token.text.as_str())?;
         return Err(Failure::Refused(token.line, Reason::NoDefault(text)));
     }

@@ -6,7 +6,7 @@ use declarations::{Body, Declaration, Import, Module, RenameRule};
 use std::alloc::{AllocError, Global};
 use std::fmt::Write;
 
-/// The imports and the impls of the declarations, which are to be put below them in this module.
+/// The imports and the impls of the declarations, to put below them in this module.
 ///
 /// # Errors
 ///

@@ -23,6 +23,7 @@ pub struct Uses {
 }
 
 impl Uses {
+    /// No names.
     pub fn new(alloc: Global) -> Uses {
         Uses {
             found: Vec::new(alloc),
@@ -30,6 +31,10 @@ impl Uses {
     }
 
     /// Adds a name of a path.
+    ///
+    /// # Errors
+    ///
+    /// Out of memory, as with the calls below.
     pub fn add(&mut self, alloc: Global, path: &str, name: &str) -> Result<(), AllocError> {
         let import = Import {
             path: String::from_str(alloc, path)?,
@@ -64,7 +69,7 @@ impl Uses {
             self.add(alloc, import.path.as_str(), import.name.as_str())?;
         }
         for (path, name) in KNOWN {
-            let is_other = imports.iter().any(|import| import.brings(name))
+            let is_other = imports.iter().any(|it| it.brings(name) || it.brings("*"))
                 || declarations.iter().any(|it| it.name.as_str() == name);
             if !is_other && declarations.iter().any(|it| has_type(it, name)) {
                 self.add(alloc, path, name)?;
@@ -102,7 +107,9 @@ impl Uses {
 
 fn use_line(alloc: Global, path: &str, names: &[String]) -> Result<String, AllocError> {
     let separator = if path.is_empty() { "" } else { "::" };
-    if let [name] = names {
+    if let [name] = names
+        && !is_self(name.as_str())
+    {
         return format!(in alloc; "use {path}{separator}{name};");
     }
     let names = self_first(alloc, names)?;
@@ -115,12 +122,17 @@ fn use_line(alloc: Global, path: &str, names: &[String]) -> Result<String, Alloc
     format!(in alloc; "use {path}{separator}{{\n{lines}}};")
 }
 
+// Whether it is the module of a path itself, perhaps by another name.
+fn is_self(name: &str) -> bool {
+    name == "self" || name.starts_with("self as ")
+}
+
 // The names with `self` before the others.
 fn self_first(alloc: Global, names: &[String]) -> Result<Vec<String>, AllocError> {
     let mut found = Vec::new(alloc);
-    for is_self in [true, false] {
+    for comes_first in [true, false] {
         for name in names {
-            if (name.as_str() == "self") == is_self {
+            if is_self(name.as_str()) == comes_first {
                 found.push(name.clone()?)?;
             }
         }
