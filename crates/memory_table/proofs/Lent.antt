@@ -31,6 +31,12 @@ under_equal old new key other item updates equal =
     subst (λ (compare : Key → Ordering). UpdatesBy key_cmp compare old new (Some item))
     (sym (alike other key equal)) updates
 
+-- equal keys have the same item
+pub same_item : (old : BTreeMap Key Item) (key other : Key) → key_cmp other key ≡ Equal
+    → get key_cmp old other ≡ get key_cmp old key
+same_item old key other equal =
+    ap (λ (compare : Key → Ordering). get_by compare old) (alike other key equal)
+
 -- an equal key has no item either
 no_item : (old : BTreeMap Key Item) (key other : Key) → get key_cmp old key ≡ None
     → (o : Ordering) → key_cmp key other ≡ o

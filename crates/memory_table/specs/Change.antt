@@ -1,5 +1,5 @@
 -- What a change of a table answers, and what it leaves.
-use Rattle.std.specs.Prelude.{◌≡◌, ◌⊎◌, Option, Some, None, Result, Ok, Err, MatchResult, MatchOption, is_some}
+use Rattle.std.specs.Prelude.{◌≡◌, ◌⊎◌, true, false, Option, Some, None, Result, Ok, Err, MatchResult, MatchOption, is_some}
 use Rattle.std.specs.BTreeMap.{get, Updates}
 use Rattle.std.specs.Bool.{MatchBool}
 use Rattle.std.specs.Ordering.{is_ne}
@@ -23,13 +23,18 @@ Puts key item old new r =
     MatchResult r (λ before. (before ≡ get key_cmp (items_of old) key) × Updates key_cmp (items_of old) (items_of new) key (Some item))
     (λ error. Refuses error old new r × (error ≡ TableError.OutOfMemory))
 
--- the same under the item's own key, where the condition holds of the item there
+-- the same where the condition holds of what is under the key
+abbrev pub PutsUnder : Condition → Key → Item → Table → Table → Result (Option Item) TableError
+    → Type 0
+PutsUnder condition key item old new r =
+    MatchBool (holds condition (is_some (get key_cmp (items_of old) key)))
+    (Puts key item old new r) (Refuses TableError.ConditionFailed old new r)
+
+-- the same under the item's own key
 abbrev pub PutsIf : Condition → Item → Table → Table → Result (Option Item) TableError → Type 0
 PutsIf condition item old new r =
     (key : Result Key TableError) × ReadsKey (schema_of old) item key
-    × MatchResult key
-    (λ k. MatchBool (holds condition (is_some (get key_cmp (items_of old) k))) (Puts k item old new r) (Refuses TableError.ConditionFailed old new r))
-    (λ error. Refuses error old new r)
+    × MatchResult key (λ k. PutsUnder condition k item old new r) (λ error. Refuses error old new r)
 
 -- The item is put under its own key, which is returned, and other keys keep what they have. Or the item has no key, or memory
 -- is wanting.
@@ -40,6 +45,29 @@ PutsItem item old new r =
     × Updates key_cmp (items_of old) (items_of new) key (Some item))
     (λ error. (ReadsKey (schema_of old) item (Err error) ⊎ (error ≡ TableError.OutOfMemory))
     × (entries_of new ≡ entries_of old))
+
+-- the condition doesn't hold of what the table has under the item's key
+abbrev pub FailsCondition : Condition → Item → Table → Type 0
+FailsCondition condition item table =
+    (key : Key) × ReadsKey (schema_of table) item (Ok key)
+    × (holds condition (is_some (get key_cmp (items_of table) key)) ≡ false)
+
+-- Why an item isn't put: it has no key, memory is wanting, or the condition doesn't hold.
+abbrev pub RefusesItem : Condition → Item → Table → TableError → Type 0
+RefusesItem condition item table error =
+    ReadsKey (schema_of table) item (Err error)
+    ⊎ (error ≡ TableError.OutOfMemory)
+    ⊎ ((error ≡ TableError.ConditionFailed) × FailsCondition condition item table)
+
+-- The item is put under its own key, which is returned, where the condition holds there, and other
+-- keys keep what they have. Or the table has the items that it had.
+abbrev pub PutsItemIf : Condition → Item → Table → Table → Result Key TableError → Type 0
+PutsItemIf condition item old new r =
+    MatchResult r
+    (λ key. ReadsKey (schema_of old) item (Ok key)
+    × (holds condition (is_some (get key_cmp (items_of old) key)) ≡ true)
+    × Updates key_cmp (items_of old) (items_of new) key (Some item))
+    (λ error. RefusesItem condition item old error × (entries_of new ≡ entries_of old))
 
 -- nothing is under the key from now on, where the condition holds of what was there, which is the answer
 abbrev pub DeletesIf : Condition → Key → Table → Table → Result (Option Item) TableError → Type 0

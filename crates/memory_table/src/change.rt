@@ -1,8 +1,9 @@
 ghost use Rattle.std.specs.Prelude.{◌≡◌, None, [], IsTrue, ◌↔◌, length, option_map, OnOk};
 ghost use Rattle.std.specs.BTreeMap.{get, IsOrdered, Updates};
 ghost use Rattle.std.specs.Fn.{FnOnceReturnsAt};
-ghost use Rattle.memory_table.specs.Change.{DeletesIf, PutsIf, PutsItem, UpdatesItem};
+ghost use Rattle.memory_table.specs.Change.{DeletesIf, PutsIf, PutsItem, PutsItemIf, PutsUnder, UpdatesItem};
 ghost use Rattle.memory_table.specs.Content.{items_of, entries_of, schema_of};
+ghost use Rattle.table_key.specs.Held.{IsHeldKey};
 ghost use Rattle.table_key.specs.KeyOf.{ReadsKey};
 ghost use Rattle.table_key.specs.KeyOrder.{key_cmp};
 ghost use Rattle.table_query.specs.declared.condition.Condition.TheVariants.{Always};
@@ -79,6 +80,22 @@ impl Table {
         ensures schema { schema_of self.new ≡ schema_of self.old }
     {
         let key = self.schema.key_of(&item)?;
+        self.put_under(condition, key, item)
+    }
+
+    // Puts an item under a key, its own, where the condition holds there, and returns the item that
+    // was there.
+    fn put_under(
+        &mut self,
+        condition: Condition,
+        key: Key,
+        item: Item,
+    ) -> Result<Option<Item>, TableError>
+        requires held { IsHeldKey key }
+        ensures puts { PutsUnder condition key item self.old self.new result }
+        ensures ordered { OnOk result (IsOrdered key_cmp (items_of self.new)) }
+        ensures schema { schema_of self.new ≡ schema_of self.old }
+    {
         match condition {
             Condition::Always => Ok(self.items.insert(key, item)?),
             Condition::Exists => match places::replace(&mut self.items, &key, item) {
@@ -105,9 +122,28 @@ impl Table {
         ensures ordered { OnOk result (IsOrdered key_cmp (items_of self.new)) }
         ensures schema { schema_of self.new ≡ schema_of self.old }
     {
+        self.put_if_returning_key(Condition::Always, item)
+    }
+
+    /// Puts an item under its key where the condition holds there, and returns the key. It drops the
+    /// item that was there.
+    ///
+    /// # Errors
+    ///
+    /// Those of [`KeySchema::key_of`], `ConditionFailed` where the condition doesn't hold, and
+    /// `OutOfMemory`. The table has then the items that it had.
+    pub fn put_if_returning_key(
+        &mut self,
+        condition: Condition,
+        item: Item,
+    ) -> Result<Key, TableError>
+        ensures puts { PutsItemIf condition item self.old self.new result }
+        ensures ordered { OnOk result (IsOrdered key_cmp (items_of self.new)) }
+        ensures schema { schema_of self.new ≡ schema_of self.old }
+    {
         let key = self.schema.key_of(&item)?;
         let copy = key.clone()?;
-        self.items.insert(key, item)?;
+        self.put_under(condition, key, item)?;
         Ok(copy)
     }
 
