@@ -1,6 +1,9 @@
 -- What a table of one type holds: the items of its values, under their keys.
-use Rattle.std.specs.Prelude.{◌≡◌, ◌⊎◌, ⊤, List, [], ◌∷◌, Option, Some, None, Result, Ok, Err}
-use Rattle.std.specs.BTreeMap.{get}
+use Rattle.std.specs.Prelude.{◌≡◌, ◌⊎◌, ⊤, ℕ, Bool, List, [], ◌∷◌, take, Option, Some, None, is_some}
+use Rattle.std.specs.Prelude.{Result, Ok, Err}
+use Rattle.std.specs.BTreeMap.{get, Updates}
+use Rattle.std.specs.Bool.{MatchBool}
+use Rattle.std.specs.Borrow.{Bor}
 use Rattle.dynamo_value.specs.Av as av
 use Rattle.dynamo_value.specs.Fault.{Fault, out_of_memory}
 use Rattle.dynamo_value.specs.Item.{item_view}
@@ -17,7 +20,12 @@ use Rattle.table_key.specs.KeyOrder.{key_cmp}
 use Rattle.table_key.specs.declared.error.TableError.{TableError}
 use Rattle.table_key.specs.declared.key.Key.{Key}
 use Rattle.table_key.specs.declared.schema.KeySchema.{KeySchema}
-use Rattle.memory_table.specs.Content.{items_of}
+use Rattle.table_query.specs.Conditions.{holds}
+use Rattle.table_query.specs.Queries.{rest}
+use Rattle.table_query.specs.declared.condition.Condition.{Condition}
+use Rattle.memory_table.specs.Change as items
+use Rattle.memory_table.specs.Change.{Refuses}
+use Rattle.memory_table.specs.Content.{entries_of, items_of}
 use Rattle.memory_table.specs.declared.table.Table.{Table}
 use Rattle.typed_table.specs.declared.error.StoreError.{StoreError}
 use Rattle.typed_table.specs.declared.table.TypedTable.{TypedTable}
@@ -56,3 +64,40 @@ ReadEach reads (e ∷ es) [] = ⊥
 abbrev pub RefusesOne : {T : Type 0} → (Source → Result T Fault → Type 0) → Fault → List (Key × Item) → Type 0
 RefusesOne reads fault [] = ⊥
 RefusesOne reads fault (e ∷ es) = reads (attribute (av.M (item_view e.1))) (Err fault) ⊎ RefusesOne reads fault es
+
+-- why a call that reads these items fails: one of them is refused, or memory is wanting
+abbrev pub FailsToRead : {T : Type 0} → (Source → Result T Fault → Type 0) → List (Key × Item)
+    → Error → Type 0
+FailsToRead reads entries e = (fault_of e ≡ out_of_memory) ⊎ RefusesOne reads (fault_of e) entries
+
+-- a page of a scan: the items behind a key, up to a limit
+abbrev pub page : ℕ → Option (Bor Key) → Table → List (Key × Item)
+page limit start table = take limit (rest start (entries_of table))
+
+-- the key is that of the item that the value is written as
+abbrev pub IsKeyOf : {T : Type 0} → Shape → (T → Datum) → KeySchema → T → Key → Type 0
+IsKeyOf shape tells schema value key =
+    (item : Item) × IsItemOf shape tells value item × ReadsKey schema item (Ok key)
+
+-- the error says that the condition fails, and it doesn't hold of what is under the value's key
+abbrev pub FailsCondition : {T : Type 0} → Shape → (T → Datum) → Condition → Table → T → StoreError
+    → Type 0
+FailsCondition shape tells condition table value e =
+    (e ≡ StoreError.Table TableError.ConditionFailed)
+    × (item : Item) × IsItemOf shape tells value item × items.FailsCondition condition item table
+
+-- Nothing is under the key from now on, where the condition holds there. The result says whether
+-- there was anything.
+abbrev pub DeletesIf : Condition → Key → Table → Table → Result Bool TableError → Type 0
+DeletesIf condition key old new r =
+    let there = is_some (get key_cmp (items_of old) key) in
+    MatchBool (holds condition there)
+    ((r ≡ Ok there) × Updates key_cmp (items_of old) (items_of new) key None)
+    (Refuses TableError.ConditionFailed old new r)
+
+-- the value that the change made of the one that was read under the key is held there now
+abbrev pub UpdatesValue : {T E : Type 0} → Shape → (T → Datum) → (Source → Result T Fault → Type 0)
+    → (T → Result T E → Type 0) → Key → Table → Table → Type 0
+UpdatesValue {T} shape tells reads Makes key old new =
+    (before after : T) × ReadsAt reads (get key_cmp (items_of old) key) (Ok (Some before))
+    × Makes before (Ok after) × Holds shape tells new key after
