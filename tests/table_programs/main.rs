@@ -4,6 +4,7 @@
 //! At the end a table of members is used, in memory, in a database and in one of pages.
 #![tactic(auto)]
 
+mod changes;
 mod exports;
 mod kept;
 mod member;
@@ -15,6 +16,7 @@ fn main(rt: HostRuntime) -> anyhow::Result<()> {
     exports::print_again(&rt)?;
     exports::print_long(&rt)?;
     members::print_calls(&rt)?;
+    changes::print_calls(&rt)?;
     kept::print_calls(&rt)?;
     kept::print_calls_in_pages(&rt)
 }
