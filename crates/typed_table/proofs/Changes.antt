@@ -1,6 +1,8 @@
 -- What a put on a condition and an update come to.
-use Rattle.std.proofs.Common.{◌≡◌, ◌⊎◌, ◌∙◌, Bool, true, false, Option, Some, None, Result, Ok, Err}
-use Rattle.std.proofs.Common.{MatchOption, MatchResult, Ordering, Less, Equal, Greater, refl, ap, subst, inl, inr}
+use Rattle.std.proofs.Common.{◌≡◌, ◌⊎◌, ◌∙◌, Bool, true, false}
+use Rattle.std.proofs.Common.{Option, Some, None, Result, Ok, Err}
+use Rattle.std.proofs.Common.{MatchOption, MatchResult, Ordering, Less, Equal, Greater}
+use Rattle.std.proofs.Common.{refl, ap, subst, inl, inr}
 use Rattle.std.specs.BTreeMap.{Updates, get}
 use Rattle.std.specs.Bool.{MatchBool}
 use Rattle.std.specs.Ordering.{is_ne, ordering_reverse}
@@ -41,7 +43,8 @@ module _ (key : Key) (old new : Table) where
 
   module _ (item : Item) (done : Unit {0}) where
     in_place : (own : Key) (other : Bool) → is_ne (key_cmp own key) ≡ other
-        → MatchBool other (Refuses TableError.KeyChanged old new (Ok done)) (PutsThere own item old new (Ok done))
+        → MatchBool other (Refuses TableError.KeyChanged old new (Ok done))
+        (PutsThere own item old new (Ok done))
         → Updates key_cmp (items_of old) (items_of new) key (Some item)
     in_place own true e h = cc
     in_place own false e h =
@@ -50,7 +53,8 @@ module _ (key : Key) (old new : Table) where
 
     of_own : (own : Result Key TableError)
         → MatchResult own
-        (λ k. MatchBool (is_ne (key_cmp k key)) (Refuses TableError.KeyChanged old new (Ok done)) (PutsThere k item old new (Ok done)))
+        (λ k. MatchBool (is_ne (key_cmp k key)) (Refuses TableError.KeyChanged old new (Ok done))
+        (PutsThere k item old new (Ok done)))
         (λ error. Refuses error old new (Ok done))
         → Updates key_cmp (items_of old) (items_of new) key (Some item)
     of_own (Ok k) h = in_place k (is_ne (key_cmp k key)) refl h
@@ -83,14 +87,17 @@ module _ (key : Key) (old new : Table) where
 
   module _ (error : TableError) where
     not_in_place : (own : Key) (item : Item) (other : Bool)
-        → MatchBool other (Refuses {A = Unit {0}} TableError.KeyChanged old new (Err error)) (PutsThere own item old new (Err error))
+        → MatchBool other (Refuses {A = Unit {0}} TableError.KeyChanged old new (Err error))
+        (PutsThere own item old new (Err error))
         → entries_of new ≡ entries_of old
     not_in_place own item true h = h.1
     not_in_place own item false h = h.0.1
 
     not_of_own : (item : Item) (own : Result Key TableError)
         → MatchResult own
-        (λ k. MatchBool (is_ne (key_cmp k key)) (Refuses {A = Unit {0}} TableError.KeyChanged old new (Err error)) (PutsThere k item old new (Err error)))
+        (λ k. MatchBool (is_ne (key_cmp k key))
+        (Refuses {A = Unit {0}} TableError.KeyChanged old new (Err error))
+        (PutsThere k item old new (Err error)))
         (λ e. Refuses {A = Unit {0}} e old new (Err error))
         → entries_of new ≡ entries_of old
     not_of_own item (Ok k) h = not_in_place k item (is_ne (key_cmp k key)) h

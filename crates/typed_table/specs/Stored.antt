@@ -1,9 +1,10 @@
 -- What a table of one type holds: the items of its values, under their keys.
-use Rattle.std.specs.Prelude.{◌≡◌, ◌⊎◌, ⊤, ℕ, Bool, List, [], ◌∷◌, take, Option, Some, None, is_some}
-use Rattle.std.specs.Prelude.{Result, Ok, Err}
+use Rattle.std.specs.Prelude.{◌≡◌, ◌≢◌, ◌⊎◌, ⊤, ℕ, Bool, List, [], ◌∷◌, take}
+use Rattle.std.specs.Prelude.{Option, Some, None, is_some, Result, Ok, Err}
 use Rattle.std.specs.BTreeMap.{get, Updates}
 use Rattle.std.specs.Bool.{MatchBool}
 use Rattle.std.specs.Borrow.{Bor}
+use Rattle.std.specs.declared.cmp.Ordering.TheVariants.{Equal}
 use Rattle.dynamo_value.specs.Av as av
 use Rattle.dynamo_value.specs.Fault.{Fault, out_of_memory}
 use Rattle.dynamo_value.specs.Item.{item_view}
@@ -73,6 +74,12 @@ FailsToRead reads entries e = (fault_of e ≡ out_of_memory) ⊎ RefusesOne read
 -- a page of a scan: the items behind a key, up to a limit
 abbrev pub page : ℕ → Option (Bor Key) → Table → List (Key × Item)
 page limit start table = take limit (rest start (entries_of table))
+
+-- every key but this one has in the new table what it had in the old
+abbrev pub OthersStay : Key → Table → Table → Type 0
+OthersStay key old new =
+    (other : Key) → key_cmp key other ≢ Equal
+    → get key_cmp (items_of new) other ≡ get key_cmp (items_of old) other
 
 -- the key is that of the item that the value is written as
 abbrev pub IsKeyOf : {T : Type 0} → Shape → (T → Datum) → KeySchema → T → Key → Type 0

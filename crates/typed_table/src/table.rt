@@ -1,15 +1,15 @@
-ghost use Rattle.std.specs.Prelude.{◌≡◌, ◌≢◌, ◌⊎◌, ◌↔◌, [], None, Some, Ok, true, length, IfOk, IfErr, OnOk, OnErr, IsTrue, MatchOption, MatchResult, is_some};
+ghost use Rattle.std.specs.Prelude.{◌≡◌, ◌⊎◌, ◌↔◌, [], None, Some, Ok, true, length, is_some, IsTrue};
+ghost use Rattle.std.specs.Prelude.{IfOk, IfErr, OnOk, OnErr, MatchOption, MatchResult};
 ghost use Rattle.std.specs.BTreeMap.{get, Updates};
-ghost use Rattle.std.specs.declared.cmp.Ordering.TheVariants.{Equal};
 ghost use Rattle.dynamo_value.specs.Fault.{out_of_memory};
 ghost use Rattle.dynamo_value.specs.Kind.{fault_of};
 ghost use Rattle.dynamo_shape.specs.Clear.{Clear};
 ghost use Rattle.table_key.specs.KeyOrder.{key_cmp};
-ghost use Rattle.table_key.specs.declared.key.Key.{Key};
 ghost use Rattle.table_query.specs.Conditions.{holds};
 ghost use Rattle.table_query.specs.Queries.{answer};
 ghost use Rattle.memory_table.specs.Content.{entries_of, items_of, schema_of};
-ghost use Rattle.typed_table.specs.Stored.{DeletesIf, FailsCondition, FailsToPut, FailsToRead, Holds, IsKeyOf, ReadEach, ReadsAt, UpdatesValue, page, table_of};
+ghost use Rattle.typed_table.specs.Stored.{DeletesIf, FailsCondition, FailsToPut, FailsToRead, Holds, IsKeyOf};
+ghost use Rattle.typed_table.specs.Stored.{OthersStay, ReadEach, ReadsAt, UpdatesValue, page, table_of};
 
 use crate::item::{item_of, value_of, values_of};
 use crate::{Keyed, StoreError};
@@ -87,7 +87,7 @@ impl<T: Keyed> TypedTable<T> {
     /// `Value` where the value isn't written as an item, `Table` where that has no key of the table, and want of memory as either.
     pub fn put(&mut self, value: &T) -> std::result::Result<Key, StoreError>
         ensures holds { IfOk result (λ key. Holds T.about.shape T.tells (table_of self.new) key value.now) }
-        ensures others { IfOk result (λ key. (other : Key) → key_cmp key other ≢ Equal → get key_cmp (items_of (table_of self.new)) other ≡ get key_cmp (items_of (table_of self.old)) other) }
+        ensures others { IfOk result (λ key. OthersStay key (table_of self.old) (table_of self.new)) }
         ensures err { IfErr result (λ e. FailsToPut T.about.shape T.tells (schema_of (table_of self.old)) value.now e) }
         ensures unchanged { OnErr result (entries_of (table_of self.new) ≡ entries_of (table_of self.old)) }
         ensures schema { schema_of (table_of self.new) ≡ schema_of (table_of self.old) }
@@ -106,9 +106,10 @@ impl<T: Keyed> TypedTable<T> {
         condition: Condition,
         value: &T,
     ) -> std::result::Result<Key, StoreError>
-        ensures condition { IfOk result (λ key. holds condition (is_some (get key_cmp (items_of (table_of self.old)) key)) ≡ true) }
+        ensures condition { IfOk result (λ key.
+            holds condition (is_some (get key_cmp (items_of (table_of self.old)) key)) ≡ true) }
         ensures holds { IfOk result (λ key. Holds T.about.shape T.tells (table_of self.new) key value.now) }
-        ensures others { IfOk result (λ key. (other : Key) → key_cmp key other ≢ Equal → get key_cmp (items_of (table_of self.new)) other ≡ get key_cmp (items_of (table_of self.old)) other) }
+        ensures others { IfOk result (λ key. OthersStay key (table_of self.old) (table_of self.new)) }
         ensures err { IfErr result (λ e. FailsToPut T.about.shape T.tells (schema_of (table_of self.old)) value.now e
             ⊎ FailsCondition T.about.shape T.tells condition (table_of self.old) value.now e) }
         ensures unchanged { OnErr result (entries_of (table_of self.new) ≡ entries_of (table_of self.old)) }
@@ -128,7 +129,8 @@ impl<T: Keyed> TypedTable<T> {
     /// What reading the item permits, or want of memory.
     pub fn get(&self, key: &Key) -> Result<Option<T>>
         ensures read { ReadsAt T.reads (get key_cmp (items_of (table_of self.now)) key.now) result }
-        ensures clear { Clear T.about.shape → (value : T) → Holds T.about.shape T.tells (table_of self.now) key.now value → MatchResult result (λ found. MatchOption found ⊥ (λ w. T.about.same value w)) (λ e. fault_of e ≡ out_of_memory) }
+        ensures clear { Clear T.about.shape → (value : T) → Holds T.about.shape T.tells (table_of self.now) key.now value
+            → MatchResult result (λ found. MatchOption found ⊥ (λ w. T.about.same value w)) (λ e. fault_of e ≡ out_of_memory) }
     {
         match self.table.get(key) {
             Some(item) => Ok(Some(value_of(self.alloc, item)?)),
@@ -173,8 +175,9 @@ impl<T: Keyed> TypedTable<T> {
         change: F,
     ) -> std::result::Result<(), E>
         requires { F.IsAlwaysCallable change }
-        ensures updates { OnOk result (UpdatesValue T.about.shape T.tells T.reads (F.post change) key.now (table_of self.old) (table_of self.new)) }
-        ensures others { OnOk result ((other : Key) → key_cmp key.now other ≢ Equal → get key_cmp (items_of (table_of self.new)) other ≡ get key_cmp (items_of (table_of self.old)) other) }
+        ensures updates { OnOk result (UpdatesValue T.about.shape T.tells T.reads (F.post change) key.now
+            (table_of self.old) (table_of self.new)) }
+        ensures others { OnOk result (OthersStay key.now (table_of self.old) (table_of self.new)) }
         ensures unchanged { OnErr result (entries_of (table_of self.new) ≡ entries_of (table_of self.old)) }
         ensures schema { schema_of (table_of self.new) ≡ schema_of (table_of self.old) }
     {
@@ -186,7 +189,8 @@ impl<T: Keyed> TypedTable<T> {
 
     // Returns the value under a key that has one.
     fn existing(&self, key: &Key) -> std::result::Result<T, StoreError>
-        ensures { IfOk result (λ value. ReadsAt T.reads (get key_cmp (items_of (table_of self.now)) key.now) (Ok (Some value))) }
+        ensures { IfOk result (λ value.
+            ReadsAt T.reads (get key_cmp (items_of (table_of self.now)) key.now) (Ok (Some value))) }
     {
         match self.get(key)? {
             Some(value) => Ok(value),
@@ -197,7 +201,7 @@ impl<T: Keyed> TypedTable<T> {
     // Puts a value in the place of the one under the key, which is to be its own.
     fn replace(&mut self, key: &Key, value: &T) -> std::result::Result<(), StoreError>
         ensures holds { OnOk result (Holds T.about.shape T.tells (table_of self.new) key.now value.now) }
-        ensures others { OnOk result ((other : Key) → key_cmp key.now other ≢ Equal → get key_cmp (items_of (table_of self.new)) other ≡ get key_cmp (items_of (table_of self.old)) other) }
+        ensures others { OnOk result (OthersStay key.now (table_of self.old) (table_of self.new)) }
         ensures unchanged { OnErr result (entries_of (table_of self.new) ≡ entries_of (table_of self.old)) }
         ensures schema { schema_of (table_of self.new) ≡ schema_of (table_of self.old) }
     {
