@@ -48,8 +48,8 @@ pub enum Reason {
 }
 
 const FIELD_TYPES: &str = "a field is `bool`, `char`, `String`, `ByteBuf`, an integer of 8 to 128 \
-bits, `AttributeValue`, `Item`, an `Option`, `Box`, `Vec`, `BTreeMap` or `HashMap` of such types, \
-two to four of them in brackets, or a type that is described";
+bits, an `Option`, `Box`, `Vec`, `BTreeMap` or `HashMap` of such types, two to four of them in \
+brackets, or a type that is described";
 
 const DEFAULTS: &str = "`bool`, integers, `String`, `Option` and `Vec` have one, and a type of \
 your own that is a `DefaultValue`";

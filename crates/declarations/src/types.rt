@@ -4,12 +4,13 @@ use crate::token::Token;
 use std::alloc::Global;
 
 // Types and words of types that no field has: those that DynamoDB's values don't hold, and those that a description doesn't read.
-const REFUSED: [&str; 26] = [
+const REFUSED: [&str; 27] = [
     "f32",
     "f64",
     "usize",
     "isize",
     "str",
+    "AttributeValue",
     "HashSet",
     "BTreeSet",
     "IndexMap",
@@ -59,15 +60,7 @@ pub fn refuse_default(alloc: Global, tokens: &[Token]) -> Result<(), Failure> {
     let Some(token) = tokens.first() else {
         return Ok(());
     };
-    let has_none = [
-        "(",
-        "char",
-        "Box",
-        "ByteBuf",
-        "AttributeValue",
-        "BTreeMap",
-        "HashMap",
-    ];
+    let has_none = ["(", "char", "Box", "ByteBuf", "BTreeMap", "HashMap"];
     if has_none.iter().any(|name| token.is(name)) {
         let text = String::from_str(alloc, token.text.as_str())?;
         return Err(Failure::Refused(token.line, Reason::NoDefault(text)));

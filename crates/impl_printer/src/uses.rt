@@ -8,10 +8,8 @@ use std::fmt::Write;
 const WIDTH: usize = 98;
 
 // The types of the library and of `std` that a field may have and that need an import.
-const KNOWN: [(&str, &str); 5] = [
-    ("serde_dynamo", "AttributeValue"),
+const KNOWN: [(&str, &str); 3] = [
     ("serde_dynamo", "ByteBuf"),
-    ("serde_dynamo", "Item"),
     ("std::collections", "BTreeMap"),
     ("std::collections", "HashMap"),
 ];
