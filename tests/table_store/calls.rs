@@ -83,7 +83,8 @@ fn attribute(alloc: Global, name: &str, kind: KeyKind) -> Result<KeyAttribute, A
     })
 }
 
-fn set(
+/// Gives an attribute of an item a value.
+pub fn set(
     alloc: Global,
     item: &mut Item,
     name: &str,

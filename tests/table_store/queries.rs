@@ -1,5 +1,5 @@
 //! Queries of values that lie close to each other, in a table in memory and in one in a database, held against a plain filter.
-use crate::calls::{Draw, Shape, shapes};
+use crate::calls::{Draw, Shape, set, shapes};
 use crate::pools::{COUNT, Value, misplaced, pooled};
 use crate::question::{Pair, Question, draw_one};
 use crate::tables::Calls;
@@ -74,17 +74,6 @@ pub fn item(alloc: Global, pair: Pair, number: usize) -> Result<Item, StoreError
     Ok(item)
 }
 
-fn set(
-    alloc: Global,
-    item: &mut Item,
-    name: &str,
-    value: AttributeValue,
-) -> Result<(), AllocError> {
-    let name = String::from_str(alloc, name)?;
-    drop(item.inner_mut().insert(name, value)?);
-    Ok(())
-}
-
 impl Both {
     fn empty(
         alloc: Global,
@@ -134,27 +123,15 @@ impl Both {
     fn fill_partitions(&mut self, alloc: Global) -> Result<(), StoreError> {
         for place in 0..COUNT {
             let partition = pooled(self.shape.partition, place);
-            self.keep(
-                alloc,
-                Pair {
-                    partition,
-                    sort: None,
-                },
-                place,
-            )?;
+            let sort = None;
+            self.keep(alloc, Pair { partition, sort }, place)?;
         }
         self.put_all()?;
         for place in COUNT..COUNT.saturating_add(10) {
             let partition = pooled(self.shape.partition, place);
             if matches!(partition, Value::N(_)) {
-                self.keep(
-                    alloc,
-                    Pair {
-                        partition,
-                        sort: None,
-                    },
-                    place,
-                )?;
+                let sort = None;
+                self.keep(alloc, Pair { partition, sort }, place)?;
             }
         }
         self.put_all()
