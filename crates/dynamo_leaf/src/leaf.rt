@@ -45,6 +45,7 @@ pub enum Scalar {
 
 impl Scalar {
     /// What a reader shows of it. It takes no memory.
+    #[inline(always)]
     pub fn shown<D, L, M, C>(self) -> Showing<D, L, M, C>
         ensures { (source : D → Source) (elements : L → List Source) (entries : M → List Entry)
             (variants : C → Result (List ℕ × Option Source) Fault)
@@ -178,6 +179,7 @@ pub fn show_key(request: Request, text: &str) -> Result<Leaf>
 
 /// What an element of a set of strings shows, and the name of a variant, whatever its text: the variant of that name to an
 /// enum, and the text at any other request.
+#[inline(always)]
 pub fn show_plain_text(request: Request) -> Leaf
     ensures { (text : List ℕ) → plain_text_shown request text ≡ Ok (leaf_sight text result) }
 {

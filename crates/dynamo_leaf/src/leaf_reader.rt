@@ -30,6 +30,7 @@ pub trait LeafReader: Sized + Drop {
 
 /// What a reader shows where its text shows this leaf: the same, with a reader around what lies inside. `L` and `M` are the
 /// elements and the entries of its showings, of which a leaf has none. It takes no memory, and it never refuses.
+#[inline(always)]
 pub fn raise<R: LeafReader, L, M>(
     alloc: Global,
     leaf: Leaf,

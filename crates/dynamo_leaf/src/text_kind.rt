@@ -34,6 +34,7 @@ impl Sealed for KeyText {}
 impl TextKind for KeyText {
     ghost of_text = { key_text };
 
+    #[inline(always)]
     fn show_text(request: Request, text: String) -> Result<(Leaf, String)> {
         let leaf = show_key(request, text.as_str())?;
         Ok((leaf, text))
@@ -49,6 +50,7 @@ impl Sealed for NumberText {}
 impl TextKind for NumberText {
     ghost of_text = { number_text };
 
+    #[inline(always)]
     fn show_text(request: Request, text: String) -> Result<(Leaf, String)> {
         match show_number(request, text.as_str()) {
             Ok(leaf) => Ok((leaf, text)),
@@ -66,6 +68,7 @@ impl Sealed for PlainText {}
 impl TextKind for PlainText {
     ghost of_text = { plain_text };
 
+    #[inline(always)]
     fn show_text(request: Request, text: String) -> Result<(Leaf, String)> {
         Ok((show_plain_text(request), text))
     }
