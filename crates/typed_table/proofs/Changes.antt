@@ -20,18 +20,18 @@ use Rattle.memory_table.specs.Change.{PutsThere, Refuses, RefusesItem, Replaces,
 use Rattle.memory_table.specs.Content.{entries_of, items_of, schema_of}
 use Rattle.memory_table.specs.declared.table.Table.{Table}
 use Rattle.typed_table.specs.Stored.{FailsCondition, FailsToPut, IsItemOf}
-use Rattle.typed_table.specs.declared.error.StoreError.{StoreError}
+use Rattle.typed_table.specs.declared.error.TypedTableError.{TypedTableError}
 
 -- why the item of a value isn't put, said of the value
 pub refused_value : {T : Type 0} (shape : Shape) (tells : T → Datum) (condition : Condition)
     (table : Table) (value : T) (item : Item) (e : TableError) → IsItemOf shape tells value item
     → RefusesItem condition item table e
-    → FailsToPut shape tells (schema_of table) value (StoreError.Table e)
-    ⊎ FailsCondition shape tells condition table value (StoreError.Table e)
+    → FailsToPut shape tells (schema_of table) value (TypedTableError.Table e)
+    ⊎ FailsCondition shape tells condition table value (TypedTableError.Table e)
 refused_value shape tells condition table value item e is (inl reads) = inl (inl (item, is, reads))
 refused_value shape tells condition table value item e is (inr (inl lacks)) = inl (inr lacks)
 refused_value shape tells condition table value item e is (inr (inr fails)) =
-    inr (ap (λ x. StoreError.Table x) fails.0, item, is, fails.1)
+    inr (ap (λ x. TypedTableError.Table x) fails.0, item, is, fails.1)
 
 equal_keys : (o : Ordering) → is_ne o ≡ false → o ≡ Equal
 equal_keys Less e = cc

@@ -28,7 +28,7 @@ use Rattle.memory_table.specs.Change as items
 use Rattle.memory_table.specs.Change.{Refuses}
 use Rattle.memory_table.specs.Content.{entries_of, items_of}
 use Rattle.memory_table.specs.declared.table.Table.{Table}
-use Rattle.typed_table.specs.declared.error.StoreError.{StoreError}
+use Rattle.typed_table.specs.declared.error.TypedTableError.{TypedTableError}
 use Rattle.typed_table.specs.declared.table.TypedTable.{TypedTable}
 
 abbrev pub table_of : {T : Type 0} → TypedTable T → Table
@@ -50,9 +50,9 @@ ReadsAt reads (Some item) (Ok (Some value)) = reads (attribute (av.M (item_view 
 ReadsAt reads (Some item) (Err e) = (fault_of e ≡ out_of_memory) ⊎ reads (attribute (av.M (item_view item))) (Err (fault_of e))
 
 -- Why a value isn't put: writing it as an item gives this fault, its item has this error in place of a key, or memory is wanting.
-abbrev pub FailsToPut : {T : Type 0} → Shape → (T → Datum) → KeySchema → T → StoreError → Type 0
-FailsToPut shape tells schema value (StoreError.Value e) = (item_written (tells value) ≡ Err (fault_of e)) ⊎ (fault_of e ≡ out_of_memory)
-FailsToPut shape tells schema value (StoreError.Table e) = ((item : Item) × IsItemOf shape tells value item × ReadsKey schema item (Err e)) ⊎ (e ≡ TableError.OutOfMemory)
+abbrev pub FailsToPut : {T : Type 0} → Shape → (T → Datum) → KeySchema → T → TypedTableError → Type 0
+FailsToPut shape tells schema value (TypedTableError.Value e) = (item_written (tells value) ≡ Err (fault_of e)) ⊎ (fault_of e ≡ out_of_memory)
+FailsToPut shape tells schema value (TypedTableError.Table e) = ((item : Item) × IsItemOf shape tells value item × ReadsKey schema item (Err e)) ⊎ (e ≡ TableError.OutOfMemory)
 
 -- the items read as these values, each in its place
 abbrev pub ReadEach : {T : Type 0} → (Source → Result T Fault → Type 0) → List (Key × Item) → List T → Type 0
@@ -87,10 +87,10 @@ IsKeyOf shape tells schema value key =
     (item : Item) × IsItemOf shape tells value item × ReadsKey schema item (Ok key)
 
 -- the error says that the condition fails, and it doesn't hold of what is under the value's key
-abbrev pub FailsCondition : {T : Type 0} → Shape → (T → Datum) → Condition → Table → T → StoreError
+abbrev pub FailsCondition : {T : Type 0} → Shape → (T → Datum) → Condition → Table → T → TypedTableError
     → Type 0
 FailsCondition shape tells condition table value e =
-    (e ≡ StoreError.Table TableError.ConditionFailed)
+    (e ≡ TypedTableError.Table TableError.ConditionFailed)
     × (item : Item) × IsItemOf shape tells value item × items.FailsCondition condition item table
 
 -- Nothing is under the key from now on, where the condition holds there. The result says whether

@@ -7,7 +7,7 @@ mod keyed;
 pub mod laws;
 mod table;
 
-pub use error::StoreError;
+pub use error::TypedTableError;
 pub use item::{item_of, value_from, value_of};
 pub use keyed::Keyed;
 pub use table::TypedTable;

@@ -12,7 +12,7 @@ ghost use Rattle.typed_table.specs.Stored.{DeletesIf, FailsCondition, FailsToPut
 ghost use Rattle.typed_table.specs.Stored.{OthersStay, ReadEach, ReadsAt, UpdatesValue, page, table_of};
 
 use crate::item::{item_of, value_of, values_of};
-use crate::{Keyed, StoreError};
+use crate::{Keyed, TypedTableError};
 use dynamo_value::Result;
 use memory_table::Table;
 use std::alloc::{AllocError, Global};
@@ -72,7 +72,7 @@ impl<T: Keyed> TypedTable<T> {
     ///
     /// `Value` if the value can't be written as an item, `Table` if that item has no key of the table, and either if memory
     /// can't be allocated.
-    pub fn key_of(&self, value: &T) -> std::result::Result<Key, StoreError>
+    pub fn key_of(&self, value: &T) -> std::result::Result<Key, TypedTableError>
         ensures ok { IfOk result (IsKeyOf T.about.shape T.tells (schema_of (table_of self.now)) value.now) }
         ensures err { IfErr result (FailsToPut T.about.shape T.tells (schema_of (table_of self.now)) value.now) }
     {
@@ -85,7 +85,7 @@ impl<T: Keyed> TypedTable<T> {
     /// # Errors
     ///
     /// `Value` where the value isn't written as an item, `Table` where that has no key of the table, and want of memory as either.
-    pub fn put(&mut self, value: &T) -> std::result::Result<Key, StoreError>
+    pub fn put(&mut self, value: &T) -> std::result::Result<Key, TypedTableError>
         ensures holds { IfOk result (λ key. Holds T.about.shape T.tells (table_of self.new) key value.now) }
         ensures others { IfOk result (λ key. OthersStay key (table_of self.old) (table_of self.new)) }
         ensures err { IfErr result (λ e. FailsToPut T.about.shape T.tells (schema_of (table_of self.old)) value.now e) }
@@ -105,7 +105,7 @@ impl<T: Keyed> TypedTable<T> {
         &mut self,
         condition: Condition,
         value: &T,
-    ) -> std::result::Result<Key, StoreError>
+    ) -> std::result::Result<Key, TypedTableError>
         ensures condition { IfOk result (λ key.
             holds condition (is_some (get key_cmp (items_of (table_of self.old)) key)) ≡ true) }
         ensures holds { IfOk result (λ key. Holds T.about.shape T.tells (table_of self.new) key value.now) }
@@ -169,7 +169,7 @@ impl<T: Keyed> TypedTable<T> {
     ///
     /// `Table` with `NoItem` if nothing is under the key, and with `KeyChanged` if the changed value has another key. `Value` if
     /// the value that is there can't be read, the error of `change`, and those of [`put`](Self::put) for the changed value.
-    pub fn update<E: From<StoreError>, F: FnOnce(T) -> std::result::Result<T, E>>(
+    pub fn update<E: From<TypedTableError>, F: FnOnce(T) -> std::result::Result<T, E>>(
         &mut self,
         key: &Key,
         change: F,
@@ -188,18 +188,18 @@ impl<T: Keyed> TypedTable<T> {
     }
 
     // Returns the value under a key that has one.
-    fn existing(&self, key: &Key) -> std::result::Result<T, StoreError>
+    fn existing(&self, key: &Key) -> std::result::Result<T, TypedTableError>
         ensures { IfOk result (λ value.
             ReadsAt T.reads (get key_cmp (items_of (table_of self.now)) key.now) (Ok (Some value))) }
     {
         match self.get(key)? {
             Some(value) => Ok(value),
-            None => Err(StoreError::Table(TableError::NoItem)),
+            None => Err(TypedTableError::Table(TableError::NoItem)),
         }
     }
 
     // Puts a value in the place of the one under the key, which is to be its own.
-    fn replace(&mut self, key: &Key, value: &T) -> std::result::Result<(), StoreError>
+    fn replace(&mut self, key: &Key, value: &T) -> std::result::Result<(), TypedTableError>
         ensures holds { OnOk result (Holds T.about.shape T.tells (table_of self.new) key.now value.now) }
         ensures others { OnOk result (OthersStay key.now (table_of self.old) (table_of self.new)) }
         ensures unchanged { OnErr result (entries_of (table_of self.new) ≡ entries_of (table_of self.old)) }
