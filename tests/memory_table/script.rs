@@ -25,6 +25,7 @@ pub fn answer(alloc: Global, table: &mut Table, line: &str) -> Result<String, Ta
         "delete-new" => delete_if(alloc, table, Condition::NotExists, line),
         "delete-there" => delete_if(alloc, table, Condition::Exists, line),
         "update" => update(alloc, table, line),
+        "mark" => mark(alloc, table, line),
         "get" => get(alloc, table, line),
         "query" => query(alloc, table, line),
         "scan" => scan(alloc, table, line),
@@ -103,11 +104,46 @@ fn delete_if(
 // The item under the key is to be the one of the time and the note that follow the key.
 fn update(alloc: Global, table: &mut Table, line: &str) -> Result<String, TableError> {
     let key = key(alloc, table, line)?;
-    table.update(
+    table.update::<TableError, _>(
         &key,
         |_| Ok(reading(alloc, word(line, 1), word(line, 3), word(line, 4))?),
     )?;
     told(alloc, table.get(&key))
+}
+
+// Why an item isn't marked: the table refuses it, or it has the mark.
+#[derive(Debug, Drop)]
+enum Unmarked {
+    Refused(TableError),
+    Marked,
+}
+
+impl From<TableError> for Unmarked {
+    fn from(error: TableError) -> Unmarked {
+        Unmarked::Refused(error)
+    }
+}
+
+impl From<AllocError> for Unmarked {
+    fn from(error: AllocError) -> Unmarked {
+        Unmarked::Refused(TableError::from(error))
+    }
+}
+
+// Marks the item under the key in its note, but only once.
+fn mark(alloc: Global, table: &mut Table, line: &str) -> Result<String, TableError> {
+    let key = key(alloc, table, line)?;
+    let answer = table.update(&key, |item| {
+        if note(item) == "marked" {
+            return Err(Unmarked::Marked);
+        }
+        Ok(reading(alloc, word(line, 1), word(line, 3), "s:marked")?)
+    });
+    match answer {
+        Ok(()) => told(alloc, table.get(&key)),
+        Err(Unmarked::Refused(error)) => Err(error),
+        Err(Unmarked::Marked) => Ok(String::from_str(alloc, "it has the mark")?),
+    }
 }
 
 // A page of at most as many items as the line says, behind the key in it, if there is one.

@@ -78,7 +78,7 @@ impl Calls for Table {
     }
 
     fn update(&mut self, alloc: Global, key: &Key, item: Item) -> Result<(), StoreError> {
-        Ok(Table::update(self, key, |before| Ok(updated(alloc, before, item)?))?)
+        Table::update(self, key, |before| Ok(updated(alloc, before, item)?))
     }
 
     fn query(&mut self, alloc: Global, query: &Query<'_>) -> Result<Vec<Item>, StoreError> {

@@ -1,12 +1,12 @@
 -- What an update of an item comes to.
 use Rattle.std.proofs.Common.{◌≡◌, Bool, false, Option, Some, Result, Ok, MatchOption, MatchResult}
 use Rattle.std.proofs.Common.{Ordering, Less, Equal, Greater, refl, sym, ap, subst}
-use Rattle.std.specs.BTreeMap.{BTreeMap, get, keys}
+use Rattle.std.specs.BTreeMap.{BTreeMap, Updates, get, keys}
 use Rattle.std.specs.Bool.{MatchBool}
 use Rattle.std.specs.Ordering.{is_ne}
-use Rattle.std.specs.Prelude.{is_some}
+use Rattle.std.specs.Prelude.{IsOkAnd, is_some}
 use Rattle.dynamo_value.specs.declared.item.Item.{Item}
-use Rattle.memory_table.specs.Change.{PutsThere, Refuses, Replaces, UpdatesItem}
+use Rattle.memory_table.specs.Change.{RefusesBy, Replaces, UpdatesItem}
 use Rattle.memory_table.specs.Content.{items_of, schema_of}
 use Rattle.memory_table.specs.declared.table.Table.{Table}
 use Rattle.memory_table.proofs.HeldKeys.{kept}
@@ -21,25 +21,28 @@ abbrev pub with_items : (old : Table) (items : BTreeMap Key Item) → keys items
 with_items old items same =
     record { schema = old.schema; items = items; held = kept old.items items same old.held }
 
-module _ (key : Key) (old new : Table) (r : Result (Unit {0}) TableError) where
+module _ {E : Type 0} (gives : TableError → E → Type 0) (key : Key) (old new : Table)
+    (r : Result (Unit {0}) E) where
   -- the key has an item, of which the change makes this
-  pub made_of : (Makes : Item → Result Item TableError → Type 0) (item : Item)
-      (made : Result Item TableError) → Some item ≡ get key_cmp (items_of old) key → Makes item made
-      → MatchResult made (Replaces key old new r) (λ error. Refuses error old new r)
-      → UpdatesItem Makes key old new r
+  pub made_of : (Makes : Item → Result Item E → Type 0) (item : Item) (made : Result Item E)
+      → Some item ≡ get key_cmp (items_of old) key → Makes item made
+      → MatchResult made (Replaces gives key old new r) (λ error. RefusesBy (λ e. e ≡ error) old new r)
+      → UpdatesItem gives Makes key old new r
   made_of Makes item made there makes h =
-      subst (λ (o : Option Item). MatchOption o (Refuses TableError.NoItem old new r)
-      (λ item. (made : Result Item TableError) × Makes item made
-      × MatchResult made (Replaces key old new r) (λ error. Refuses error old new r)))
+      subst (λ (o : Option Item). MatchOption o (RefusesBy (gives TableError.NoItem) old new r)
+      (λ item. (made : Result Item E) × Makes item made
+      × MatchResult made (Replaces gives key old new r) (λ error. RefusesBy (λ e. e ≡ error) old new r)))
       there (made, makes, h)
 
   -- the item has this key
   pub own_key : (item : Item) (own : Key) (other : Bool) → other ≡ is_ne (key_cmp own key)
       → ReadsKey (schema_of old) item (Ok own)
-      → MatchBool other (Refuses TableError.KeyChanged old new r) (PutsThere own item old new r)
-      → Replaces key old new r item
+      → MatchBool other (RefusesBy (gives TableError.KeyChanged) old new r)
+      (IsOkAnd r (λ _. Updates key_cmp (items_of old) (items_of new) own (Some item)))
+      → Replaces gives key old new r item
   own_key item own other is reads h =
-      let puts = λ (b : Bool). MatchBool b (Refuses TableError.KeyChanged old new r) (PutsThere own item old new r) in
+      let puts = λ (b : Bool). MatchBool b (RefusesBy (gives TableError.KeyChanged) old new r)
+      (IsOkAnd r (λ _. Updates key_cmp (items_of old) (items_of new) own (Some item))) in
       (Ok own, reads, subst puts is h)
 
 same_key : (o : Ordering) → false ≡ is_ne o → o ≡ Equal
@@ -50,7 +53,7 @@ same_key Greater e = cc
 -- the item takes the place of the one under its key
 pub in_place : (key own : Key) (old new : Table) (item before : Item)
     → Ends (items_of old) key item (items_of new) → Some before ≡ get key_cmp (items_of old) key
-    → false ≡ is_ne (key_cmp own key) → PutsThere own item old new (Ok (tt {0}))
+    → false ≡ is_ne (key_cmp own key) → Updates key_cmp (items_of old) (items_of new) own (Some item)
 in_place key own old new item before ends there same =
     under_equal (items_of old) (items_of new) key own item (ends.3 (ap is_some (sym there)))
     (same_key (key_cmp own key) same)

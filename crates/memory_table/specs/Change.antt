@@ -1,5 +1,5 @@
 -- What a change of a table answers, and what it leaves.
-use Rattle.std.specs.Prelude.{◌≡◌, ◌⊎◌, true, false, Option, Some, None, Result, Ok, Err, MatchResult, MatchOption, is_some}
+use Rattle.std.specs.Prelude.{◌≡◌, ◌⊎◌, true, false, Option, Some, None, Result, Ok, Err, MatchResult, MatchOption, IsErrAnd, IsOkAnd, is_some}
 use Rattle.std.specs.BTreeMap.{get, Updates}
 use Rattle.std.specs.Bool.{MatchBool}
 use Rattle.std.specs.Ordering.{is_ne}
@@ -76,20 +76,26 @@ DeletesIf condition key old new r =
     ((r ≡ Ok (get key_cmp (items_of old) key)) × Updates key_cmp (items_of old) (items_of new) key None)
     (Refuses TableError.ConditionFailed old new r)
 
--- an item is put under a key that has one
-abbrev pub PutsThere : Key → Item → Table → Table → Result (Unit {0}) TableError → Type 0
-PutsThere key item old new r =
-    MatchResult r (λ done. Updates key_cmp (items_of old) (items_of new) key (Some item)) (λ error. Refuses error old new r × (error ≡ TableError.OutOfMemory))
+-- the call is refused by such an error, and the table has the items that it had
+abbrev pub RefusesBy : {E : Type 0} → (E → Type 0) → Table → Table → Result (Unit {0}) E → Type 0
+RefusesBy Is old new r = IsErrAnd r Is × (entries_of new ≡ entries_of old)
 
--- the item that a change made takes the place of the one under the key, where it has the same key
-abbrev pub Replaces : Key → Table → Table → Result (Unit {0}) TableError → Item → Type 0
-Replaces key old new r item =
+-- The item that a change made takes the place of the one under the key, where it has the same key.
+-- What the caller's type of errors makes of an error of the table, `gives` says.
+abbrev pub Replaces : {E : Type 0} → (TableError → E → Type 0) → Key → Table → Table
+    → Result (Unit {0}) E → Item → Type 0
+Replaces gives key old new r item =
     (own : Result Key TableError) × ReadsKey (schema_of old) item own
-    × MatchResult own (λ k. MatchBool (is_ne (key_cmp k key)) (Refuses TableError.KeyChanged old new r) (PutsThere k item old new r)) (λ error. Refuses error old new r)
+    × MatchResult own
+    (λ k. MatchBool (is_ne (key_cmp k key)) (RefusesBy (gives TableError.KeyChanged) old new r)
+    (IsOkAnd r (λ _. Updates key_cmp (items_of old) (items_of new) k (Some item))))
+    (λ error. RefusesBy (gives error) old new r)
 
 -- The item under the key is replaced by what the change makes of it, which has the same key. Or there is no item, the change
--- fails, what it makes has no key or another, or memory is wanting.
-abbrev pub UpdatesItem : (Item → Result Item TableError → Type 0) → Key → Table → Table → Result (Unit {0}) TableError → Type 0
-UpdatesItem Makes key old new r =
-    MatchOption (get key_cmp (items_of old) key) (Refuses TableError.NoItem old new r)
-    (λ item. (made : Result Item TableError) × Makes item made × MatchResult made (Replaces key old new r) (λ error. Refuses error old new r))
+-- fails with an error of its own, what it makes has no key or another, or memory is wanting.
+abbrev pub UpdatesItem : {E : Type 0} → (TableError → E → Type 0) → (Item → Result Item E → Type 0)
+    → Key → Table → Table → Result (Unit {0}) E → Type 0
+UpdatesItem gives Makes key old new r =
+    MatchOption (get key_cmp (items_of old) key) (RefusesBy (gives TableError.NoItem) old new r)
+    (λ item. (made : Result Item _) × Makes item made
+    × MatchResult made (Replaces gives key old new r) (λ error. RefusesBy (λ e. e ≡ error) old new r))

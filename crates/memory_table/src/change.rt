@@ -183,27 +183,29 @@ impl Table {
 
     /// Puts what `change` makes of the item under a key in its place.
     ///
+    /// The errors are of any type that an error of the table converts to, such as one of the caller's own.
+    ///
     /// # Errors
     ///
-    /// `NoItem` where the key has no item, the error of `change`, those of [`KeySchema::key_of`] of the changed item, and
-    /// `KeyChanged` where that has another key.
-    pub fn update<F: FnOnce(&Item) -> Result<Item, TableError>>(
+    /// `NoItem` if the key has no item, the error of `change`, those of [`KeySchema::key_of`] of the changed item, and
+    /// `KeyChanged` if that has another key. The table has then the items that it had.
+    pub fn update<E: From<TableError>, F: FnOnce(&Item) -> Result<Item, E>>(
         &mut self,
         key: &Key,
         change: F,
-    ) -> Result<(), TableError>
+    ) -> Result<(), E>
         requires { F.IsAlwaysCallable change }
-        ensures updates { UpdatesItem (FnOnceReturnsAt F.FnOnce change) key.now self.old self.new result }
+        ensures updates { UpdatesItem E.from_gives (FnOnceReturnsAt F.FnOnce change) key.now self.old self.new result }
         ensures ordered { OnOk result (IsOrdered key_cmp (items_of self.new)) }
         ensures schema { schema_of self.new ≡ schema_of self.old }
     {
         let Some(place) = self.items.get_mut(key) else {
-            return Err(TableError::NoItem);
+            return Err(E::from(TableError::NoItem));
         };
         let item = change(place)?;
         let own_key = self.schema.key_of(&item)?;
         if own_key.cmp(key).is_ne() {
-            return Err(TableError::KeyChanged);
+            return Err(E::from(TableError::KeyChanged));
         }
         *place = item;
         Ok(())

@@ -206,7 +206,7 @@ impl<T: Keyed> TypedTable<T> {
         ensures schema { schema_of (table_of self.new) ≡ schema_of (table_of self.old) }
     {
         let item = item_of(self.alloc, value)?;
-        self.table.update(key, move |_| Ok(item))?;
+        self.table.update::<TableError, _>(key, move |_| Ok(item))?;
         Ok(())
     }
 
