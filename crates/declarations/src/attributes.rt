@@ -40,12 +40,12 @@ impl Attributes {
     }
 
     /// How a field with these attributes is stored.
-    pub fn form(&self) -> Result<Form, Failure> {
+    pub fn form(&self) -> Form {
         match (self.set, self.is_default) {
-            (Some(_), true) => Err(Failure::Refused(self.line, Reason::DefaultSet)),
-            (Some(set), false) => Ok(Form::Set(set)),
-            (None, true) => Ok(Form::Defaulted),
-            (None, false) => Ok(Form::Plain),
+            (Some(set), true) => Form::DefaultedSet(set),
+            (Some(set), false) => Form::Set(set),
+            (None, true) => Form::Defaulted,
+            (None, false) => Form::Plain,
         }
     }
 }

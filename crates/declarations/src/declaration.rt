@@ -95,6 +95,9 @@ pub enum Form {
 
     /// A field of type `Vec<T>` that is stored as a set. The text of its type is that of `T`.
     Set(SetKind),
+
+    /// The same of a field that may be absent, and then is empty.
+    DefaultedSet(SetKind),
 }
 
 #[derive(Clone, Copy, PartialEq, Eq)]

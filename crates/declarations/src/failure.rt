@@ -37,22 +37,18 @@ pub enum Reason {
     With(String),
     SameList(String),
     NoSet,
-    DefaultSet,
     Import,
 
     /// A word or a mark of a type that no field has.
     FieldType(String),
 
-    /// A type whose default is not known.
-    NoDefault(String),
+    /// A name that the printed impls need for something else.
+    TakenName(String),
 }
 
 const FIELD_TYPES: &str = "a field is `bool`, `char`, `String`, `ByteBuf`, an integer of 8 to 128 \
 bits, an `Option`, `Box`, `Vec`, `BTreeMap` or `HashMap` of such types, two to four of them in \
 brackets, or a type that is described";
-
-const DEFAULTS: &str = "`bool`, integers, `String`, `Option` and `Vec` have one, and a type of \
-your own that is a `DefaultValue`";
 
 /// Why nothing is printed.
 #[derive(Drop)]
@@ -95,11 +91,14 @@ impl fmt::Display for Reason {
             Reason::Rule(rule) => write!(f, "`{rule}` is none of serde's rules for names"),
             Reason::With(path) => write!(f, "fields with {path:?} are not described"),
             Reason::SameList(name) => write!(f, "`{name}Fields` would be declared twice"),
+            Reason::TakenName(name) => write!(
+                f,
+                "`{name}` is another name in the impls that are printed: name the type otherwise"
+            ),
             Reason::FieldType(name) => write!(
                 f,
                 "no field has a type with `{name}`: {FIELD_TYPES}"
             ),
-            Reason::NoDefault(name) => write!(f, "no default of `{name}` is known: {DEFAULTS}"),
             reason => f.write_str(reason.text()),
         }
     }
@@ -136,7 +135,6 @@ impl Reason {
             Reason::Text => "a name is plain ASCII without quotes and backslashes",
             Reason::Import => "an import is written `use path::{Name, other::Name as Own};`",
             Reason::NoSet => "only a field of type `Vec<T>` is stored as a set",
-            Reason::DefaultSet => "a field that is stored as a set has no default",
             _ => "this is not described",
         }
     }

@@ -6,7 +6,7 @@ use crate::module::imported;
 use crate::parts::{after_visibility, attributed, bracketed, line_of, parts, type_text};
 use crate::rename::RenameRule;
 use crate::token::Token;
-use crate::types::{refuse_default, refuse_type};
+use crate::types::refuse_type;
 use crate::variants::enum_body;
 use std::alloc::Global;
 
@@ -250,17 +250,20 @@ fn named_field(
         [name, colon, of @ ..] if name.is_word() && colon.is(":") => (name, of),
         _ => return Err(Failure::Refused(line_of(rest, line), Reason::Field)),
     };
-    let form = about.form()?;
+    let form = about.form();
     refuse_type(alloc, of)?;
-    if form == Form::Defaulted {
-        refuse_default(alloc, of)?;
-    }
     let of = match (form, of) {
-        (Form::Set(_), [vec, ..]) if vec.is("Vec") => match bracketed(&of[1..], "<") {
+        (Form::Set(_) | Form::DefaultedSet(_), [vec, ..]) if vec.is("Vec") => match bracketed(
+            &of[1..],
+            "<",
+        ) {
             Some((item, [])) => type_text(alloc, item, name.line)?,
             _ => return Err(Failure::Refused(name.line, Reason::NoSet)),
         },
-        (Form::Set(_), _) => return Err(Failure::Refused(name.line, Reason::NoSet)),
+        (Form::Set(_) | Form::DefaultedSet(_), _) => return Err(Failure::Refused(
+            name.line,
+            Reason::NoSet,
+        )),
         _ => type_text(alloc, of, name.line)?,
     };
     let name = name.text.clone()?;

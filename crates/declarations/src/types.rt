@@ -1,5 +1,6 @@
 //! Which types a field of a described type may have.
 use crate::failure::{Failure, Reason};
+use crate::parts::{bracketed, parts};
 use crate::token::Token;
 use std::alloc::Global;
 
@@ -40,10 +41,10 @@ const REFUSED: [&str; 27] = [
 ///
 /// `Refused` with the line and the word of the type that is refused; out of memory.
 pub fn refuse_type(alloc: Global, tokens: &[Token]) -> Result<(), Failure> {
-    for token in tokens {
+    for (at, token) in tokens.iter().enumerate() {
         let is_mark = token.is("&") || token.is("*") || token.is("!") || token.is("[");
         let is_word = token.is_word() && REFUSED.iter().any(|name| token.is(name));
-        if is_mark || is_word {
+        if is_mark || is_word || is_other_tuple(alloc, &tokens[at..])? {
             let text = String::from_str(alloc, token.text.as_str())?;
             return Err(Failure::Refused(token.line, Reason::FieldType(text)));
         }
@@ -51,19 +52,12 @@ pub fn refuse_type(alloc: Global, tokens: &[Token]) -> Result<(), Failure> {
     Ok(())
 }
 
-/// Refuses a default of a type for which none is known.
-///
-/// # Errors
-///
-/// `Refused` with the line and the type; out of memory.
-pub fn refuse_default(alloc: Global, tokens: &[Token]) -> Result<(), Failure> {
-    let Some(token) = tokens.first() else {
-        return Ok(());
+// Whether the list begins with a tuple of one type, or of more than four.
+fn is_other_tuple(alloc: Global, tokens: &[Token]) -> Result<bool, Failure> {
+    let Some((inside, _)) = bracketed(tokens, "(") else {
+        return Ok(false);
     };
-    let has_none = ["(", "char", "Box", "ByteBuf", "BTreeMap", "HashMap"];
-    if has_none.iter().any(|name| token.is(name)) {
-        let text = String::from_str(alloc, token.text.as_str())?;
-        return Err(Failure::Refused(token.line, Reason::NoDefault(text)));
-    }
-    Ok(())
+    let count = parts(alloc, inside)?.len();
+    let ends_in_comma = inside.last().is_some_and(|token| token.is(","));
+    Ok(count > 4 || count == 1 && ends_in_comma)
 }

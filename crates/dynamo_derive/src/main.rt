@@ -34,10 +34,10 @@ fn wanted(rt: &HostRuntime) -> io::Result<Option<Request>> {
 // What is printed for the declarations in the text.
 fn derive(alloc: Global, request: &Request, text: &str) -> Result<String, Failure> {
     if request.is_whole {
-        return Ok(file_of(alloc, &request.path, &read_module(alloc, text)?)?);
+        return file_of(alloc, &request.path, &read_module(alloc, text)?);
     }
     let declarations = read_declarations(alloc, text)?;
-    Ok(impls_of(alloc, &request.path, declarations.as_slice())?)
+    impls_of(alloc, &request.path, declarations.as_slice())
 }
 
 // Prints what is asked for, or the failure, and returns the status that the program ends with.

@@ -41,6 +41,10 @@ about_set k a = record {
   told_alike = set_alike k a.shape a.tells a.same a.told_alike;
 }
 
+-- what the empty list tells as a set
+abbrev pub empty_set : SetKind → Datum
+empty_set k = datum.newtype_struct (symbol k) (datum.seq datum.no_elements)
+
 abbrev content_in : Datum → Datum
 content_in (datum.newtype_struct name d) = d
 content_in d = d
@@ -54,7 +58,7 @@ set_permitted {T} k s tells reads h source r a =
 
 -- ---- defaults
 
--- the value tells this datum; want of memory
+-- the value tells this datum, or memory ran out
 abbrev pub IsDefault : {T E : Type 0} → (E → Fault) → (T → Datum) → Datum → Result T E → Type 0
 IsDefault fault tells d (Ok v) = tells v ≡ d
 IsDefault fault tells d (Err e) = fault e ≡ out_of_memory

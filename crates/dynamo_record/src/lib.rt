@@ -3,6 +3,7 @@
 #![tactic(auto)]
 
 mod content;
+mod default_value;
 mod enumeration;
 mod field;
 mod field_list;
@@ -22,10 +23,11 @@ mod variant_names;
 mod write_enum;
 
 pub use content::{Nothing, One, Several};
+pub use default_value::{DefaultValue, WithDefault};
 pub use enumeration::{Enumeration, read_enum};
 pub use field::{Field, FieldType};
 pub use field_list::FieldList;
-pub use field_types::{DefaultValue, InBinarySet, InNumberSet, InStringSet, WithDefault};
+pub use field_types::{InBinarySet, InNumberSet, InStringSet};
 pub use named::{Named, NamedFields};
 pub use newtype::{read_newtype, write_newtype};
 pub use record::{Record, read_record, record_conforms, write_record};

@@ -2,7 +2,7 @@ use crate::impls::print_impls;
 use crate::imports::{add_mentioned, mentioned, print_ghost_imports};
 use crate::module_path::ModulePath;
 use crate::uses::Uses;
-use declarations::{Body, Declaration, Import, Module, RenameRule};
+use declarations::{Body, Declaration, Failure, Import, Module, RenameRule};
 use std::alloc::{AllocError, Global};
 use std::fmt::Write;
 
@@ -10,12 +10,12 @@ use std::fmt::Write;
 ///
 /// # Errors
 ///
-/// Out of memory.
+/// `Refused` if a declaration has a name that the impls need for something else; out of memory.
 pub fn impls_of(
     alloc: Global,
     path: &ModulePath,
     declarations: &[Declaration],
-) -> Result<String, AllocError> {
+) -> Result<String, Failure> {
     let mut out = String::new(alloc);
     if !declarations.is_empty() {
         print_imports(alloc, &mut out, path, declarations, None)?;
@@ -28,8 +28,8 @@ pub fn impls_of(
 ///
 /// # Errors
 ///
-/// Out of memory.
-pub fn file_of(alloc: Global, path: &ModulePath, module: &Module) -> Result<String, AllocError> {
+/// `Refused` if a declaration has a name that the impls need for something else; out of memory.
+pub fn file_of(alloc: Global, path: &ModulePath, module: &Module) -> Result<String, Failure> {
     let mut out = String::new(alloc);
     let declarations = module.declarations.as_slice();
     if !declarations.is_empty() {
@@ -49,7 +49,7 @@ fn print_imports(
     path: &ModulePath,
     declarations: &[Declaration],
     own: Option<&[Import]>,
-) -> Result<(), AllocError> {
+) -> Result<(), Failure> {
     let found = mentioned(declarations);
     if !path.is_given && (found.units || found.choices) {
         out.push_str(
@@ -63,10 +63,11 @@ fn print_imports(
     out.push('\n')?;
     let mut uses = Uses::new(alloc);
     add_mentioned(alloc, &mut uses, &found)?;
+    uses.refuse_taken(alloc, declarations)?;
     if let Some(imports) = own {
         uses.add_own(alloc, imports, declarations)?;
     }
-    uses.print(alloc, out)
+    Ok(uses.print(alloc, out)?)
 }
 
 fn print_all(

@@ -64,10 +64,20 @@ impl Mentions {
             match field.form {
                 Form::Plain => {}
                 Form::Defaulted => self.defaults = true,
-                Form::Set(SetKind::Strings) => self.strings = true,
-                Form::Set(SetKind::Numbers) => self.numbers = true,
-                Form::Set(SetKind::Binaries) => self.binaries = true,
+                Form::Set(set) => self.mention_set(set),
+                Form::DefaultedSet(set) => {
+                    self.defaults = true;
+                    self.mention_set(set);
+                }
             }
+        }
+    }
+
+    fn mention_set(&mut self, set: SetKind) {
+        match set {
+            SetKind::Strings => self.strings = true,
+            SetKind::Numbers => self.numbers = true,
+            SetKind::Binaries => self.binaries = true,
         }
     }
 

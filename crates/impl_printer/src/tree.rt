@@ -94,12 +94,26 @@ pub fn leaf_types(alloc: Global, fields: &[Field]) -> Result<Vec<String>, AllocE
         found.push(match field.form {
             Form::Plain => format!(in alloc; "Field<{of}>")?,
             Form::Defaulted => format!(in alloc; "Field<WithDefault<{of}>>")?,
-            Form::Set(SetKind::Strings) => format!(in alloc; "Field<InStringSet<{of}>>")?,
-            Form::Set(SetKind::Numbers) => format!(in alloc; "Field<InNumberSet<{of}>>")?,
-            Form::Set(SetKind::Binaries) => format!(in alloc; "Field<InBinarySet<{of}>>")?,
+            Form::Set(set) => {
+                let name = set_name(set);
+                format!(in alloc; "Field<In{name}<{of}>>")?
+            }
+            Form::DefaultedSet(set) => {
+                let name = set_name(set);
+                format!(in alloc; "Field<WithDefault<In{name}<{of}>>>")?
+            }
         })?;
     }
     Ok(found)
+}
+
+// The name of the type that a list is written by as such a set. That of its field begins with `In`.
+fn set_name(set: SetKind) -> &'static str {
+    match set {
+        SetKind::Strings => "StringSet",
+        SetKind::Numbers => "NumberSet",
+        SetKind::Binaries => "BinarySet",
+    }
 }
 
 /// What is written of the fields, each of which is borrowed by its name after this.
@@ -109,9 +123,10 @@ pub fn leaf_refs(alloc: Global, fields: &[Field], before: &str) -> Result<Vec<St
         let name = field.name.as_str();
         found.push(match field.form {
             Form::Plain | Form::Defaulted => format!(in alloc; "{before}{name}")?,
-            Form::Set(SetKind::Strings) => format!(in alloc; "StringSet({before}{name})")?,
-            Form::Set(SetKind::Numbers) => format!(in alloc; "NumberSet({before}{name})")?,
-            Form::Set(SetKind::Binaries) => format!(in alloc; "BinarySet({before}{name})")?,
+            Form::Set(set) | Form::DefaultedSet(set) => {
+                let wrapper = set_name(set);
+                format!(in alloc; "{wrapper}({before}{name})")?
+            }
         })?;
     }
     Ok(found)

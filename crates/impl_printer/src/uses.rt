@@ -1,8 +1,9 @@
 //! The `use` lines of types, traits and functions.
 use code_layout::filled;
-use declarations::{Body, Contents, Declaration, Field, Import};
+use declarations::{Body, Contents, Declaration, Failure, Field, Import, Reason};
 use std::alloc::{AllocError, Global};
 use std::fmt::Write;
+use std::iter::once;
 
 // The width past which an import is printed on several lines.
 const WIDTH: usize = 98;
@@ -13,6 +14,9 @@ const KNOWN: [(&str, &str); 3] = [
     ("std::collections", "BTreeMap"),
     ("std::collections", "HashMap"),
 ];
+
+// The type parameters of the methods that are printed.
+const METHOD_PARAMETERS: [&str; 3] = ["D", "E", "S"];
 
 /// The names that a file imports.
 #[derive(Drop)]
@@ -74,6 +78,28 @@ impl Uses {
             }
         }
         Ok(())
+    }
+
+    /// Refuses a declaration that has the name of one of these imports, or of a type parameter of the impls. A type parameter of a
+    /// declaration has neither.
+    ///
+    /// # Errors
+    ///
+    /// `Refused` with the line of the first such declaration and the name; out of memory.
+    pub fn refuse_taken(&self, alloc: Global, declarations: &[Declaration]) -> Result<(), Failure> {
+        for declaration in declarations {
+            let parameters = declaration.parameters.iter().map(|it| it.name.as_str());
+            let mut names = once(declaration.name.as_str()).chain(parameters);
+            if let Some(name) = names.find(|name| self.is_taken(name)) {
+                let name = String::from_str(alloc, name)?;
+                return Err(Failure::Refused(declaration.line, Reason::TakenName(name)));
+            }
+        }
+        Ok(())
+    }
+
+    fn is_taken(&self, name: &str) -> bool {
+        METHOD_PARAMETERS.contains(&name) || self.found.iter().any(|it| it.name.as_str() == name)
     }
 
     /// Prints the imports, a line or more for each path.

@@ -1,6 +1,6 @@
 // Structs of several fields: what is written of them, and what reads as them.
 use super::rows::{reads, rereads};
-use described_types::{Address, Order, Page, Reading, Sensor, Station};
+use described_types::{Address, Order, Page, Reading, Sensor, Settings, Station};
 use std::collections::HashMap;
 use std::test::Fail;
 
@@ -178,6 +178,23 @@ fn a_sensor_is_reread(rt: HostRuntime) -> Result<(), Fail> {
         r#"{"M":{"labels":{"SS":["roof","dry"]},"retries":{"N":"3"},"sensorName":{"S":"s-1"}}}"#,
         r#"Sensor { name: "s-1", labels: ["roof", "dry"], retries: 3 }"#,
     )
+}
+
+#[test]
+fn settings_that_are_missing_are_empty(rt: HostRuntime) -> Result<(), Fail> {
+    let alloc = rt.alloc();
+    let empty = "Settings { colors: {}, volumes: {}, tags: [], channels: [], span: (0, '\\0'), \
+picture: ByteBuf { bytes: [] } }";
+    reads::<Settings>(&rt, alloc, r#"{"M":{}}"#, empty)?;
+    reads::<Settings>(
+        &rt,
+        alloc,
+        r#"{"M":{"colors":{"M":{"sky":{"S":"blue"}}},"tags":{"SS":["a","b"]},"channels":{"NS":["7"]}}}"#,
+        "Settings { colors: {\"sky\": \"blue\"}, volumes: {}, tags: [\"a\", \"b\"], channels: [7], \
+span: (0, '\\0'), picture: ByteBuf { bytes: [] } }",
+    )?;
+    reads::<Settings>(&rt, alloc, r#"{"M":{"tags":{"S":"a"}}}"#, "Expected seq")?;
+    reads::<Settings>(&rt, alloc, r#"{"M":{"span":{"NULL":true}}}"#, "Expected seq")
 }
 
 #[test]
