@@ -3,7 +3,7 @@ use crate::member::Member;
 use crate::members::member;
 use memory_table::{Condition, Key, TableError};
 use std::io;
-use typed_table::{StoreError, TypedTable};
+use typed_table::{TypedTable, TypedTableError};
 
 // Why a member isn't changed.
 #[derive(Debug, Drop)]
@@ -12,18 +12,18 @@ enum ClubError {
     NotAllowed,
 
     // The table refuses it.
-    Store(StoreError),
+    Store(TypedTableError),
 }
 
-impl From<StoreError> for ClubError {
-    fn from(error: StoreError) -> ClubError {
+impl From<TypedTableError> for ClubError {
+    fn from(error: TypedTableError) -> ClubError {
         ClubError::Store(error)
     }
 }
 
 type Members = TypedTable<Member>;
 
-fn print_put(rt: &HostRuntime, done: Result<Key, StoreError>) -> io::Result<()> {
+fn print_put(rt: &HostRuntime, done: Result<Key, TypedTableError>) -> io::Result<()> {
     match done {
         Ok(key) => println!(rt; "put {:?}", key.partition),
         Err(error) => println!(rt; "not put: {error}"),

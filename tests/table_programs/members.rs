@@ -4,7 +4,7 @@ use memory_table::{Key, KeyAttribute, KeyKind, KeySchema, Query};
 use std::alloc::{AllocError, Global};
 use std::io;
 use typed_table::laws::put_then_get;
-use typed_table::{Keyed, StoreError, TypedTable};
+use typed_table::{Keyed, TypedTable, TypedTableError};
 
 impl Keyed for Member {
     fn key_schema(alloc: Global) -> Result<KeySchema, AllocError> {
@@ -34,7 +34,10 @@ fn print_got(rt: &HostRuntime, table: &TypedTable<Member>, key: &Key) -> io::Res
     }
 }
 
-fn print_stored(rt: &HostRuntime, answer: Result<Option<Member>, StoreError>) -> io::Result<()> {
+fn print_stored(
+    rt: &HostRuntime,
+    answer: Result<Option<Member>, TypedTableError>,
+) -> io::Result<()> {
     match answer {
         Ok(Some(member)) => println!(rt; "stored {member:?}"),
         Ok(None) => println!(rt; "stored none"),

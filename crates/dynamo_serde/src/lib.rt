@@ -21,6 +21,7 @@ mod writer;
 
 pub use tape::{Mark, Tape};
 pub use typed::{
-    from_attribute_value, from_item, from_items, read_attribute_value, to_attribute_value, to_item,
+    from_attribute_value, from_item, from_items, read_attribute_value, read_item,
+    to_attribute_value, to_item,
 };
 pub use with::{attribute_value, binary_set, byte_buf, bytes, item, number_set, string_set};

@@ -65,9 +65,14 @@ fn read_tape<T: DeserializeOwned>(alloc: Global, mut tape: Tape<'_>) -> Result<T
     T::deserialize_owned(alloc, &mut Deserializer::new(&[], &mut tape))
 }
 
-/// Reads a value from an item, as [`read_attribute_value`] from the map of its attributes.
-pub fn from_item<T: DeserializeOwned>(alloc: Global, item: Item) -> Result<T> {
+/// Reads a value from an item, which is left as it is, as [`read_attribute_value`] from the map of its attributes.
+pub fn read_item<T: DeserializeOwned>(alloc: Global, item: &Item) -> Result<T> {
     read_tape(alloc, Tape::of_map(alloc, item.inner())?)
+}
+
+/// Reads a value from an item, as [`read_item`].
+pub fn from_item<T: DeserializeOwned>(alloc: Global, item: Item) -> Result<T> {
+    read_item(alloc, &item)
 }
 
 /// Reads the values of items, in order: the first item's fault is the fault.

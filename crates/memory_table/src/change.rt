@@ -27,6 +27,13 @@ impl Table {
         }
     }
 
+    /// Returns the attributes that are the table's key.
+    pub fn schema(&self) -> &KeySchema
+        ensures { result.now ≡ schema_of self.now }
+    {
+        &self.schema
+    }
+
     /// The key of an item of this table, and errors as [`KeySchema::key_of`] has them.
     pub fn key_of(&self, item: &Item) -> Result<Key, TableError>
         ensures { ReadsKey (schema_of self.now) item.now result }

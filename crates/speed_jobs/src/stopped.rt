@@ -1,7 +1,7 @@
 use serde_dynamo::Error;
 use std::alloc::{AllocError, AllocFailed};
 use table_key::TableError;
-use typed_store::TypedError;
+use typed_store::TypedStoreError;
 
 /// Why a round has no digest.
 #[derive(Debug, Drop)]
@@ -13,13 +13,13 @@ pub enum Stopped {
     Table(TableError),
 
     /// A table of one type in memory refused a call.
-    Typed(typed_table::StoreError),
+    Typed(typed_table::TypedTableError),
 
     /// A table in a database refused a call.
     Store(table_store::StoreError),
 
     /// A table of one type in a database refused a call.
-    TypedStore(TypedError),
+    TypedStore(TypedStoreError),
 
     /// A text was not read.
     Text,
@@ -40,8 +40,8 @@ impl From<TableError> for Stopped {
     }
 }
 
-impl From<typed_table::StoreError> for Stopped {
-    fn from(error: typed_table::StoreError) -> Stopped {
+impl From<typed_table::TypedTableError> for Stopped {
+    fn from(error: typed_table::TypedTableError) -> Stopped {
         Stopped::Typed(error)
     }
 }
@@ -52,8 +52,8 @@ impl From<table_store::StoreError> for Stopped {
     }
 }
 
-impl From<TypedError> for Stopped {
-    fn from(error: TypedError) -> Stopped {
+impl From<TypedStoreError> for Stopped {
+    fn from(error: TypedStoreError) -> Stopped {
         Stopped::TypedStore(error)
     }
 }

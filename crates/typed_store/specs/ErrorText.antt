@@ -2,9 +2,9 @@
 use Rattle.std.specs.Prelude.{ℕ, List, Option}
 use Rattle.dynamo_value.specs.KindText.{kind_text}
 use Rattle.table_rows.specs.Errors.{store_error_text}
-use Rattle.typed_store.specs.declared.error.TypedError.{TypedError}
+use Rattle.typed_store.specs.declared.error.TypedStoreError.{TypedStoreError}
 
 -- that of the fault by itself
-abbrev pub typed_error_text : TypedError → Option (List ℕ)
-typed_error_text (TypedError.Value error) = kind_text error
-typed_error_text (TypedError.Store error) = store_error_text error
+abbrev pub typed_store_error_text : TypedStoreError → Option (List ℕ)
+typed_store_error_text (TypedStoreError.Value error) = kind_text error
+typed_store_error_text (TypedStoreError.Store error) = store_error_text error

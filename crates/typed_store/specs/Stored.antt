@@ -5,17 +5,12 @@ use Rattle.dynamo_value.specs.Av as av
 use Rattle.dynamo_value.specs.Fault.{Fault}
 use Rattle.dynamo_value.specs.Item.{item_view}
 use Rattle.dynamo_value.specs.declared.item.Item.{Item}
-use Rattle.dynamo_ser.specs.Datum.{Datum}
 use Rattle.dynamo_de.specs.Source.{Source, attribute}
-use Rattle.dynamo_shape.specs.Shape.{Shape}
-use Rattle.table_key.specs.KeyOf.{ReadsKey}
-use Rattle.table_key.specs.declared.key.Key.{Key}
 use Rattle.table_key.specs.declared.schema.KeySchema.{KeySchema}
 use Rattle.table_query.specs.declared.query.Query.{Query}
 use Rattle.table_store.specs.Content as store
 use Rattle.table_store.specs.Content.{IsFound}
 use Rattle.table_store.specs.declared.store.TableStore.{TableStore}
-use Rattle.typed_table.specs.Stored.{IsItemOf}
 use Rattle.typed_store.specs.declared.store.TypedStore.{TypedStore}
 
 -- the table of the items, and what its keys are
@@ -24,10 +19,6 @@ store_of t = t.store
 
 abbrev pub schema_of : {T S : Type 0} → TypedStore T S → KeySchema
 schema_of t = store.schema_of (store_of t)
-
--- the key is that of the item that the value is written as
-abbrev pub IsKeyOf : {T : Type 0} → Shape → (T → Datum) → KeySchema → T → Key → Type 0
-IsKeyOf shape tells schema value key = (item : Item) × IsItemOf shape tells value item × ReadsKey schema item (Ok key)
 
 -- the value is what this item reads as
 abbrev pub ReadsAs : {T : Type 0} → (Source → Result T Fault → Type 0) → Item → T → Type 0

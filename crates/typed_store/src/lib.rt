@@ -4,5 +4,5 @@
 mod error;
 mod store;
 
-pub use error::TypedError;
+pub use error::TypedStoreError;
 pub use store::TypedStore;

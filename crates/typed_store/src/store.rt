@@ -1,8 +1,9 @@
 ghost use Rattle.std.specs.Prelude.{◌≡◌, IfOk, IfSome};
 ghost use Rattle.std.specs.List.{AllZip};
-ghost use Rattle.typed_store.specs.Stored.{IsKeyOf, ReadsAs, WasRead, WereFound, schema_of, store_of};
+ghost use Rattle.typed_table.specs.Stored.{IsKeyOf};
+ghost use Rattle.typed_store.specs.Stored.{ReadsAs, WasRead, WereFound, schema_of, store_of};
 
-use crate::TypedError;
+use crate::TypedStoreError;
 use dynamo_value::Item;
 use sqlite::{Alter, Connection};
 use std::alloc::Global;
@@ -26,7 +27,7 @@ impl<T: Keyed, S: Alter + Drop> TypedStore<T, S> {
     /// # Errors
     ///
     /// `Store` with the errors of [`TableStore::create`].
-    pub fn create(alloc: Global, conn: Connection<S>, name: &str) -> Result<Self, TypedError> {
+    pub fn create(alloc: Global, conn: Connection<S>, name: &str) -> Result<Self, TypedStoreError> {
         let schema = T::key_schema(alloc)?;
         Ok(TypedStore {
             alloc,
@@ -47,7 +48,7 @@ impl<T: Keyed, S: Alter + Drop> TypedStore<T, S> {
     /// # Errors
     ///
     /// `Value` where the value isn't written as an item, and `Store` with the errors of [`TableStore::put`].
-    pub fn put(&mut self, value: &T) -> Result<Key, TypedError>
+    pub fn put(&mut self, value: &T) -> Result<Key, TypedStoreError>
         ensures key { IfOk result (IsKeyOf T.about.shape T.tells (schema_of self.old) value.now) }
         ensures schema { schema_of self.new ≡ schema_of self.old }
     {
@@ -60,7 +61,7 @@ impl<T: Keyed, S: Alter + Drop> TypedStore<T, S> {
     /// # Errors
     ///
     /// `Value` with what reading the item permits, and `Store` with the errors of [`TableStore::get`].
-    pub fn get(&mut self, key: &Key) -> Result<Option<T>, TypedError>
+    pub fn get(&mut self, key: &Key) -> Result<Option<T>, TypedStoreError>
         ensures read { IfOk result (λ found. IfSome found (WasRead T.reads)) }
         ensures schema { schema_of self.new ≡ schema_of self.old }
     {
@@ -75,7 +76,7 @@ impl<T: Keyed, S: Alter + Drop> TypedStore<T, S> {
     /// # Errors
     ///
     /// `Store` with the errors of [`TableStore::delete`].
-    pub fn delete(&mut self, key: &Key) -> Result<bool, TypedError>
+    pub fn delete(&mut self, key: &Key) -> Result<bool, TypedStoreError>
         ensures schema { schema_of self.new ≡ schema_of self.old }
     {
         Ok(self.store.delete(key)?.is_some())
@@ -86,7 +87,7 @@ impl<T: Keyed, S: Alter + Drop> TypedStore<T, S> {
     /// # Errors
     ///
     /// `Value` with what reading one of the items permits, and `Store` with the errors of [`TableStore::query`].
-    pub fn query(&mut self, query: &Query<'_>) -> Result<Vec<T>, TypedError>
+    pub fn query(&mut self, query: &Query<'_>) -> Result<Vec<T>, TypedStoreError>
         ensures found { IfOk result (λ values. WereFound T.reads (schema_of self.old) query.now values.items) }
         ensures schema { schema_of self.new ≡ schema_of self.old }
     {
@@ -95,7 +96,7 @@ impl<T: Keyed, S: Alter + Drop> TypedStore<T, S> {
     }
 
     // What these items read as, each of which is taken apart for it.
-    fn values_from(&self, found: Vec<Item>) -> Result<Vec<T>, TypedError>
+    fn values_from(&self, found: Vec<Item>) -> Result<Vec<T>, TypedStoreError>
         ensures { IfOk result (λ values. AllZip (ReadsAs T.reads) found.items values.items) }
     {
         let mut values = Vec::with_capacity(self.alloc, found.len())?;

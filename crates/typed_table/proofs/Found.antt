@@ -2,21 +2,18 @@
 use Rattle.std.proofs.Common.{◌≡◌, ℕ, zero, suc, ◌+◌, ◌<◌, ◌≤◌, List, [], ◌∷◌, ◌++◌, length, take, get_or, Result, Ok, Err, sym, ap, ◌∙◌, subst, inl, inr, arith}
 use Rattle.std.proofs.lemmas.List.{take_more, take_all}
 use Rattle.std.specs.Borrow.{Bor}
-use Rattle.dynamo_value.specs.Av as av
 use Rattle.dynamo_value.specs.Fault.{Fault}
-use Rattle.dynamo_value.specs.Item.{item_view}
 use Rattle.dynamo_value.specs.declared.item.Item.{Item}
-use Rattle.dynamo_de.specs.Source.{Source, attribute}
 use Rattle.table_key.specs.declared.key.Key.{Key}
 use Rattle.table_query.specs.Queries.{seen}
 use Rattle.typed_table.specs.Stored.{ReadEach, RefusesOne}
 
-module _ {T : Type 0} (reads : Source → Result T Fault → Type 0) where
+module _ {T : Type 0} (Reads : Item → Result T Fault → Type 0) where
   -- what reading gives of the item of an entry
   abbrev Gives : Bor Key × Bor Item → Result T Fault → Type 0
-  Gives p r = reads (attribute (av.M (item_view p.1.now))) r
+  Gives p r = Reads p.1.now r
 
-  one_more : (es : List (Bor Key × Bor Item)) (vs : List T) (p : Bor Key × Bor Item) (v : T) → ReadEach reads (seen es) vs → Gives p (Ok v) → ReadEach reads (seen (es ++ p ∷ [])) (vs ++ v ∷ [])
+  one_more : (es : List (Bor Key × Bor Item)) (vs : List T) (p : Bor Key × Bor Item) (v : T) → ReadEach Reads (seen es) vs → Gives p (Ok v) → ReadEach Reads (seen (es ++ p ∷ [])) (vs ++ v ∷ [])
   one_more [] [] p v h k = (k, h)
   one_more [] (w ∷ ws) p v h k = absurd h
   one_more (e ∷ es) [] p v h k = absurd h
@@ -24,16 +21,16 @@ module _ {T : Type 0} (reads : Source → Result T Fault → Type 0) where
 
   -- the item at a place reads as one more value
   pub goes_on : (es : List (Bor Key × Bor Item)) (i : ℕ) (p : Bor Key × Bor Item) (vs : List T) (v : T) → i < length es → p ≡ get_or es i p
-      → ReadEach reads (seen (take i es)) vs → Gives p (Ok v) → ReadEach reads (seen (take (i + 1) es)) (vs ++ v ∷ [])
+      → ReadEach Reads (seen (take i es)) vs → Gives p (Ok v) → ReadEach Reads (seen (take (i + 1) es)) (vs ++ v ∷ [])
   goes_on es i p vs v lt at h k =
-      subst (λ (zs : List (Bor Key × Bor Item)). ReadEach reads (seen zs) (vs ++ v ∷ [])) (sym (take_more es i p lt ∙ ap (λ z. take i es ++ z ∷ []) (sym at)))
+      subst (λ (zs : List (Bor Key × Bor Item)). ReadEach Reads (seen zs) (vs ++ v ∷ [])) (sym (take_more es i p lt ∙ ap (λ z. take i es ++ z ∷ []) (sym at)))
       (one_more (take i es) vs p v h k)
 
   -- the item at a place is refused
-  pub stops : (es : List (Bor Key × Bor Item)) (i : ℕ) (p : Bor Key × Bor Item) (f : Fault) → i < length es → p ≡ get_or es i p → Gives p (Err f) → RefusesOne reads f (seen es)
+  pub stops : (es : List (Bor Key × Bor Item)) (i : ℕ) (p : Bor Key × Bor Item) (f : Fault) → i < length es → p ≡ get_or es i p → Gives p (Err f) → RefusesOne Reads f (seen es)
   stops [] i p f lt at h = absurd (omega (arith, lt))
   stops (e ∷ es) zero p f lt at h = inl (subst (λ q. Gives q (Err f)) at h)
   stops (e ∷ es) (suc i) p f lt at h = inr (stops es i p f (omega (arith, lt)) at h)
 
-  pub all_read : (es : List (Bor Key × Bor Item)) (i : ℕ) (vs : List T) → length es ≤ i → ReadEach reads (seen (take i es)) vs → ReadEach reads (seen es) vs
-  all_read es i vs le h = subst (λ (zs : List (Bor Key × Bor Item)). ReadEach reads (seen zs) vs) (take_all i es le) h
+  pub all_read : (es : List (Bor Key × Bor Item)) (i : ℕ) (vs : List T) → length es ≤ i → ReadEach Reads (seen (take i es)) vs → ReadEach Reads (seen es) vs
+  all_read es i vs le h = subst (λ (zs : List (Bor Key × Bor Item)). ReadEach Reads (seen zs) vs) (take_all i es le) h

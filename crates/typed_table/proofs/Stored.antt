@@ -15,7 +15,7 @@ use Rattle.dynamo_shape.specs.Conforms.{conforms}
 use Rattle.dynamo_shape.specs.Laws.{ReadsByShape}
 use Rattle.dynamo_types.specs.About.{About}
 use Rattle.serde_dynamo.proofs.ReadBack.{itself, not_refused}
-use Rattle.typed_table.specs.Stored.{IsItemOf}
+use Rattle.typed_table.specs.Written.{IsItemOf}
 
 -- what is written as an item is written as the map of it
 was_map : (r : Result Av Fault) (ms : Members) → (r >>= members_in) ≡ Ok ms → r ≡ Ok (av.M ms)

@@ -2,9 +2,9 @@
 use Rattle.std.specs.Prelude.{ℕ, List, Option, Some}
 use Rattle.dynamo_value.specs.KindText.{kind_text}
 use Rattle.table_key.specs.ErrorText.{error_text}
-use Rattle.typed_table.specs.declared.error.StoreError.{StoreError}
+use Rattle.typed_table.specs.declared.error.TypedTableError.{TypedTableError}
 
 -- that of the fault by itself
-abbrev pub store_error_text : StoreError → Option (List ℕ)
-store_error_text (StoreError.Value error) = kind_text error
-store_error_text (StoreError.Table error) = Some (error_text error)
+abbrev pub typed_table_error_text : TypedTableError → Option (List ℕ)
+typed_table_error_text (TypedTableError.Value error) = kind_text error
+typed_table_error_text (TypedTableError.Table error) = Some (error_text error)

@@ -1,2 +1,4 @@
 pub mod ErrorText
 pub mod Stored
+pub mod Updated
+pub mod Written

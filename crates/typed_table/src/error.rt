@@ -1,6 +1,6 @@
 ghost use Rattle.std.specs.Prelude.{◌≡◌};
-ghost use Rattle.typed_table.specs.ErrorText.{store_error_text};
-ghost use Rattle.typed_table.specs.declared.error.StoreError.{StoreError};
+ghost use Rattle.typed_table.specs.ErrorText.{typed_table_error_text};
+ghost use Rattle.typed_table.specs.declared.error.TypedTableError.{TypedTableError};
 
 use dynamo_value::Error;
 use std::fmt;
@@ -8,7 +8,7 @@ use table_key::TableError;
 
 /// Why a value could not be stored. The table is then as it was.
 #[derive(Debug, Drop)]
-pub enum StoreError {
+pub enum TypedTableError {
     /// The value could not be written as an item.
     Value(Error),
 
@@ -16,31 +16,31 @@ pub enum StoreError {
     Table(TableError),
 }
 
-impl From<Error> for StoreError {
-    ghost from_gives = { λ error e. e ≡ StoreError.Value error };
+impl From<Error> for TypedTableError {
+    ghost from_gives = { λ error e. e ≡ TypedTableError.Value error };
 
-    fn from(error: Error) -> StoreError {
-        StoreError::Value(error)
+    fn from(error: Error) -> TypedTableError {
+        TypedTableError::Value(error)
     }
 }
 
-impl From<TableError> for StoreError {
-    ghost from_gives = { λ error e. e ≡ StoreError.Table error };
+impl From<TableError> for TypedTableError {
+    ghost from_gives = { λ error e. e ≡ TypedTableError.Table error };
 
-    fn from(error: TableError) -> StoreError {
-        StoreError::Table(error)
+    fn from(error: TableError) -> TypedTableError {
+        TypedTableError::Table(error)
     }
 }
 
-impl fmt::Display for StoreError {
-    ghost output = { store_error_text };
+impl fmt::Display for TypedTableError {
+    ghost output = { typed_table_error_text };
 
     fn fmt<W: fmt::Write>(&self, f: &mut fmt::Formatter<W>) -> fmt::Result {
         match self {
-            StoreError::Value(error) => fmt::Display::fmt(error, f),
-            StoreError::Table(error) => fmt::Display::fmt(error, f),
+            TypedTableError::Value(error) => fmt::Display::fmt(error, f),
+            TypedTableError::Table(error) => fmt::Display::fmt(error, f),
         }
     }
 }
 
-impl std::error::Error for StoreError {}
+impl std::error::Error for TypedTableError {}

@@ -10,8 +10,10 @@ ghost use Rattle.dynamo_de.specs.Source.{attribute};
 ghost use Rattle.dynamo_write.specs.Written.{item_written};
 ghost use Rattle.dynamo_shape.specs.Clear.{Clear};
 ghost use Rattle.table_query.specs.Queries.{seen};
-ghost use Rattle.typed_table.specs.Stored.{IsItemOf, ReadEach, RefusesOne};
+ghost use Rattle.typed_table.specs.Stored.{ReadEach, RefusesOne};
+ghost use Rattle.typed_table.specs.Written.{IsItemOf};
 
+use crate::AsItem;
 use dynamo_read::{from_item, from_item_ref};
 use dynamo_types::Shaped;
 use dynamo_value::{Item, Result};
@@ -62,18 +64,18 @@ pub fn value_from<T: Shaped>(alloc: Global, item: Item) -> Result<T>
     Ok(value)
 }
 
-/// The values that items read as, each in its place.
+/// Returns the values that items read as, each in its place.
 ///
 /// # Errors
 ///
-/// What reading one of them permits, or want of memory.
-pub(crate) fn values_of<T: Shaped>(alloc: Global, found: &[(&Key, &Item)]) -> Result<Vec<T>>
-    ensures read { IfOk result (λ values. ReadEach T.reads (seen found.now) values.items) }
-    ensures err { IfErr result (λ e. (fault_of e ≡ out_of_memory) ⊎ RefusesOne T.reads (fault_of e) (seen found.now)) }
+/// The fault of reading one of them, or `OutOfMemory`.
+pub(crate) fn values_of<T: AsItem>(alloc: Global, found: &[(&Key, &Item)]) -> Result<Vec<T>>
+    ensures read { IfOk result (λ values. ReadEach T.reads_item (seen found.now) values.items) }
+    ensures err { IfErr result (λ e. (fault_of e ≡ out_of_memory) ⊎ RefusesOne T.reads_item (fault_of e) (seen found.now)) }
 {
     let mut values = Vec::with_capacity(alloc, found.len())?;
     for (_, item) in found {
-        values.push(value_of(alloc, item)?)?;
+        values.push(T::read_item(alloc, item)?)?;
     }
     Ok(values)
 }

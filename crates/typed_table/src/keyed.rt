@@ -1,13 +1,13 @@
-use dynamo_types::Shaped;
+use crate::AsItem;
 use std::alloc::{AllocError, Global};
 use table_key::KeySchema;
 
-/// A type that states its shape and names the key of its table.
-pub trait Keyed: Shaped {
-    /// The attributes that are the key.
+/// A type whose values are written as items, and that names the key of its table.
+pub trait Keyed: AsItem {
+    /// Returns the attributes that are the key.
     ///
     /// # Errors
     ///
-    /// Want of memory for their names.
+    /// `AllocError` if memory for their names can't be allocated.
     fn key_schema(alloc: Global) -> Result<KeySchema, AllocError>;
 }

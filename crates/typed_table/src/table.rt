@@ -1,18 +1,20 @@
-ghost use Rattle.std.specs.Prelude.{◌≡◌, ◌⊎◌, ◌↔◌, [], None, Some, Ok, true, length, is_some, IsTrue};
+ghost use Rattle.std.specs.Prelude.{◌≡◌, ◌⊎◌, ◌↔◌, [], None, true, length, is_some, option_map, IsTrue};
 ghost use Rattle.std.specs.Prelude.{IfOk, IfErr, OnOk, OnErr, MatchOption, MatchResult};
 ghost use Rattle.std.specs.BTreeMap.{get, Updates};
 ghost use Rattle.dynamo_value.specs.Fault.{out_of_memory};
 ghost use Rattle.dynamo_value.specs.Kind.{fault_of};
-ghost use Rattle.dynamo_shape.specs.Clear.{Clear};
+ghost use Rattle.table_key.specs.KeyOf.{SaysKey};
 ghost use Rattle.table_key.specs.KeyOrder.{key_cmp};
 ghost use Rattle.table_query.specs.Conditions.{holds};
 ghost use Rattle.table_query.specs.Queries.{answer};
 ghost use Rattle.memory_table.specs.Content.{entries_of, items_of, schema_of};
 ghost use Rattle.typed_table.specs.Stored.{DeletesIf, FailsCondition, FailsToPut, FailsToRead, Holds, IsKeyOf};
-ghost use Rattle.typed_table.specs.Stored.{OthersStay, ReadEach, ReadsAt, UpdatesValue, page, table_of};
+ghost use Rattle.typed_table.specs.Stored.{OthersStay, ReadEach, ReadsAt, page, table_of};
+ghost use Rattle.typed_table.specs.Updated.{FailsToUpdate, UpdatesValue};
 
-use crate::item::{item_of, value_of, values_of};
-use crate::{Keyed, StoreError};
+use crate::change::{Failed, changed};
+use crate::item::values_of;
+use crate::{Keyed, TypedTableError};
 use dynamo_value::Result;
 use memory_table::Table;
 use std::alloc::{AllocError, Global};
@@ -29,11 +31,11 @@ pub struct TypedTable<T> {
 }
 
 impl<T: Keyed> TypedTable<T> {
-    /// The table without values. What it holds and answers takes its memory from `alloc`.
+    /// Returns the table without values. What it holds and returns takes its memory from `alloc`.
     ///
     /// # Errors
     ///
-    /// Want of memory for the names of the key.
+    /// `AllocError` if memory for the names of the key can't be allocated.
     pub fn new(alloc: Global) -> std::result::Result<Self, AllocError>
         ensures empty { IfOk result (λ t. entries_of (table_of t) ≡ []) }
     {
@@ -45,7 +47,7 @@ impl<T: Keyed> TypedTable<T> {
         })
     }
 
-    /// The table of the items.
+    /// Returns the table of the items.
     pub fn items(&self) -> &Table
         ensures { result.now ≡ table_of self.now }
     {
@@ -72,27 +74,49 @@ impl<T: Keyed> TypedTable<T> {
     ///
     /// `Value` if the value can't be written as an item, `Table` if that item has no key of the table, and either if memory
     /// can't be allocated.
-    pub fn key_of(&self, value: &T) -> std::result::Result<Key, StoreError>
-        ensures ok { IfOk result (IsKeyOf T.about.shape T.tells (schema_of (table_of self.now)) value.now) }
-        ensures err { IfErr result (FailsToPut T.about.shape T.tells (schema_of (table_of self.now)) value.now) }
+    pub fn key_of(&self, value: &T) -> std::result::Result<Key, TypedTableError>
+        ensures ok { IfOk result (IsKeyOf T.written (schema_of (table_of self.now)) value.now) }
+        ensures err { IfErr result (FailsToPut T.written T.unwritten (schema_of (table_of self.now)) value.now) }
     {
-        let item = item_of(self.alloc, value)?;
+        let item = value.to_item(self.alloc)?;
         Ok(self.table.key_of(&item)?)
     }
 
-    /// Puts a value under its key, and answers the key. What was there is let go.
+    /// Returns the key of these words: a string is itself, a number its text, and a byte string its base64 text.
     ///
     /// # Errors
     ///
-    /// `Value` where the value isn't written as an item, `Table` where that has no key of the table, and want of memory as either.
-    pub fn put(&mut self, value: &T) -> std::result::Result<Key, StoreError>
-        ensures holds { IfOk result (λ key. Holds T.about.shape T.tells (table_of self.new) key value.now) }
+    /// Those of [`KeySchema::key_from`](table_key::KeySchema::key_from): of a word that is none of the attribute's kind, `NoSortKey`
+    /// for a word for a sort key of a table that has none, and `Missing` without one for that of a table that has one.
+    ///
+    /// # Examples
+    ///
+    ///     let key = orders.key_from("Arthur", Some("2024"))?;
+    ///     let order = orders.get(&key)?;
+    pub fn key_from(
+        &self,
+        partition: &str,
+        sort: Option<&str>,
+    ) -> std::result::Result<Key, TableError>
+        ensures { SaysKey (schema_of (table_of self.now)) partition.now (option_map (λ w. w.now) sort.entry) result }
+    {
+        self.table.schema().key_from(self.alloc, partition, sort)
+    }
+
+    /// Puts a value under its key, and returns the key. It drops what was there.
+    ///
+    /// # Errors
+    ///
+    /// `Value` if the value can't be written as an item, `Table` if that item has no key of the table, and either if memory can't
+    /// be allocated. The table is then as it was.
+    pub fn put(&mut self, value: &T) -> std::result::Result<Key, TypedTableError>
+        ensures holds { IfOk result (λ key. Holds T.written (table_of self.new) key value.now) }
         ensures others { IfOk result (λ key. OthersStay key (table_of self.old) (table_of self.new)) }
-        ensures err { IfErr result (λ e. FailsToPut T.about.shape T.tells (schema_of (table_of self.old)) value.now e) }
+        ensures err { IfErr result (λ e. FailsToPut T.written T.unwritten (schema_of (table_of self.old)) value.now e) }
         ensures unchanged { OnErr result (entries_of (table_of self.new) ≡ entries_of (table_of self.old)) }
         ensures schema { schema_of (table_of self.new) ≡ schema_of (table_of self.old) }
     {
-        let item = item_of(self.alloc, value)?;
+        let item = value.to_item(self.alloc)?;
         Ok(self.table.put_returning_key(item)?)
     }
 
@@ -105,40 +129,40 @@ impl<T: Keyed> TypedTable<T> {
         &mut self,
         condition: Condition,
         value: &T,
-    ) -> std::result::Result<Key, StoreError>
+    ) -> std::result::Result<Key, TypedTableError>
         ensures condition { IfOk result (λ key.
             holds condition (is_some (get key_cmp (items_of (table_of self.old)) key)) ≡ true) }
-        ensures holds { IfOk result (λ key. Holds T.about.shape T.tells (table_of self.new) key value.now) }
+        ensures holds { IfOk result (λ key. Holds T.written (table_of self.new) key value.now) }
         ensures others { IfOk result (λ key. OthersStay key (table_of self.old) (table_of self.new)) }
-        ensures err { IfErr result (λ e. FailsToPut T.about.shape T.tells (schema_of (table_of self.old)) value.now e
-            ⊎ FailsCondition T.about.shape T.tells condition (table_of self.old) value.now e) }
+        ensures err { IfErr result (λ e. FailsToPut T.written T.unwritten (schema_of (table_of self.old)) value.now e
+            ⊎ FailsCondition T.written condition (table_of self.old) value.now e) }
         ensures unchanged { OnErr result (entries_of (table_of self.new) ≡ entries_of (table_of self.old)) }
         ensures schema { schema_of (table_of self.new) ≡ schema_of (table_of self.old) }
     {
-        let item = item_of(self.alloc, value)?;
+        let item = value.to_item(self.alloc)?;
         Ok(self.table.put_if_returning_key(condition, item)?)
     }
 
-    /// The value under a key, where there is one.
+    /// Returns the value under a key, if there is one.
     ///
-    /// **What was put under a key is got from it**: while the table holds a value under the key, and the shape of the type is clear,
-    /// the answer is the same by value, and there is no refusal but for want of memory.
+    /// **What was put under a key is got from it**: while the table holds a value under the key, and the type promises that what is
+    /// written reads back, the value is the same, and the call fails only if memory can't be allocated.
     ///
     /// # Errors
     ///
-    /// What reading the item permits, or want of memory.
+    /// The fault of reading the item, or `OutOfMemory`.
     pub fn get(&self, key: &Key) -> Result<Option<T>>
-        ensures read { ReadsAt T.reads (get key_cmp (items_of (table_of self.now)) key.now) result }
-        ensures clear { Clear T.about.shape → (value : T) → Holds T.about.shape T.tells (table_of self.now) key.now value
-            → MatchResult result (λ found. MatchOption found ⊥ (λ w. T.about.same value w)) (λ e. fault_of e ≡ out_of_memory) }
+        ensures read { ReadsAt T.reads_item (get key_cmp (items_of (table_of self.now)) key.now) result }
+        ensures clear { T.reads_back → (value : T) → Holds T.written (table_of self.now) key.now value
+            → MatchResult result (λ found. MatchOption found ⊥ (T.alike value)) (λ e. fault_of e ≡ out_of_memory) }
     {
         match self.table.get(key) {
-            Some(item) => Ok(Some(value_of(self.alloc, item)?)),
+            Some(item) => Ok(Some(T::read_item(self.alloc, item)?)),
             None => Ok(None),
         }
     }
 
-    /// Takes out what is under a key, and answers whether there was anything.
+    /// Deletes what is under a key, and returns whether there was anything.
     pub fn delete(&mut self, key: &Key) -> bool
         ensures answer { result ≡ is_some (get key_cmp (items_of (table_of self.old)) key.now) }
         ensures updates { Updates key_cmp (items_of (table_of self.old)) (items_of (table_of self.new)) key.now None }
@@ -165,63 +189,46 @@ impl<T: Keyed> TypedTable<T> {
 
     /// Replaces the value under a key with what `change` makes of it.
     ///
+    /// The errors are of any type that a [`TypedTableError`] converts to, such as one of the caller's own.
+    ///
     /// # Errors
     ///
-    /// `Table` with `NoItem` if nothing is under the key, and with `KeyChanged` if the changed value has another key. `Value` if
-    /// the value that is there can't be read, the error of `change`, and those of [`put`](Self::put) for the changed value.
-    pub fn update<E: From<StoreError>, F: FnOnce(T) -> std::result::Result<T, E>>(
+    /// `Table` with `NoItem` if nothing is under the key. Else `Value` if what is there can't be read, then the error of `change`,
+    /// then those of [`put`](Self::put) for the changed value, and `Table` with `KeyChanged` if that has another key.
+    pub fn update<E: From<TypedTableError>, F: FnOnce(T) -> std::result::Result<T, E>>(
         &mut self,
         key: &Key,
         change: F,
     ) -> std::result::Result<(), E>
         requires { F.IsAlwaysCallable change }
-        ensures updates { OnOk result (UpdatesValue T.about.shape T.tells T.reads (F.post change) key.now
+        ensures updates { OnOk result (UpdatesValue T.written T.reads_item (F.post change) key.now
             (table_of self.old) (table_of self.new)) }
         ensures others { OnOk result (OthersStay key.now (table_of self.old) (table_of self.new)) }
+        ensures err { IfErr result (FailsToUpdate T.written T.unwritten T.reads_item (F.post change) E.from_gives key.now
+            (table_of self.old)) }
         ensures unchanged { OnErr result (entries_of (table_of self.new) ≡ entries_of (table_of self.old)) }
         ensures schema { schema_of (table_of self.new) ≡ schema_of (table_of self.old) }
     {
-        let before = self.existing(key)?;
-        let after = change(before)?;
-        self.replace(key, &after)?;
-        Ok(())
-    }
-
-    // Returns the value under a key that has one.
-    fn existing(&self, key: &Key) -> std::result::Result<T, StoreError>
-        ensures { IfOk result (λ value.
-            ReadsAt T.reads (get key_cmp (items_of (table_of self.now)) key.now) (Ok (Some value))) }
-    {
-        match self.get(key)? {
-            Some(value) => Ok(value),
-            None => Err(StoreError::Table(TableError::NoItem)),
+        let alloc = self.alloc;
+        match self.table.update(key, move |item| changed(alloc, item, change)) {
+            Ok(()) => Ok(()),
+            Err(Failed(error)) => Err(error),
         }
     }
 
-    // Puts a value in the place of the one under the key, which is to be its own.
-    fn replace(&mut self, key: &Key, value: &T) -> std::result::Result<(), StoreError>
-        ensures holds { OnOk result (Holds T.about.shape T.tells (table_of self.new) key.now value.now) }
-        ensures others { OnOk result (OthersStay key.now (table_of self.old) (table_of self.new)) }
-        ensures unchanged { OnErr result (entries_of (table_of self.new) ≡ entries_of (table_of self.old)) }
-        ensures schema { schema_of (table_of self.new) ≡ schema_of (table_of self.old) }
-    {
-        let item = item_of(self.alloc, value)?;
-        self.table.update::<TableError, _>(key, move |_| Ok(item))?;
-        Ok(())
-    }
-
-    /// The values that a query finds, in its order: what each of the items reads as.
+    /// Returns the values that a query finds, in its order: what each of the items reads as.
     ///
     /// # Errors
     ///
-    /// What reading one of the items permits, or want of memory.
+    /// The fault of reading one of the items, or `OutOfMemory`.
     pub fn query(&self, query: &Query<'_>) -> Result<Vec<T>>
-        ensures read { IfOk result (λ values. ReadEach T.reads (answer query.now (entries_of (table_of self.now))) values.items) }
-        ensures err { IfErr result (FailsToRead T.reads (answer query.now (entries_of (table_of self.now)))) }
+        ensures read { IfOk result (λ values. ReadEach T.reads_item (answer query.now (entries_of (table_of self.now))) values.items) }
+        ensures err { IfErr result (FailsToRead T.reads_item (answer query.now (entries_of (table_of self.now)))) }
     {
         let found = self.table.query(self.alloc, query)?;
         values_of(self.alloc, found.as_slice())
     }
+
     /// Returns a page of all values: those behind `start_after`, in the order of their keys, at most `limit`. The next page
     /// starts after the key of the last value of this one, which [`key_of`](Self::key_of) returns.
     ///
@@ -229,8 +236,8 @@ impl<T: Keyed> TypedTable<T> {
     ///
     /// The error of reading one of the items, or `OutOfMemory`.
     pub fn scan(&self, limit: usize, start_after: Option<&Key>) -> Result<Vec<T>>
-        ensures read { IfOk result (λ values. ReadEach T.reads (page limit start_after.entry (table_of self.now)) values.items) }
-        ensures err { IfErr result (FailsToRead T.reads (page limit start_after.entry (table_of self.now))) }
+        ensures read { IfOk result (λ values. ReadEach T.reads_item (page limit start_after.entry (table_of self.now)) values.items) }
+        ensures err { IfErr result (FailsToRead T.reads_item (page limit start_after.entry (table_of self.now))) }
     {
         let found = self.table.scan(self.alloc, limit, start_after)?;
         values_of(self.alloc, found.as_slice())
@@ -242,8 +249,8 @@ impl<T: Keyed> TypedTable<T> {
     ///
     /// The error of reading one of the items, or `OutOfMemory`.
     pub fn scan_all(&self) -> Result<Vec<T>>
-        ensures read { IfOk result (λ values. ReadEach T.reads (entries_of (table_of self.now)) values.items) }
-        ensures err { IfErr result (FailsToRead T.reads (entries_of (table_of self.now))) }
+        ensures read { IfOk result (λ values. ReadEach T.reads_item (entries_of (table_of self.now)) values.items) }
+        ensures err { IfErr result (FailsToRead T.reads_item (entries_of (table_of self.now))) }
     {
         let found = self.table.scan_all(self.alloc, self.table.len())?;
         values_of(self.alloc, found.as_slice())

@@ -4,4 +4,4 @@ use Rattle.typed_table.specs.Stored.{ReadEach}
 use Rattle.typed_table.proofs.item.values_of.Given as goal
 
 abbrev pub invariant-loop-item : goal.invariant-loop-item
-invariant-loop-item g l = ReadEach g.T.Deserialize.reads (seen (take l.item-index l.found)) l.values.items
+invariant-loop-item g l = ReadEach g.T.AsItem.reads_item (seen (take l.item-index l.found)) l.values.items

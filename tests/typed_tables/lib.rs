@@ -1,0 +1,8 @@
+//! Typed tables of a type that is described and of one that derives serde's traits, in memory and in a database: each call with ample
+//! memory, and its errors by `?`.
+
+mod booking;
+mod guest;
+mod in_database;
+mod in_memory;
+mod texts;
