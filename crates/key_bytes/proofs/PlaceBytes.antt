@@ -11,8 +11,7 @@ use Rattle.table_key.specs.declared.key.KeyValue.{KeyValue}
 use Rattle.table_query.specs.Places.{is_from_place}
 use Rattle.table_query.specs.declared.place.Place.{Place}
 use Rattle.table_query.proofs.NextValues.{empty_first, zero_added}
-use Rattle.table_query.proofs.OrderedPlaces.{on_side}
-use Rattle.table_query.proofs.Partitions.{above_side, below_side}
+use Rattle.table_query.proofs.Partitions.{above_side, below_side, on_side}
 use Rattle.table_query.specs.Ranges.{FindsBetween}
 use Rattle.table_query.specs.declared.key_range.KeyRange.{KeyRange}
 use Rattle.table_query.specs.declared.query.Query.{Query}
