@@ -1,6 +1,5 @@
 -- The sort keys that meet a condition are those between two places.
 use Rattle.std.proofs.Common.{◌≡◌, ◌∙◌, ℕ, Bool, true, false, not, Ordering, Less, Equal, Greater, Option, Some, None, refl, sym, ap, arith}
-use Rattle.std.proofs.lemmas.Bool.{and_right, eqb-true, ne_eqb}
 use Rattle.std.proofs.lemmas.Bool.Decides.{nat_tests}
 use Rattle.std.specs.Borrow.{Bor}
 use Rattle.std.specs.Ordering.{is_eq, is_ge, is_gt, is_le, is_lt, is_some_and, nat_cmp, ordering_reverse}
@@ -56,37 +55,35 @@ met test lies lower higher less equal greater b w =
 
 -- ---- the ranges of the conditions with one bound
 
-module _ (b : Bor KeyValue) (low high : SortPlace) where
-  pub equal_range : IsPlaceAt false b.now low → IsPlaceAt true b.now high
-      → MeetsBetween (SortCondition.Equal b) (record { low = low; high = Some high })
-  equal_range from up_to None held = rw (from None) refl
-  equal_range from up_to (Some w) held = rw (from (Some w), up_to (Some w))
-      (met is_eq (λ k o. is_le o && not (is_lt o)) refl refl refl refl refl b.now w)
+pub equal_range : (s : SortCondition) (b : Bor KeyValue) (low : SortPlace) (high : SortPlace) → s ≡ SortCondition.Equal b
+    → IsPlaceAt false b.now low → IsPlaceAt true b.now high → MeetsBetween s (record { low = low; high = Some high })
+equal_range s b low high is from up_to None held = rw (is, from None) refl
+equal_range s b low high is from up_to (Some w) held = rw (is, from (Some w), up_to (Some w))
+    (met is_eq (λ k o. is_le o && not (is_lt o)) refl refl refl refl refl b.now w)
 
-  pub less_range : IsKindStart b.now low → IsPlaceAt false b.now high
-      → MeetsBetween (SortCondition.Less b) (record { low = low; high = Some high })
-  less_range from up_to None held = rw (from None held) refl
-  less_range from up_to (Some w) held = rw (from (Some w) held, up_to (Some w))
-      (met is_lt (λ k o. is_le k && not (is_le o)) refl refl refl refl refl b.now w)
+pub less_range : (s : SortCondition) (b : Bor KeyValue) (low : SortPlace) (high : SortPlace) → s ≡ SortCondition.Less b
+    → IsKindStart b.now low → IsPlaceAt false b.now high → MeetsBetween s (record { low = low; high = Some high })
+less_range s b low high is from up_to None held = rw (is, from None held) refl
+less_range s b low high is from up_to (Some w) held = rw (is, from (Some w) held, up_to (Some w))
+    (met is_lt (λ k o. is_le k && not (is_le o)) refl refl refl refl refl b.now w)
 
-  pub less_or_equal_range : IsKindStart b.now low → IsPlaceAt true b.now high
-      → MeetsBetween (SortCondition.LessOrEqual b) (record { low = low; high = Some high })
-  less_or_equal_range from up_to None held = rw (from None held) refl
-  less_or_equal_range from up_to (Some w) held = rw (from (Some w) held, up_to (Some w))
-      (met is_le (λ k o. is_le k && not (is_lt o)) refl refl refl refl refl b.now w)
+pub less_or_equal_range : (s : SortCondition) (b : Bor KeyValue) (low : SortPlace) (high : SortPlace) → s ≡ SortCondition.LessOrEqual b
+    → IsKindStart b.now low → IsPlaceAt true b.now high → MeetsBetween s (record { low = low; high = Some high })
+less_or_equal_range s b low high is from up_to None held = rw (is, from None held) refl
+less_or_equal_range s b low high is from up_to (Some w) held = rw (is, from (Some w) held, up_to (Some w))
+    (met is_le (λ k o. is_le k && not (is_lt o)) refl refl refl refl refl b.now w)
 
-module _ (b : Bor KeyValue) (low : SortPlace) (high : Option SortPlace) where
-  pub greater_range : IsPlaceAt true b.now low → IsKindEnd b.now high
-      → MeetsBetween (SortCondition.Greater b) (record { low = low; high = high })
-  greater_range from up_to None held = rw (from None) refl
-  greater_range from up_to (Some w) held = rw (from (Some w), up_to (Some w) held)
-      (met is_gt (λ k o. is_lt o && not (is_lt k)) refl refl refl refl refl b.now w)
+pub greater_range : (s : SortCondition) (b : Bor KeyValue) (low : SortPlace) (high : Option SortPlace) → s ≡ SortCondition.Greater b
+    → IsPlaceAt true b.now low → IsKindEnd b.now high → MeetsBetween s (record { low = low; high = high })
+greater_range s b low high is from up_to None held = rw (is, from None) refl
+greater_range s b low high is from up_to (Some w) held = rw (is, from (Some w), up_to (Some w) held)
+    (met is_gt (λ k o. is_lt o && not (is_lt k)) refl refl refl refl refl b.now w)
 
-  pub greater_or_equal_range : IsPlaceAt false b.now low → IsKindEnd b.now high
-      → MeetsBetween (SortCondition.GreaterOrEqual b) (record { low = low; high = high })
-  greater_or_equal_range from up_to None held = rw (from None) refl
-  greater_or_equal_range from up_to (Some w) held = rw (from (Some w), up_to (Some w) held)
-      (met is_ge (λ k o. is_le o && not (is_lt k)) refl refl refl refl refl b.now w)
+pub greater_or_equal_range : (s : SortCondition) (b : Bor KeyValue) (low : SortPlace) (high : Option SortPlace) → s ≡ SortCondition.GreaterOrEqual b
+    → IsPlaceAt false b.now low → IsKindEnd b.now high → MeetsBetween s (record { low = low; high = high })
+greater_or_equal_range s b low high is from up_to None held = rw (is, from None) refl
+greater_or_equal_range s b low high is from up_to (Some w) held = rw (is, from (Some w), up_to (Some w) held)
+    (met is_ge (λ k o. is_le o && not (is_lt k)) refl refl refl refl refl b.now w)
 
 -- ---- two bounds of one kind
 
@@ -112,22 +109,9 @@ both_met b d w same =
     kinds : KeyValue → Ordering
     kinds v = nat_cmp (kind_rank v) (kind_rank w)
 
-pub between_range : (b d : Bor KeyValue) (low high : SortPlace) → kind_rank b.now ≡ kind_rank d.now
+pub between_range : (s : SortCondition) (b d : Bor KeyValue) (low high : SortPlace) → s ≡ SortCondition.Between b d → kind_rank b.now ≡ kind_rank d.now
     → IsPlaceAt false b.now low → IsPlaceAt true d.now high
-    → MeetsBetween (SortCondition.Between b d) (record { low = low; high = Some high })
-between_range b d low high same from up_to None held = rw (from None) refl
-between_range b d low high same from up_to (Some w) held =
-    rw (from (Some w), up_to (Some w)) (both_met b.now d.now w same)
-
--- values of two kinds have none between them
-pub none_between_kinds : (b d : Bor KeyValue) → (kind_rank b.now ≡ kind_rank d.now → ⊥) → MeetsNone (SortCondition.Between b d)
-none_between_kinds b d apart None = refl
-none_between_kinds b d apart (Some w) = go (kind_rank w == kind_rank b.now) refl
-  where
-    other : (kind_rank w == kind_rank b.now) ≡ true → (kind_rank w == kind_rank d.now) ≡ false
-    other e = ne_eqb (kind_rank w) (kind_rank d.now) (λ f. apart (sym (eqb-true (kind_rank w) (kind_rank b.now) e) ∙ f))
-
-    go : (same : Bool) → (kind_rank w == kind_rank b.now) ≡ same → (is_some_and is_ge (compared w b.now) && is_some_and is_le (compared w d.now)) ≡ false
-    go false e = rw e refl
-    go true e = and_right (is_some_and is_ge (compared w b.now)) (is_some_and is_le (compared w d.now))
-        (ap (λ same. is_some_and is_le (if same then Some (value_cmp w d.now) else None)) (other e))
+    → MeetsBetween s (record { low = low; high = Some high })
+between_range s b d low high is same from up_to None held = rw (is, from None) refl
+between_range s b d low high is same from up_to (Some w) held =
+    rw (is, from (Some w), up_to (Some w)) (both_met b.now d.now w same)

@@ -107,7 +107,3 @@ module _ (query : Query) (range : SortRange) (low high : Place) (meets : MeetsBe
   answers (Ok None) none = λ key held. found_between key held ∙ none key
   answers (Ok (Some found)) is = λ key held. found_between key held ∙ is key
   answers (Err error) h = tt
-
--- a query whose condition no sort key meets finds nothing
-pub found_none : (query : Query) (key : Key) → MeetsNone query.sort → finds query key ≡ false
-found_none query key none = rw (none key.sort) (and_right (is_eq (value_cmp key.partition query.partition.now)) false refl)
