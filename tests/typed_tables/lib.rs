@@ -6,3 +6,4 @@ mod guest;
 mod in_database;
 mod in_memory;
 mod texts;
+mod unlike_dynamo;
