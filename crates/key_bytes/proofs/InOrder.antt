@@ -1,10 +1,10 @@
 -- The bytes of keys come in the order of the keys.
-use Rattle.std.proofs.Common.{Ordering, Less, Equal, Greater, ◌≡◌, ℕ, List, [], ◌∷◌, Option, Some, None, refl, ⊎_elim, ap, ◌∙◌, string_bytes}
-use Rattle.std.proofs.lemmas.Bool.{cases_order}
+use Rattle.std.proofs.Common.{Ordering, Less, Equal, Greater, ◌≡◌, ℕ, List, [], ◌∷◌, Option, Some, None, refl, sym, ap, ◌∙◌, string_bytes}
+use Rattle.std.proofs.lemmas.Map.Text.{is_eq-slice_cmp}
+use Rattle.std.proofs.lemmas.Slice.Eq.{bytes_eq-Decides}
 use Rattle.std.specs.Option.{option_cmp}
-use Rattle.std.specs.Ordering.{nat_cmp, ordering_then}
+use Rattle.std.specs.Ordering.{is_eq, ordering_then}
 use Rattle.dynamo_number.proofs.ByteOrder.{in_order}
-use Rattle.dynamo_number.proofs.Sizes.{less, greater}
 use Rattle.dynamo_value.specs.View.{text_cmp}
 use Rattle.table_key.specs.KeyOrder.{key_cmp, value_cmp}
 use Rattle.table_key.specs.declared.key.Key.{Key}
@@ -51,23 +51,8 @@ keys a b x y h g =
 
 -- ---- equal values
 
-both_equal : (o p : Ordering) → ordering_then o p ≡ Equal → (o ≡ Equal) × (p ≡ Equal)
-both_equal Less p h = cc
-both_equal Equal p h = (refl, h)
-both_equal Greater p h = cc
-
-same_byte : (b c : ℕ) → nat_cmp b c ≡ Equal → b ≡ c
-same_byte b c h =
-    ⊎_elim (λ e. e) (λ o. ⊎_elim (λ l. let other = less b c l in cc) (λ l. let other = greater b c l in cc) o) (cases_order b c)
-
 same_list : (x y : List ℕ) → text_cmp x y ≡ Equal → x ≡ y
-same_list [] [] h = refl
-same_list [] (c ∷ y) h = cc
-same_list (b ∷ x) [] h = cc
-same_list (b ∷ x) (c ∷ y) h =
-    let both = both_equal (nat_cmp b c) (text_cmp x y) h in
-    let first : b ≡ c = same_byte b c both.0 in
-    let rest : x ≡ y = same_list x y both.1 in cc
+same_list x y h = (bytes_eq-Decides x y).0 (sym (is_eq-slice_cmp x y) ∙ ap is_eq h)
 
 pub same : (a b : KeyValue) (x y : List ℕ) → IsValueBytes a x → IsValueBytes b y → value_cmp a b ≡ Equal → x ≡ y
 same a b x y h g equal = same_list x y (values a b x y h g ∙ equal)

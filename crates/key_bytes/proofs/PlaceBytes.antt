@@ -1,5 +1,5 @@
 -- The bytes of the sort keys of a partition that come from a place on.
-use Rattle.std.proofs.Common.{◌≡◌, ◌∙◌, ℕ, List, [], ◌∷◌, ◌++◌, true, false, Ordering, Less, Equal, Greater, Option, Some, None, Result, Ok, Err, IfOk, Vec, Global, refl, sym, ap}
+use Rattle.std.proofs.Common.{◌≡◌, ◌∙◌, ℕ, List, [], ◌∷◌, ◌++◌, true, false, Ordering, Less, Equal, Greater, Option, Some, None, refl, sym, ap}
 use Rattle.std.proofs.lemmas.Cmp.{alike_right}
 use Rattle.std.specs.Option.{option_cmp}
 use Rattle.std.specs.Ordering.{is_le, is_lt, ordering_then}
@@ -11,8 +11,7 @@ use Rattle.table_key.specs.declared.key.KeyValue.{KeyValue}
 use Rattle.table_query.specs.Places.{is_from_place}
 use Rattle.table_query.specs.declared.place.Place.{Place}
 use Rattle.table_query.proofs.NextValues.{empty_first, zero_added}
-use Rattle.table_query.proofs.OrderedPlaces.{on_side}
-use Rattle.table_query.proofs.Partitions.{above_side, below_side}
+use Rattle.table_query.proofs.Partitions.{above_side, below_side, on_side}
 use Rattle.table_query.specs.Ranges.{FindsBetween}
 use Rattle.table_query.specs.declared.key_range.KeyRange.{KeyRange}
 use Rattle.table_query.specs.declared.query.Query.{Query}
@@ -60,9 +59,3 @@ pub bounded : (query : Query) (range : KeyRange) (bounds : Bounds) → FindsBetw
     → AreBounds query bounds
 bounded query range bounds finds_them low high key bytes held here is =
     finds_them key held ∙ rw (low key bytes here is, high key bytes here is) refl
-
-pub before_all : (partition : KeyValue) (place : Place) {E : Type 0} (r : Result (Vec ℕ Global) E)
-    → value_cmp place.key.partition partition ≡ Equal → place.is_behind ≡ false
-    → IfOk r (λ start. IsSortBytes place.key.sort start.items) → IfOk r (λ start. IsPlaceBytes partition place start.items)
-before_all partition place (Ok start) e before is = from_before partition place start.items e is before
-before_all partition place (Err error) e before is = tt

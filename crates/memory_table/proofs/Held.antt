@@ -57,11 +57,11 @@ answer_none query es none held =
     empty true = take-nil query.limit
     empty false = take-nil query.limit
 
--- of the items between the bounds, those that the query answers in its direction
-pub answer_between : (query : Query) (range : KeyRange) (low high : Bound Key) (es : Entries) (backward : Bool)
-    → query.backward ≡ backward → FindsBetween query range
-    → ((key : Key) → range_contains key_cmp low high key ≡ lies_between range key) → ∥ All IsHeldKey (keys_of es) ∥₁
-    → take query.limit (in_direction backward (entries_between key_cmp low high es)) ≡ answer query es
-answer_between query range low high es backward is finds_them bounds held =
-    ap (λ b. take query.limit (in_direction b (entries_between key_cmp low high es))) (sym is)
-    ∙ ap (λ (xs : Entries). take query.limit (in_direction query.backward xs)) (sym (found_between query range low high es finds_them bounds held))
+-- of the items between the bounds, those that the query answers
+pub answer_between : (query : Query) (range : KeyRange) (low high : Bound Key) (es : Entries)
+    → FindsBetween query range → ((key : Key) → range_contains key_cmp low high key ≡ lies_between range key)
+    → ∥ All IsHeldKey (keys_of es) ∥₁
+    → take query.limit (in_direction query.backward (entries_between key_cmp low high es)) ≡ answer query es
+answer_between query range low high es finds_them bounds held =
+    ap (λ (xs : Entries). take query.limit (in_direction query.backward xs))
+    (sym (found_between query range low high es finds_them bounds held))

@@ -60,16 +60,13 @@ all_left page n limit left es empty none is =
     let all : limit - n ≡ limit = omega arith in
     ap (λ xs. xs ++ take (limit - n) left) empty ∙ ap (λ k. take k left) all ∙ ap (take limit) is
 
--- one more item is found
-pub seen_more : (found more : Lent) (key : Bor Key) (item : Bor Item)
-    → more ≡ found ++ (key, item) ∷ [] → seen more ≡ seen found ++ (key.now, item.now) ∷ []
-seen_more found more key item is = ap seen is ∙ map-append entry found ((key, item) ∷ [])
-
--- of the entries up to a limit, one more is taken from the front of what is left
-pub one_more : (front : Entries) (e : Key × Item) (more all : Entries) (m n : ℕ) → n < m
-    → front ++ take (m - n) (e ∷ more) ≡ all
-    → (front ++ e ∷ []) ++ take (m - (n + 1)) more ≡ all
-one_more front e more all m n h is =
-    let left : m - n ≡ suc (m - (n + 1)) = omega arith in
-    append_assoc front (e ∷ []) (take (m - (n + 1)) more)
-    ∙ ap (λ k. front ++ take k (e ∷ more)) (sym left) ∙ is
+-- of the entries up to a limit, one more is found at the front of what is left
+pub one_more : (found more : Lent) (key : Bor Key) (item : Bor Item) (left all : Entries) (m n k : ℕ)
+    → more ≡ found ++ (key, item) ∷ [] → k ≡ n + 1 → n < m
+    → seen found ++ take (m - n) ((key.now, item.now) ∷ left) ≡ all → seen more ++ take (m - k) left ≡ all
+one_more found more key item left all m n k is count h e =
+    let one : m - n ≡ suc (m - k) = omega arith in
+    ap (λ (xs : Lent). seen xs ++ take (m - k) left) is
+    ∙ ap (λ (xs : Entries). xs ++ take (m - k) left) (map-append entry found ((key, item) ∷ []))
+    ∙ append_assoc (seen found) ((key.now, item.now) ∷ []) (take (m - k) left)
+    ∙ ap (λ i. seen found ++ take i ((key.now, item.now) ∷ left)) (sym one) ∙ e

@@ -1,48 +1,41 @@
 -- What an update of an item comes to.
 use Rattle.std.proofs.Common.{◌≡◌, Bool, false, Option, Some, Result, Ok, MatchOption, MatchResult}
 use Rattle.std.proofs.Common.{Ordering, Less, Equal, Greater, refl, sym, ap, subst}
-use Rattle.std.specs.BTreeMap.{BTreeMap, Updates, get, keys}
+use Rattle.std.specs.BTreeMap.{BTreeMap, Updates, get}
 use Rattle.std.specs.Bool.{MatchBool}
 use Rattle.std.specs.Ordering.{is_ne}
 use Rattle.std.specs.Prelude.{IsOkAnd, is_some}
 use Rattle.dynamo_value.specs.declared.item.Item.{Item}
-use Rattle.memory_table.specs.Change.{RefusesBy, Replaces, UpdatesItem}
-use Rattle.memory_table.specs.Content.{items_of, schema_of}
-use Rattle.memory_table.specs.declared.table.Table.{Table}
-use Rattle.memory_table.proofs.HeldKeys.{kept}
+use Rattle.memory_table.specs.Change.{ChangesItem, RefusesBy, Replaces}
 use Rattle.memory_table.proofs.Lent.{Ends, under_equal}
 use Rattle.table_key.specs.KeyOf.{ReadsKey}
 use Rattle.table_key.specs.KeyOrder.{key_cmp}
 use Rattle.table_key.specs.declared.error.TableError.{TableError}
 use Rattle.table_key.specs.declared.key.Key.{Key}
+use Rattle.table_key.specs.declared.schema.KeySchema.{KeySchema}
 
--- the table with these items, of the keys that it has
-abbrev pub with_items : (old : Table) (items : BTreeMap Key Item) → keys items ≡ keys old.items → Table
-with_items old items same =
-    record { schema = old.schema; items = items; held = kept old.items items same old.held }
-
-module _ {E : Type 0} (gives : TableError → E → Type 0) (key : Key) (old new : Table)
-    (r : Result (Unit {0}) E) where
+module _ {E : Type 0} (gives : TableError → E → Type 0) (schema : KeySchema) (key : Key)
+    (old new : BTreeMap Key Item) (r : Result (Unit {0}) E) where
   -- the key has an item, of which the change makes this
   pub made_of : (Makes : Item → Result Item E → Type 0) (item : Item) (made : Result Item E)
-      → Some item ≡ get key_cmp (items_of old) key → Makes item made
-      → MatchResult made (Replaces gives key old new r) (λ error. RefusesBy (λ e. e ≡ error) old new r)
-      → UpdatesItem gives Makes key old new r
+      → Some item ≡ get key_cmp old key → Makes item made
+      → MatchResult made (Replaces gives schema key old new r) (λ error. RefusesBy (λ e. e ≡ error) old new r)
+      → ChangesItem gives Makes schema key old new r
   made_of Makes item made there makes h =
       subst (λ (o : Option Item). MatchOption o (RefusesBy (gives TableError.NoItem) old new r)
       (λ item. (made : Result Item E) × Makes item made
-      × MatchResult made (Replaces gives key old new r) (λ error. RefusesBy (λ e. e ≡ error) old new r)))
+      × MatchResult made (Replaces gives schema key old new r) (λ error. RefusesBy (λ e. e ≡ error) old new r)))
       there (made, makes, h)
 
   -- the item has this key
   pub own_key : (item : Item) (own : Key) (other : Bool) → other ≡ is_ne (key_cmp own key)
-      → ReadsKey (schema_of old) item (Ok own)
+      → ReadsKey schema item (Ok own)
       → MatchBool other (RefusesBy (gives TableError.KeyChanged) old new r)
-      (IsOkAnd r (λ _. Updates key_cmp (items_of old) (items_of new) own (Some item)))
-      → Replaces gives key old new r item
+      (IsOkAnd r (λ _. Updates key_cmp old new own (Some item)))
+      → Replaces gives schema key old new r item
   own_key item own other is reads h =
       let puts = λ (b : Bool). MatchBool b (RefusesBy (gives TableError.KeyChanged) old new r)
-      (IsOkAnd r (λ _. Updates key_cmp (items_of old) (items_of new) own (Some item))) in
+      (IsOkAnd r (λ _. Updates key_cmp old new own (Some item))) in
       (Ok own, reads, subst puts is h)
 
 same_key : (o : Ordering) → false ≡ is_ne o → o ≡ Equal
@@ -51,9 +44,8 @@ same_key Equal e = refl
 same_key Greater e = cc
 
 -- the item takes the place of the one under its key
-pub in_place : (key own : Key) (old new : Table) (item before : Item)
-    → Ends (items_of old) key item (items_of new) → Some before ≡ get key_cmp (items_of old) key
-    → false ≡ is_ne (key_cmp own key) → Updates key_cmp (items_of old) (items_of new) own (Some item)
+pub in_place : (key own : Key) (old new : BTreeMap Key Item) (item before : Item)
+    → Ends old key item new → Some before ≡ get key_cmp old key → false ≡ is_ne (key_cmp own key)
+    → Updates key_cmp old new own (Some item)
 in_place key own old new item before ends there same =
-    under_equal (items_of old) (items_of new) key own item (ends.3 (ap is_some (sym there)))
-    (same_key (key_cmp own key) same)
+    under_equal old new key own item (ends.3 (ap is_some (sym there))) (same_key (key_cmp own key) same)

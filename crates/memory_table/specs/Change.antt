@@ -1,6 +1,6 @@
 -- What a change of a table answers, and what it leaves.
 use Rattle.std.specs.Prelude.{◌≡◌, ◌⊎◌, true, false, Option, Some, None, Result, Ok, Err, MatchResult, MatchOption, IsErrAnd, IsOkAnd, is_some}
-use Rattle.std.specs.BTreeMap.{get, Updates}
+use Rattle.std.specs.BTreeMap.{BTreeMap, get, Updates}
 use Rattle.std.specs.Bool.{MatchBool}
 use Rattle.std.specs.Ordering.{is_ne}
 use Rattle.dynamo_value.specs.declared.item.Item.{Item}
@@ -9,6 +9,7 @@ use Rattle.table_key.specs.KeyOf.{ReadsKey}
 use Rattle.table_key.specs.KeyOrder.{key_cmp}
 use Rattle.table_key.specs.declared.error.TableError.{TableError}
 use Rattle.table_key.specs.declared.key.Key.{Key}
+use Rattle.table_key.specs.declared.schema.KeySchema.{KeySchema}
 use Rattle.table_query.specs.Conditions.{holds}
 use Rattle.table_query.specs.declared.condition.Condition.{Condition}
 use Rattle.memory_table.specs.declared.table.Table.{Table}
@@ -76,26 +77,34 @@ DeletesIf condition key old new r =
     ((r ≡ Ok (get key_cmp (items_of old) key)) × Updates key_cmp (items_of old) (items_of new) key None)
     (Refuses TableError.ConditionFailed old new r)
 
--- the call is refused by such an error, and the table has the items that it had
-abbrev pub RefusesBy : {E : Type 0} → (E → Type 0) → Table → Table → Result (Unit {0}) E → Type 0
-RefusesBy Is old new r = IsErrAnd r Is × (entries_of new ≡ entries_of old)
+-- the call is refused by such an error, and the items are as they were
+abbrev pub RefusesBy : {E : Type 0} → (E → Type 0) → BTreeMap Key Item → BTreeMap Key Item
+    → Result (Unit {0}) E → Type 0
+RefusesBy Is old new r = IsErrAnd r Is × (new.entries ≡ old.entries)
 
 -- The item that a change made takes the place of the one under the key, where it has the same key.
 -- What the caller's type of errors makes of an error of the table, `gives` says.
-abbrev pub Replaces : {E : Type 0} → (TableError → E → Type 0) → Key → Table → Table
-    → Result (Unit {0}) E → Item → Type 0
-Replaces gives key old new r item =
-    (own : Result Key TableError) × ReadsKey (schema_of old) item own
+abbrev pub Replaces : {E : Type 0} → (TableError → E → Type 0) → KeySchema → Key
+    → BTreeMap Key Item → BTreeMap Key Item → Result (Unit {0}) E → Item → Type 0
+Replaces gives schema key old new r item =
+    (own : Result Key TableError) × ReadsKey schema item own
     × MatchResult own
     (λ k. MatchBool (is_ne (key_cmp k key)) (RefusesBy (gives TableError.KeyChanged) old new r)
-    (IsOkAnd r (λ _. Updates key_cmp (items_of old) (items_of new) k (Some item))))
+    (IsOkAnd r (λ _. Updates key_cmp old new k (Some item))))
     (λ error. RefusesBy (gives error) old new r)
 
--- The item under the key is replaced by what the change makes of it, which has the same key. Or there is no item, the change
--- fails with an error of its own, what it makes has no key or another, or memory is wanting.
+-- The item under the key is replaced by what the change makes of it, which has the same key. Or
+-- there is no item, the change fails with an error of its own, or what it makes has no key or
+-- another, or memory is wanting.
+abbrev pub ChangesItem : {E : Type 0} → (TableError → E → Type 0) → (Item → Result Item E → Type 0)
+    → KeySchema → Key → BTreeMap Key Item → BTreeMap Key Item → Result (Unit {0}) E → Type 0
+ChangesItem gives Makes schema key old new r =
+    MatchOption (get key_cmp old key) (RefusesBy (gives TableError.NoItem) old new r)
+    (λ item. (made : Result Item _) × Makes item made
+    × MatchResult made (Replaces gives schema key old new r) (λ error. RefusesBy (λ e. e ≡ error) old new r))
+
+-- the same of a table
 abbrev pub UpdatesItem : {E : Type 0} → (TableError → E → Type 0) → (Item → Result Item E → Type 0)
     → Key → Table → Table → Result (Unit {0}) E → Type 0
 UpdatesItem gives Makes key old new r =
-    MatchOption (get key_cmp (items_of old) key) (RefusesBy (gives TableError.NoItem) old new r)
-    (λ item. (made : Result Item _) × Makes item made
-    × MatchResult made (Replaces gives key old new r) (λ error. RefusesBy (λ e. e ≡ error) old new r))
+    ChangesItem gives Makes (schema_of old) key (items_of old) (items_of new) r

@@ -206,15 +206,6 @@ impl Table {
         ensures ordered { OnOk result (IsOrdered key_cmp (items_of self.new)) }
         ensures schema { schema_of self.new ≡ schema_of self.old }
     {
-        let Some(place) = self.items.get_mut(key) else {
-            return Err(E::from(TableError::NoItem));
-        };
-        let item = change(place)?;
-        let own_key = self.schema.key_of(&item)?;
-        if own_key.cmp(key).is_ne() {
-            return Err(E::from(TableError::KeyChanged));
-        }
-        *place = item;
-        Ok(())
+        places::change(&mut self.items, &self.schema, key, change)
     }
 }

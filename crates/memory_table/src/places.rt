@@ -1,7 +1,9 @@
 //! Puts on the map of a table's items, each with one search.
-ghost use Rattle.std.specs.BTreeMap.{IsOrdered, get, insert_entry};
+ghost use Rattle.std.specs.BTreeMap.{IsOrdered, get, insert_entry, keys};
 ghost use Rattle.std.specs.Bool.{OnTrue};
-ghost use Rattle.std.specs.Prelude.{◌≡◌, ◌↔◌, IfOk, IsTrue, MatchOption, None, OnErr, if◌then◌else◌};
+ghost use Rattle.std.specs.Prelude.{◌≡◌, ◌↔◌, IfOk, IsTrue, MatchOption, None, OnErr, OnOk, if◌then◌else◌};
+ghost use Rattle.std.specs.Fn.{FnOnceReturnsAt};
+ghost use Rattle.memory_table.specs.Change.{ChangesItem};
 ghost use Rattle.memory_table.specs.Places.{IsPut, Stays, TakesPlace};
 ghost use Rattle.table_key.specs.KeyOrder.{key_cmp};
 
@@ -10,7 +12,7 @@ use std::alloc::AllocError;
 use std::collections::BTreeMap;
 use std::collections::btree_map::Entry;
 use std::mem;
-use table_key::Key;
+use table_key::{Key, KeySchema, TableError};
 
 // Puts an item in the place of the one under the key, and returns that one. A key without an item
 // gets none.
@@ -43,4 +45,28 @@ pub(crate) fn add(items: &mut BTreeMap<Key, Item>, key: Key, item: Item) -> Resu
             Ok(true)
         }
     }
+}
+
+// Puts what `change` makes of the item under the key in its place, where that has the same key.
+pub(crate) fn change<E: From<TableError>, F: FnOnce(&Item) -> Result<Item, E>>(
+    items: &mut BTreeMap<Key, Item>,
+    schema: &KeySchema,
+    key: &Key,
+    change: F,
+) -> Result<(), E>
+    requires { F.IsAlwaysCallable change }
+    ensures changes { ChangesItem E.from_gives (FnOnceReturnsAt F.FnOnce change) schema.now key.now items.old items.new result }
+    ensures keys { keys items.new ≡ keys items.old }
+    ensures ordered { OnOk result (IsOrdered key_cmp items.new) }
+{
+    let Some(place) = items.get_mut(key) else {
+        return Err(E::from(TableError::NoItem));
+    };
+    let item = change(place)?;
+    let own_key = schema.key_of(&item)?;
+    if own_key.cmp(key).is_ne() {
+        return Err(E::from(TableError::KeyChanged));
+    }
+    *place = item;
+    Ok(())
 }

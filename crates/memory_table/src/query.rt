@@ -1,4 +1,4 @@
-ghost use Rattle.std.specs.Prelude.{◌≡◌, IfOk, take, reverse, if◌then◌else◌};
+ghost use Rattle.std.specs.Prelude.{◌≡◌, [], ◌∷◌, IfOk, MatchOption, take};
 ghost use Rattle.std.specs.BTreeMap.Range.{IsLeBy, IsLtBy, entries_between};
 ghost use Rattle.std.specs.Range.Bound.{IsForward, bound_map};
 ghost use Rattle.memory_table.specs.Content.{entries_of};
@@ -8,6 +8,7 @@ ghost use Rattle.table_query.specs.Queries.{answer, in_direction, rest, seen};
 use crate::Table;
 use dynamo_value::Item;
 use std::alloc::{AllocError, Global};
+use std::collections::btree_map::Range;
 use std::ops::Bound;
 use table_key::Key;
 use table_query::Query;
@@ -35,11 +36,7 @@ impl Table {
             return Ok(Vec::new(alloc));
         };
         let (low, high) = range.bounds();
-        if query.backward {
-            self.last_between(alloc, low, high, query.limit)
-        } else {
-            self.first_between(alloc, low, high, query.limit)
-        }
+        self.between(alloc, low, high, query.backward, query.limit)
     }
 
     // Returns the items that a query finds, by asking it of each item.
@@ -63,43 +60,22 @@ impl Table {
         Ok(found)
     }
 
-    // Returns the first items between two bounds, at most `limit`.
-    fn first_between(
+    // Returns the first items between two bounds in a direction, at most `limit`.
+    fn between(
         &self,
         alloc: Global,
         low: Bound<&Key>,
         high: Bound<&Key>,
+        backward: bool,
         limit: usize,
     ) -> Result<Vec<(&Key, &Item)>, AllocError>
         requires { IsForward (IsLeBy key_cmp) (IsLtBy key_cmp) (bound_map (λ x. x.now) low) (bound_map (λ x. x.now) high) }
-        ensures { IfOk result (λ page. seen page.items ≡ take limit (entries_between key_cmp
-            (bound_map (λ x. x.now) low.entry) (bound_map (λ x. x.now) high.entry) (entries_of self.now))) }
-    {
-        let mut page = Vec::new(alloc);
-        for (key, item) in self.items.range((low, high)) {
-            if page.len() == limit {
-                return Ok(page);
-            }
-            page.push((key, item))?;
-        }
-        Ok(page)
-    }
-
-    // Returns the last items between two bounds, at most `limit`, the greatest key first.
-    fn last_between(
-        &self,
-        alloc: Global,
-        low: Bound<&Key>,
-        high: Bound<&Key>,
-        limit: usize,
-    ) -> Result<Vec<(&Key, &Item)>, AllocError>
-        requires { IsForward (IsLeBy key_cmp) (IsLtBy key_cmp) (bound_map (λ x. x.now) low) (bound_map (λ x. x.now) high) }
-        ensures { IfOk result (λ page. seen page.items ≡ take limit (reverse (entries_between key_cmp
+        ensures { IfOk result (λ page. seen page.items ≡ take limit (in_direction backward (entries_between key_cmp
             (bound_map (λ x. x.now) low.entry) (bound_map (λ x. x.now) high.entry) (entries_of self.now)))) }
     {
         let mut page = Vec::new(alloc);
         let mut left = self.items.range((low, high));
-        while let Some((key, item)) = left.next_back() {
+        while let Some((key, item)) = next_of(&mut left, backward) {
             if page.len() == limit {
                 return Ok(page);
             }
@@ -122,7 +98,7 @@ impl Table {
             Some(key) => Bound::Excluded(key),
             None => Bound::Unbounded,
         };
-        self.first_between(alloc, low, Bound::Unbounded, limit)
+        self.between(alloc, low, Bound::Unbounded, false, limit)
     }
 
     /// Returns all items with their keys, each once, in the order of the keys. It reads page by
@@ -140,5 +116,17 @@ impl Table {
             start = Some(*key);
             all.append(&mut page)?;
         }
+    }
+}
+
+// Takes the first item that is left in a direction.
+fn next_of<'a>(left: &mut Range<'a, Key, Item>, backward: bool) -> Option<(&'a Key, &'a Item)>
+    ensures { MatchOption result (in_direction backward left.old ≡ [])
+        (λ e. in_direction backward left.old ≡ (e.0.now, e.1.now) ∷ in_direction backward left.new) }
+{
+    if backward {
+        left.next_back()
+    } else {
+        left.next()
     }
 }

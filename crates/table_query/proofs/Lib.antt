@@ -1,8 +1,6 @@
-pub mod Copies
 pub mod Meets
 pub mod Narrowed
 pub mod NextValues
-pub mod OrderedPlaces
 pub mod Orders
 pub mod Partitions
 pub mod PrefixEnds

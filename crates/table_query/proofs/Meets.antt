@@ -1,6 +1,5 @@
 -- The sort keys that meet a condition are those between two places.
 use Rattle.std.proofs.Common.{◌≡◌, ◌∙◌, ℕ, Bool, true, false, not, Ordering, Less, Equal, Greater, Option, Some, None, refl, sym, ap, arith}
-use Rattle.std.proofs.lemmas.Bool.{and_right, eqb-true, ne_eqb}
 use Rattle.std.proofs.lemmas.Bool.Decides.{nat_tests}
 use Rattle.std.specs.Borrow.{Bor}
 use Rattle.std.specs.Ordering.{is_eq, is_ge, is_gt, is_le, is_lt, is_some_and, nat_cmp, ordering_reverse}
@@ -40,129 +39,79 @@ compared_is w b =
     ap (λ same. if same then Some (value_cmp w b) else None) (same_kind (kind_rank b) (kind_rank w))
     ∙ ap (λ o. if is_eq (nat_cmp (kind_rank b) (kind_rank w)) then Some o else None) (value_total.antisymm w b)
 
--- ---- the tests of the conditions with one bound
+-- A test of how a value compares to a bound, by how the bound compares to it and how their kinds do.
+met : (test : Ordering → Bool) (lies : Ordering → Ordering → Bool) → false ≡ lies Less Less
+    → false ≡ lies Greater Greater → test Greater ≡ lies Equal Less → test Equal ≡ lies Equal Equal
+    → test Less ≡ lies Equal Greater → (b w : KeyValue)
+    → is_some_and test (compared w b) ≡ lies (nat_cmp (kind_rank b) (kind_rank w)) (value_cmp b w)
+met test lies lower higher less equal greater b w =
+    ap (is_some_and test) (compared_is w b)
+    ∙ by_kinds (λ k o. is_some_and test (turned k o) ≡ lies k o) lower higher same b w
+  where
+    same : (o : Ordering) → test (ordering_reverse o) ≡ lies Equal o
+    same Less = less
+    same Equal = equal
+    same Greater = greater
 
-module _ (b w : KeyValue) where
-  equal_value : is_some_and is_eq (compared w b) ≡ (is_le (value_cmp b w) && not (is_lt (value_cmp b w)))
-  equal_value = ap (is_some_and is_eq) (compared_is w b) ∙ by_kinds (λ k o. is_some_and is_eq (turned k o) ≡ (is_le o && not (is_lt o))) refl refl same b w
-    where
-      same : (o : Ordering) → is_eq (ordering_reverse o) ≡ (is_le o && not (is_lt o))
-      same Less = refl
-      same Equal = refl
-      same Greater = refl
+-- ---- the ranges of the conditions with one bound
 
-  less_value : is_some_and is_lt (compared w b) ≡ (is_le (nat_cmp (kind_rank b) (kind_rank w)) && not (is_le (value_cmp b w)))
-  less_value = ap (is_some_and is_lt) (compared_is w b) ∙ by_kinds (λ k o. is_some_and is_lt (turned k o) ≡ (is_le k && not (is_le o))) refl refl same b w
-    where
-      same : (o : Ordering) → is_lt (ordering_reverse o) ≡ not (is_le o)
-      same Less = refl
-      same Equal = refl
-      same Greater = refl
+pub equal_range : (s : SortCondition) (b : Bor KeyValue) (low : SortPlace) (high : SortPlace) → s ≡ SortCondition.Equal b
+    → IsPlaceAt false b.now low → IsPlaceAt true b.now high → MeetsBetween s (record { low = low; high = Some high })
+equal_range s b low high is from up_to None held = rw (is, from None) refl
+equal_range s b low high is from up_to (Some w) held = rw (is, from (Some w), up_to (Some w))
+    (met is_eq (λ k o. is_le o && not (is_lt o)) refl refl refl refl refl b.now w)
 
-  less_or_equal_value : is_some_and is_le (compared w b) ≡ (is_le (nat_cmp (kind_rank b) (kind_rank w)) && not (is_lt (value_cmp b w)))
-  less_or_equal_value = ap (is_some_and is_le) (compared_is w b) ∙ by_kinds (λ k o. is_some_and is_le (turned k o) ≡ (is_le k && not (is_lt o))) refl refl same b w
-    where
-      same : (o : Ordering) → is_le (ordering_reverse o) ≡ not (is_lt o)
-      same Less = refl
-      same Equal = refl
-      same Greater = refl
+pub less_range : (s : SortCondition) (b : Bor KeyValue) (low : SortPlace) (high : SortPlace) → s ≡ SortCondition.Less b
+    → IsKindStart b.now low → IsPlaceAt false b.now high → MeetsBetween s (record { low = low; high = Some high })
+less_range s b low high is from up_to None held = rw (is, from None held) refl
+less_range s b low high is from up_to (Some w) held = rw (is, from (Some w) held, up_to (Some w))
+    (met is_lt (λ k o. is_le k && not (is_le o)) refl refl refl refl refl b.now w)
 
-  greater_value : is_some_and is_gt (compared w b) ≡ (is_lt (value_cmp b w) && not (is_lt (nat_cmp (kind_rank b) (kind_rank w))))
-  greater_value = ap (is_some_and is_gt) (compared_is w b) ∙ by_kinds (λ k o. is_some_and is_gt (turned k o) ≡ (is_lt o && not (is_lt k))) refl refl same b w
-    where
-      same : (o : Ordering) → is_gt (ordering_reverse o) ≡ (is_lt o && true)
-      same Less = refl
-      same Equal = refl
-      same Greater = refl
+pub less_or_equal_range : (s : SortCondition) (b : Bor KeyValue) (low : SortPlace) (high : SortPlace) → s ≡ SortCondition.LessOrEqual b
+    → IsKindStart b.now low → IsPlaceAt true b.now high → MeetsBetween s (record { low = low; high = Some high })
+less_or_equal_range s b low high is from up_to None held = rw (is, from None held) refl
+less_or_equal_range s b low high is from up_to (Some w) held = rw (is, from (Some w) held, up_to (Some w))
+    (met is_le (λ k o. is_le k && not (is_lt o)) refl refl refl refl refl b.now w)
 
-  greater_or_equal_value : is_some_and is_ge (compared w b) ≡ (is_le (value_cmp b w) && not (is_lt (nat_cmp (kind_rank b) (kind_rank w))))
-  greater_or_equal_value = ap (is_some_and is_ge) (compared_is w b) ∙ by_kinds (λ k o. is_some_and is_ge (turned k o) ≡ (is_le o && not (is_lt k))) refl refl same b w
-    where
-      same : (o : Ordering) → is_ge (ordering_reverse o) ≡ (is_le o && true)
-      same Less = refl
-      same Equal = refl
-      same Greater = refl
+pub greater_range : (s : SortCondition) (b : Bor KeyValue) (low : SortPlace) (high : Option SortPlace) → s ≡ SortCondition.Greater b
+    → IsPlaceAt true b.now low → IsKindEnd b.now high → MeetsBetween s (record { low = low; high = high })
+greater_range s b low high is from up_to None held = rw (is, from None) refl
+greater_range s b low high is from up_to (Some w) held = rw (is, from (Some w), up_to (Some w) held)
+    (met is_gt (λ k o. is_lt o && not (is_lt k)) refl refl refl refl refl b.now w)
 
--- ---- the ranges of these conditions
-
-module _ (b : Bor KeyValue) (low high : SortPlace) where
-  pub equal_range : IsPlaceAt false b.now low → IsPlaceAt true b.now high
-      → MeetsBetween (SortCondition.Equal b) (record { low = low; high = Some high })
-  equal_range from up_to None held = rw (from None) refl
-  equal_range from up_to (Some w) held = rw (from (Some w), up_to (Some w)) (equal_value b.now w)
-
-  pub less_range : IsKindStart b.now low → IsPlaceAt false b.now high
-      → MeetsBetween (SortCondition.Less b) (record { low = low; high = Some high })
-  less_range from up_to None held = rw (from None held) refl
-  less_range from up_to (Some w) held = rw (from (Some w) held, up_to (Some w)) (less_value b.now w)
-
-  pub less_or_equal_range : IsKindStart b.now low → IsPlaceAt true b.now high
-      → MeetsBetween (SortCondition.LessOrEqual b) (record { low = low; high = Some high })
-  less_or_equal_range from up_to None held = rw (from None held) refl
-  less_or_equal_range from up_to (Some w) held = rw (from (Some w) held, up_to (Some w)) (less_or_equal_value b.now w)
-
-module _ (b : Bor KeyValue) (low : SortPlace) (high : Option SortPlace) where
-  pub greater_range : IsPlaceAt true b.now low → IsKindEnd b.now high
-      → MeetsBetween (SortCondition.Greater b) (record { low = low; high = high })
-  greater_range from up_to None held = rw (from None) refl
-  greater_range from up_to (Some w) held = rw (from (Some w), up_to (Some w) held) (greater_value b.now w)
-
-  pub greater_or_equal_range : IsPlaceAt false b.now low → IsKindEnd b.now high
-      → MeetsBetween (SortCondition.GreaterOrEqual b) (record { low = low; high = high })
-  greater_or_equal_range from up_to None held = rw (from None) refl
-  greater_or_equal_range from up_to (Some w) held = rw (from (Some w), up_to (Some w) held) (greater_or_equal_value b.now w)
+pub greater_or_equal_range : (s : SortCondition) (b : Bor KeyValue) (low : SortPlace) (high : Option SortPlace) → s ≡ SortCondition.GreaterOrEqual b
+    → IsPlaceAt false b.now low → IsKindEnd b.now high → MeetsBetween s (record { low = low; high = high })
+greater_or_equal_range s b low high is from up_to None held = rw (is, from None) refl
+greater_or_equal_range s b low high is from up_to (Some w) held = rw (is, from (Some w), up_to (Some w) held)
+    (met is_ge (λ k o. is_le o && not (is_lt k)) refl refl refl refl refl b.now w)
 
 -- ---- two bounds of one kind
 
-two_bounds : (k o p : Ordering) → (is_some_and is_ge (if is_eq k then Some (ordering_reverse o) else None)
-    && is_some_and is_le (if is_eq k then Some (ordering_reverse p) else None)) ≡ (is_eq k && (is_le o && not (is_lt p)))
-two_bounds Less o p = refl
-two_bounds Equal Less Less = refl
-two_bounds Equal Less Equal = refl
-two_bounds Equal Less Greater = refl
-two_bounds Equal Equal Less = refl
-two_bounds Equal Equal Equal = refl
-two_bounds Equal Equal Greater = refl
-two_bounds Equal Greater p = refl
-two_bounds Greater o p = refl
-
 lower_kind : (v w : KeyValue) → nat_cmp (kind_rank v) (kind_rank w) ≡ Less → value_cmp v w ≡ Less
-lower_kind = by_kinds (λ k o. k ≡ Less → o ≡ Less) (λ e. refl) (λ e. absurd (greater_less e)) (λ o e. absurd (equal_less e))
+lower_kind = by_kinds (λ k o. k ≡ Less → o ≡ Less) (λ e. e) (λ e. e) (λ o e. absurd (equal_less e))
   where
-    greater_less : ◌≡◌ {A = Ordering} Greater Less → ⊥
-    greater_less e = cc
-
     equal_less : ◌≡◌ {A = Ordering} Equal Less → ⊥
     equal_less e = cc
 
 -- what lies between two values of one kind is of their kind
-kind_between : (b d w : KeyValue) → kind_rank b ≡ kind_rank d
-    → (is_eq (nat_cmp (kind_rank b) (kind_rank w)) && (is_le (value_cmp b w) && not (is_lt (value_cmp d w))))
+both_met : (b d w : KeyValue) → kind_rank b ≡ kind_rank d
+    → (is_some_and is_ge (compared w b) && is_some_and is_le (compared w d))
     ≡ (is_le (value_cmp b w) && not (is_lt (value_cmp d w)))
-kind_between b d w same =
-    by_kinds (λ k o. k ≡ nat_cmp (kind_rank d) (kind_rank w)
-    → (is_eq k && (is_le o && not (is_lt (value_cmp d w)))) ≡ (is_le o && not (is_lt (value_cmp d w))))
-    (λ e. sym (ap (λ o. not (is_lt o)) (lower_kind d w (sym e)))) (λ e. refl) (λ o e. refl) b w
+both_met b d w same =
+    ap (λ x. x && is_some_and is_le (compared w d)) (met is_ge (λ k o. is_eq k && is_le o) refl refl refl refl refl b w)
+    ∙ ap (λ x. (is_eq (kinds b) && is_le (value_cmp b w)) && x)
+    (met is_le (λ k o. is_eq k && not (is_lt o)) refl refl refl refl refl d w)
+    ∙ by_kinds (λ k o. k ≡ kinds d → ((is_eq k && is_le o) && (is_eq (kinds d) && not (is_lt (value_cmp d w))))
+    ≡ (is_le o && not (is_lt (value_cmp d w))))
+    (λ e. sym (ap (λ o. not (is_lt o)) (lower_kind d w (sym e)))) (λ e. refl) (λ o e. rw (← e) refl) b w
     (ap (λ n. nat_cmp n (kind_rank w)) same)
-
-pub between_range : (b d : Bor KeyValue) (low high : SortPlace) → kind_rank b.now ≡ kind_rank d.now
-    → IsPlaceAt false b.now low → IsPlaceAt true d.now high
-    → MeetsBetween (SortCondition.Between b d) (record { low = low; high = Some high })
-between_range b d low high same from up_to None held = rw (from None) refl
-between_range b d low high same from up_to (Some w) held = rw (from (Some w), up_to (Some w))
-    (ap (λ o. is_some_and is_ge o && is_some_and is_le (compared w d.now)) (compared_is w b.now)
-    ∙ ap (λ o. is_some_and is_ge (turned (nat_cmp (kind_rank b.now) (kind_rank w)) (value_cmp b.now w)) && is_some_and is_le o) (compared_is w d.now)
-    ∙ rw (sym same) (two_bounds (nat_cmp (kind_rank b.now) (kind_rank w)) (value_cmp b.now w) (value_cmp d.now w) ∙ kind_between b.now d.now w same))
-
--- values of two kinds have none between them
-pub none_between_kinds : (b d : Bor KeyValue) → (kind_rank b.now ≡ kind_rank d.now → ⊥) → MeetsNone (SortCondition.Between b d)
-none_between_kinds b d apart None = refl
-none_between_kinds b d apart (Some w) = go (kind_rank w == kind_rank b.now) refl
   where
-    other : (kind_rank w == kind_rank b.now) ≡ true → (kind_rank w == kind_rank d.now) ≡ false
-    other e = ne_eqb (kind_rank w) (kind_rank d.now) (λ f. apart (sym (eqb-true (kind_rank w) (kind_rank b.now) e) ∙ f))
+    kinds : KeyValue → Ordering
+    kinds v = nat_cmp (kind_rank v) (kind_rank w)
 
-    go : (same : Bool) → (kind_rank w == kind_rank b.now) ≡ same → (is_some_and is_ge (compared w b.now) && is_some_and is_le (compared w d.now)) ≡ false
-    go false e = rw e refl
-    go true e = and_right (is_some_and is_ge (compared w b.now)) (is_some_and is_le (compared w d.now))
-        (ap (λ same. is_some_and is_le (if same then Some (value_cmp w d.now) else None)) (other e))
+pub between_range : (s : SortCondition) (b d : Bor KeyValue) (low high : SortPlace) → s ≡ SortCondition.Between b d → kind_rank b.now ≡ kind_rank d.now
+    → IsPlaceAt false b.now low → IsPlaceAt true d.now high
+    → MeetsBetween s (record { low = low; high = Some high })
+between_range s b d low high is same from up_to None held = rw (is, from None) refl
+between_range s b d low high is same from up_to (Some w) held =
+    rw (is, from (Some w), up_to (Some w)) (both_met b.now d.now w same)

@@ -14,8 +14,11 @@ use Rattle.table_query.proofs.PrefixLists.{cmp, has}
 first_less : (x y : ℕ) (xs ys : List ℕ) → x < y → cmp (x ∷ xs) (y ∷ ys) ≡ Less
 first_less x y xs ys h = ap (λ o. ordering_then o (cmp xs ys)) (sym (nat_cmp_is x y Less h))
 
-first_same : (x y : ℕ) (xs ys : List ℕ) → x ≡ y → cmp xs ys ≡ Less → cmp (x ∷ xs) (y ∷ ys) ≡ Less
-first_same x y xs ys e h = ap (λ o. ordering_then o (cmp xs ys)) (sym (nat_cmp_is x y Equal e)) ∙ h
+-- where the first elements are equal, those behind them decide
+first_of : (x y : ℕ) (xs ys : List ℕ) → x ≤ y → (x ≡ y → cmp xs ys ≡ Less) → cmp (x ∷ xs) (y ∷ ys) ≡ Less
+first_of x y xs ys h more =
+    ⊎_elim (first_less x y xs ys) (λ g. let e : x ≡ y = omega (arith, g, h) in
+    ap (λ o. ordering_then o (cmp xs ys)) (sym (nat_cmp_is x y Equal e)) ∙ more e) (cases_lt x y)
 
 -- ---- the bytes of a character, by how many there are
 
@@ -37,10 +40,6 @@ four c l = rw (le-ltb c 128 (omega arith), le-ltb c 2048 (omega arith), le-ltb c
 
 -- ---- two characters of as many bytes
 
--- by what is above the last six bits, and then by these
-by_six : (c d : ℕ) → c < d → (c / 64 < d / 64) ⊎ ((c / 64 ≡ d / 64) × (c % 64 < d % 64))
-by_six c d h = ⊎_elim (λ l. inl l) (λ g. inr (omega (arith, g, h), omega (arith, g, h))) (cases_lt (c / 64) (d / 64))
-
 -- the last byte of a character, its last two and its last three, and what follows
 abbrev last_one : ℕ → List ℕ → List ℕ
 last_one c r = (128 + c % 64) ∷ r
@@ -56,36 +55,28 @@ in_last_one c d r s h = first_less (128 + c % 64) (128 + d % 64) r s (omega (ari
 
 in_last_two : (c d : ℕ) (r s : List ℕ) → c < d → c / 4096 ≡ d / 4096 → cmp (last_two c r) (last_two d s) ≡ Less
 in_last_two c d r s h same =
-    ⊎_elim (λ l. first_less (128 + c / 64 % 64) (128 + d / 64 % 64) (last_one c r) (last_one d s) (omega (arith, l, same)))
-    (λ e. first_same (128 + c / 64 % 64) (128 + d / 64 % 64) (last_one c r) (last_one d s) (ap (λ n. 128 + n % 64) e.0) (in_last_one c d r s e.1))
-    (by_six c d h)
+    first_of (128 + c / 64 % 64) (128 + d / 64 % 64) (last_one c r) (last_one d s) (omega (arith, h, same))
+    (λ e. in_last_one c d r s (omega (arith, e, h, same)))
 
 in_last_three : (c d : ℕ) (r s : List ℕ) → c < d → c / 262144 ≡ d / 262144 → cmp (last_three c r) (last_three d s) ≡ Less
 in_last_three c d r s h same =
-    ⊎_elim (λ l. first_less (128 + c / 4096 % 64) (128 + d / 4096 % 64) (last_two c r) (last_two d s) (omega (arith, l, same)))
-    (λ g. let e : c / 4096 ≡ d / 4096 = omega (arith, g, h) in
-    first_same (128 + c / 4096 % 64) (128 + d / 4096 % 64) (last_two c r) (last_two d s) (ap (λ n. 128 + n % 64) e) (in_last_two c d r s h e))
-    (cases_lt (c / 4096) (d / 4096))
+    first_of (128 + c / 4096 % 64) (128 + d / 4096 % 64) (last_two c r) (last_two d s) (omega (arith, h, same))
+    (λ e. in_last_two c d r s h (omega (arith, e, h, same)))
 
 of_two : (c d : ℕ) (r s : List ℕ) → c < d → cmp ((192 + c / 64) ∷ last_one c r) ((192 + d / 64) ∷ last_one d s) ≡ Less
 of_two c d r s h =
-    ⊎_elim (λ l. first_less (192 + c / 64) (192 + d / 64) (last_one c r) (last_one d s) (omega (arith, l)))
-    (λ e. first_same (192 + c / 64) (192 + d / 64) (last_one c r) (last_one d s) (ap (λ n. 192 + n) e.0) (in_last_one c d r s e.1))
-    (by_six c d h)
+    first_of (192 + c / 64) (192 + d / 64) (last_one c r) (last_one d s) (omega (arith, h))
+    (λ e. in_last_one c d r s (omega (arith, e, h)))
 
 of_three : (c d : ℕ) (r s : List ℕ) → c < d → cmp ((224 + c / 4096) ∷ last_two c r) ((224 + d / 4096) ∷ last_two d s) ≡ Less
 of_three c d r s h =
-    ⊎_elim (λ l. first_less (224 + c / 4096) (224 + d / 4096) (last_two c r) (last_two d s) (omega (arith, l)))
-    (λ g. let e : c / 4096 ≡ d / 4096 = omega (arith, g, h) in
-    first_same (224 + c / 4096) (224 + d / 4096) (last_two c r) (last_two d s) (ap (λ n. 224 + n) e) (in_last_two c d r s h e))
-    (cases_lt (c / 4096) (d / 4096))
+    first_of (224 + c / 4096) (224 + d / 4096) (last_two c r) (last_two d s) (omega (arith, h))
+    (λ e. in_last_two c d r s h (omega (arith, e)))
 
 of_four : (c d : ℕ) (r s : List ℕ) → c < d → cmp ((240 + c / 262144) ∷ last_three c r) ((240 + d / 262144) ∷ last_three d s) ≡ Less
 of_four c d r s h =
-    ⊎_elim (λ l. first_less (240 + c / 262144) (240 + d / 262144) (last_three c r) (last_three d s) (omega (arith, l)))
-    (λ g. let e : c / 262144 ≡ d / 262144 = omega (arith, g, h) in
-    first_same (240 + c / 262144) (240 + d / 262144) (last_three c r) (last_three d s) (ap (λ n. 240 + n) e) (in_last_three c d r s h e))
-    (cases_lt (c / 262144) (d / 262144))
+    first_of (240 + c / 262144) (240 + d / 262144) (last_three c r) (last_three d s) (omega (arith, h))
+    (λ e. in_last_three c d r s h (omega (arith, e)))
 
 -- ---- a character, and what follows it
 

@@ -83,9 +83,11 @@ abbrev pub IsPlaceIn : KeyValue → SortPlace → Place → Type 0
 IsPlaceIn partition sort place = (value_cmp place.key.partition partition ≡ Equal)
     × (place.key.sort ≡ sort.value) × (place.is_behind ≡ sort.is_behind)
 
--- the place is the first of the partition that comes next
-abbrev pub IsPartitionEnd : KeyValue → Place → Type 0
-IsPartitionEnd partition place = IsNextValue partition place.key.partition
+-- the place is that of the partition at this end of the sort keys: the end of all is the first place
+-- of the partition that comes next
+abbrev pub IsEndIn : KeyValue → Option SortPlace → Place → Type 0
+IsEndIn partition (Some sort) place = IsPlaceIn partition sort place
+IsEndIn partition None place = IsNextValue partition place.key.partition
     × (place.key.sort ≡ None) × (place.is_behind ≡ false)
 
 -- what lies from the low place up to the high one, behind the key after which the query starts

@@ -5,12 +5,12 @@ ghost use Rattle.std.specs.Range.Bound.{IsForward, bound_map};
 ghost use Rattle.table_key.specs.KeyOrder.{key_cmp};
 ghost use Rattle.table_key.specs.declared.key.Key.{Key};
 ghost use Rattle.table_query.specs.Places.{is_from_place};
-ghost use Rattle.table_query.specs.Ranges.{FindsBetween, FindsNone, IsNextValue, IsPartitionEnd, IsPlaceIn, is_found_between, lies_between};
+ghost use Rattle.table_query.specs.Ranges.{FindsBetween, FindsNone, IsEndIn, IsNextValue, IsPlaceIn, is_found_between, lies_between};
 
 use crate::Query;
 use crate::key_range::KeyRange;
 use crate::place::Place;
-use crate::sort_range::{SortPlace, SortRange};
+use crate::sort_range::SortPlace;
 use std::alloc::{AllocError, Global};
 use std::ops::Bound;
 use table_key::{Key, KeyValue, Number};
@@ -32,12 +32,9 @@ impl Query<'_> {
         let Some(sorts) = self.sort.range(alloc)? else {
             return Ok(None);
         };
-        let SortRange { low, high } = sorts;
-        let low = self.place_in(low)?;
-        match high {
-            Some(place) => self.narrowed(low, self.place_in(place)?),
-            None => self.narrowed(low, self.partition_end(alloc)?),
-        }
+        let low = self.place_in(sorts.low)?;
+        let high = self.end_in(alloc, sorts.high)?;
+        self.narrowed(low, high)
     }
 
     // Returns the place of the query's partition that is at this place of its sort keys.
@@ -53,17 +50,21 @@ impl Query<'_> {
         })
     }
 
-    // Returns the place before the partition that comes next to the query's.
-    fn partition_end(&self, alloc: Global) -> Result<Place, AllocError>
-        ensures { IfOk result (IsPartitionEnd self.now.partition.now) }
+    // Returns the place of the query's partition at an end of its sort keys. At the end of all, that
+    // is the place before the partition that comes next.
+    fn end_in(&self, alloc: Global, end: Option<SortPlace>) -> Result<Place, AllocError>
+        ensures { IfOk result (IsEndIn self.now.partition.now end) }
     {
-        Ok(Place {
-            key: Key {
-                partition: next_value(alloc, self.partition)?,
-                sort: None,
-            },
-            is_behind: false,
-        })
+        match end {
+            Some(sort) => self.place_in(sort),
+            None => Ok(Place {
+                key: Key {
+                    partition: next_value(alloc, self.partition)?,
+                    sort: None,
+                },
+                is_behind: false,
+            }),
+        }
     }
 
     // Returns the range between two places, narrowed by the key after which the query starts.

@@ -31,6 +31,7 @@ impl SortCondition<'_> {
     /// # Errors
     ///
     /// [`AllocError`] if memory for the values at the ends of the range can't be allocated.
+    #[tactic(auto, using(crate::proofs::Meets::between_range))]
     pub(crate) fn range(self, alloc: Global) -> Result<Option<SortRange>, AllocError>
         ensures { IfOk result (λ range. MatchOption range (MeetsNone self.entry) (MeetsBetween self.entry)) }
     {
@@ -40,28 +41,28 @@ impl SortCondition<'_> {
                 high: None,
             })),
             SortCondition::Equal(value) => Ok(Some(SortRange {
-                low: SortPlace::before(value)?,
-                high: Some(SortPlace::behind(value)?),
+                low: SortPlace::at(value, false)?,
+                high: Some(SortPlace::at(value, true)?),
             })),
             SortCondition::Less(value) => Ok(Some(SortRange {
                 low: SortPlace::of_kind(alloc, value),
-                high: Some(SortPlace::before(value)?),
+                high: Some(SortPlace::at(value, false)?),
             })),
             SortCondition::LessOrEqual(value) => Ok(Some(SortRange {
                 low: SortPlace::of_kind(alloc, value),
-                high: Some(SortPlace::behind(value)?),
+                high: Some(SortPlace::at(value, true)?),
             })),
             SortCondition::Greater(value) => Ok(Some(SortRange {
-                low: SortPlace::behind(value)?,
+                low: SortPlace::at(value, true)?,
                 high: SortPlace::past_kind(alloc, value),
             })),
             SortCondition::GreaterOrEqual(value) => Ok(Some(SortRange {
-                low: SortPlace::before(value)?,
+                low: SortPlace::at(value, false)?,
                 high: SortPlace::past_kind(alloc, value),
             })),
             SortCondition::Between(low, high) if low.rank() == high.rank() => Ok(Some(SortRange {
-                low: SortPlace::before(low)?,
-                high: Some(SortPlace::behind(high)?),
+                low: SortPlace::at(low, false)?,
+                high: Some(SortPlace::at(high, true)?),
             })),
             SortCondition::Between(..) => Ok(None),
             SortCondition::BeginsWith(prefix) => prefixed(alloc, prefix),
@@ -74,7 +75,7 @@ fn prefixed(alloc: Global, prefix: &KeyValue) -> Result<Option<SortRange>, Alloc
     ensures { IfOk result (λ range. MatchOption range (MeetsNone (SortCondition.BeginsWith prefix.entry))
         (MeetsBetween (SortCondition.BeginsWith prefix.entry))) }
 {
-    let low = SortPlace::before(prefix)?;
+    let low = SortPlace::at(prefix, false)?;
     match prefix {
         KeyValue::S(text) => match text_past(text)? {
             Some(past) => Ok(Some(SortRange {
@@ -121,23 +122,13 @@ impl SortPlace {
         }
     }
 
-    // Returns the place just before a value.
-    fn before(value: &KeyValue) -> Result<SortPlace, AllocError>
-        ensures { IfOk result (IsPlaceAt false value.now) }
+    // Returns the place just before a value, or just behind it.
+    fn at(value: &KeyValue, is_behind: bool) -> Result<SortPlace, AllocError>
+        ensures { IfOk result (IsPlaceAt is_behind value.now) }
     {
         Ok(SortPlace {
             value: Some(value.clone()?),
-            is_behind: false,
-        })
-    }
-
-    // Returns the place just behind a value.
-    fn behind(value: &KeyValue) -> Result<SortPlace, AllocError>
-        ensures { IfOk result (IsPlaceAt true value.now) }
-    {
-        Ok(SortPlace {
-            value: Some(value.clone()?),
-            is_behind: true,
+            is_behind,
         })
     }
 

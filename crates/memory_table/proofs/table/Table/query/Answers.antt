@@ -1,4 +1,4 @@
-use Rattle.std.proofs.Common.{◌≡◌, ◌∙◌, true, false, MatchOption, IfOk, sym, ap, subst}
+use Rattle.std.proofs.Common.{◌≡◌, ◌∙◌, MatchOption, IfOk, sym, ap, subst}
 use Rattle.std.specs.Range.Bound.{bound_map}
 use Rattle.memory_table.specs.Content.{entries_of}
 use Rattle.table_query.specs.Queries.{seen}
@@ -14,17 +14,6 @@ returns-in_default c =
     subst (λ o. MatchOption o (FindsNone query) (FindsBetween query)) c.in_default.is c.in_ok-range.ensures in
     ap seen c.new.ensures.items ∙ sym (answer_none query (entries_of c.args.self.now) none c.args.self.now.held)
 
-pub returns-then-query : goal.returns-then-query
-returns-then-query c =
-    let query = c.args.query.now in
-    let between : FindsBetween query c.in-Some.range =
-    subst (λ o. MatchOption o (FindsNone query) (FindsBetween query)) c.in-Some.is c.in_ok-range.ensures in
-    let low = bound_map (λ x. x.now) c.bounds.result.0 in
-    let high = bound_map (λ x. x.now) c.bounds.result.1 in
-    subst (λ (es : Entries). IfOk c.last_between.result (λ page. seen page.items ≡ es))
-    (answer_between query c.in-Some.range low high (entries_of c.args.self.now) true c.if-query.true between c.bounds.ensures.between c.args.self.now.held)
-    c.last_between.ensures
-
 pub returns : goal.returns
 returns c =
     let query = c.args.query.now in
@@ -32,6 +21,6 @@ returns c =
     subst (λ o. MatchOption o (FindsNone query) (FindsBetween query)) c.in-Some.is c.in_ok-range.ensures in
     let low = bound_map (λ x. x.now) c.bounds.result.0 in
     let high = bound_map (λ x. x.now) c.bounds.result.1 in
-    subst (λ (es : Entries). IfOk c.first_between.result (λ page. seen page.items ≡ es))
-    (answer_between query c.in-Some.range low high (entries_of c.args.self.now) false c.if-query.false between c.bounds.ensures.between c.args.self.now.held)
-    c.first_between.ensures
+    subst (λ (es : Entries). IfOk c.between.result (λ page. seen page.items ≡ es))
+    (answer_between query c.in-Some.range low high (entries_of c.args.self.now) between c.bounds.ensures.between c.args.self.now.held)
+    c.between.ensures

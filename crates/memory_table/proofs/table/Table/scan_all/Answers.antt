@@ -1,4 +1,4 @@
-use Rattle.std.proofs.Common.{◌≡◌, ◌∙◌, [], ◌∷◌, ◌++◌, length, take, refl, sym, ap, arith, Some, None}
+use Rattle.std.proofs.Common.{◌≡◌, ◌∙◌, ◌++◌, length, take, refl, sym, ap, arith, Some, None}
 use Rattle.std.proofs.lemmas.List.{map-append, append-nil, length-map}
 use Rattle.std.proofs.lemmas.Slice.{pushed}
 use Rattle.memory_table.specs.Content.{entries_of}
@@ -27,32 +27,17 @@ returns-in_default c =
 
 pub loop-all-smaller : goal.loop-all-smaller
 loop-all-smaller c =
-    let es = entries_of c.args.self.now in
-    let x = c.in-Some.field-0-0.now in
-    let front = c.in-Some.field-0-1.now in
-    let page = c.in_ok-page.page.items in
-    let seen_page : seen page ≡ seen front ++ entry x ∷ [] =
-    ap seen (sym c.as_slice.ensures.value ∙ c.in-Some.ensures.cases.0)
-    ∙ map-append entry front (x ∷ []) in
-    let taken = sym c.in_ok-page.ensures ∙ seen_page in
-    (page_left es (seen c.loop-all.all.items) c.loop-all.start x.0 c.max.result (seen front)
-    (entry x) c.len.ensures.ordered refl taken c.loop-all.invariant).1
+    (page_left (entries_of c.args.self.now) c.loop-all.all.items c.in_ok-page.page.items c.in-Some.field-0-1.now
+    c.in-Some.field-0-0.now c.loop-all.start c.max.result c.len.ensures.ordered c.in_ok-page.ensures
+    (sym c.as_slice.ensures.value ∙ c.in-Some.ensures.cases.0) c.loop-all.invariant).1
 
 pub loop-all-preserved : goal.loop-all-preserved
 loop-all-preserved c =
     let es = entries_of c.args.self.now in
     let x = c.in-Some.field-0-0.now in
-    let front = c.in-Some.field-0-1.now in
     let page = c.in_ok-page.page.items in
     let all = c.loop-all.all.items in
-    let seen_page : seen page ≡ seen front ++ entry x ∷ [] =
-    ap seen (sym c.as_slice.ensures.value ∙ c.in-Some.ensures.cases.0)
-    ∙ map-append entry front (x ∷ []) in
-    let taken = sym c.in_ok-page.ensures ∙ seen_page in
     let items = pushed page refl c.in_ok-append.was c.append.ensures.items in
-    let seen_all : seen c.append.new.self.items ≡ seen all ++ (seen front ++ entry x ∷ []) =
-    ap seen items ∙ map-append entry all page
-    ∙ ap (λ (es : Entries). seen all ++ es) seen_page in
-    ap (λ (xs : Entries). xs ++ rest (Some x.0) es) seen_all
-    ∙ (page_left es (seen all) c.loop-all.start x.0 c.max.result (seen front) (entry x)
-    c.len.ensures.ordered refl taken c.loop-all.invariant).0
+    ap (λ (xs : Entries). xs ++ rest (Some x.0) es) (ap seen items ∙ map-append entry all page)
+    ∙ (page_left es all page c.in-Some.field-0-1.now x c.loop-all.start c.max.result c.len.ensures.ordered
+    c.in_ok-page.ensures (sym c.as_slice.ensures.value ∙ c.in-Some.ensures.cases.0) c.loop-all.invariant).0

@@ -1,6 +1,0 @@
-use Rattle.std.specs.Ordering.{is_lt}
-use Rattle.table_query.proofs.Copies.{as_copied}
-use Rattle.table_query.proofs.sort_range.SortPlace.behind.Goals as goal
-
-pub returns : goal.returns
-returns c = as_copied is_lt c.in_ok-clone.field-0 c.args.value.now c.in_ok-clone.ensures.cases
