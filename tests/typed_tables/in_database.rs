@@ -56,17 +56,26 @@ fn book(rt: &impl Abort, alloc: Global) -> anyhow::Result<()> {
     assert!(rt; key == table.key_from("blue", Some("10"))?);
     assert!(rt; matches!(table.get(&key)?, Some(got) if got == booking));
     table.put(&Booking::new(alloc, "blue", 9, "Ford")?)?;
-    table.put_if(Condition::NotExists, &Booking::new(alloc, "red", 10, "Zaphod")?)?;
+    table.put_if(
+        Condition::NotExists,
+        &Booking::new(alloc, "red", 10, "Zaphod")?,
+    )?;
     table.update(&key, |mut booking| {
         booking.state = State::Paid { cents: 8000 };
         Ok::<_, TypedStoreError>(booking)
     })?;
     let found = table.query(&Query::of(&key.partition))?;
-    assert_eq!(rt; bookings(alloc, &found)?.as_str(), "blue 9 Ford,blue 10 Arthur 8000,");
+    assert_eq!(rt;
+        bookings(alloc, &found)?.as_str(),
+        "blue 9 Ford,blue 10 Arthur 8000,"
+    );
     let last = table.scan(2, Some(&key))?;
     assert_eq!(rt; bookings(alloc, &last)?.as_str(), "red 10 Zaphod,");
     assert!(rt; table.delete(&key)?);
-    assert_eq!(rt; bookings(alloc, &table.scan_all()?)?.as_str(), "blue 9 Ford,red 10 Zaphod,");
+    assert_eq!(rt;
+        bookings(alloc, &table.scan_all()?)?.as_str(),
+        "blue 9 Ford,red 10 Zaphod,"
+    );
     assert_eq!(rt; table.len()?, 2);
     Ok(())
 }
@@ -98,7 +107,10 @@ fn fail(rt: &impl Abort, alloc: Global) -> anyhow::Result<()> {
     table.put(&arthur)?;
     assert!(rt; table.put_if(Condition::NotExists, &arthur).is_err());
     assert!(rt; table.delete_if(Condition::NotExists, &key).is_err());
-    let own = table.update(&key, |_guest| Err(TypedStoreError::Store(StoreError::TooDeep)));
+    let own = table.update(
+        &key,
+        |_guest| Err(TypedStoreError::Store(StoreError::TooDeep)),
+    );
     assert!(rt; matches!(own, Err(TypedStoreError::Store(StoreError::TooDeep))));
     for (id, wanted) in [("", TableError::Empty), ("a2", TableError::KeyChanged)] {
         let failed = table.update(&key, |mut guest| {

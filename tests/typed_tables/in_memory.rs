@@ -57,11 +57,17 @@ fn book(rt: &impl Abort, alloc: Global) -> anyhow::Result<()> {
         Ok::<_, TypedTableError>(booking)
     })?;
     let found = table.query(&Query::of(&key.partition))?;
-    assert_eq!(rt; bookings(alloc, &found)?.as_str(), "blue 9 Ford,blue 10 Arthur 8000,");
+    assert_eq!(rt;
+        bookings(alloc, &found)?.as_str(),
+        "blue 9 Ford,blue 10 Arthur 8000,"
+    );
     let last = table.scan(2, Some(&key))?;
     assert_eq!(rt; bookings(alloc, &last)?.as_str(), "red 10 Zaphod,");
     assert!(rt; table.delete_if(Condition::Exists, &key)?);
-    assert_eq!(rt; bookings(alloc, &table.scan_all()?)?.as_str(), "blue 9 Ford,red 10 Zaphod,");
+    assert_eq!(rt;
+        bookings(alloc, &table.scan_all()?)?.as_str(),
+        "blue 9 Ford,red 10 Zaphod,"
+    );
     assert_eq!(rt; table.len(), 2);
     let item = booking.to_item(alloc)?;
     assert!(rt; Booking::from_item(alloc, item)? == booking);
@@ -84,13 +90,21 @@ fn fail(rt: &impl Abort, alloc: Global) -> anyhow::Result<()> {
     let own = table.update(&key, |_guest| {
         Err(TypedTableError::Table(TableError::ConditionFailed))
     });
-    assert!(rt; matches!(own, Err(TypedTableError::Table(TableError::ConditionFailed))));
+    assert!(rt;
+        matches!(
+            own,
+            Err(TypedTableError::Table(TableError::ConditionFailed))
+        )
+    );
     for (id, wanted) in [("", TableError::Empty), ("a2", TableError::KeyChanged)] {
         let failed = table.update(&key, |mut guest| {
             guest.id = String::from_str(alloc, id).map_err(|_| TableError::OutOfMemory)?;
             Ok::<_, TypedTableError>(guest)
         });
-        assert!(rt; matches!(failed, Err(TypedTableError::Table(error)) if error == wanted), "{id}");
+        assert!(rt;
+            matches!(failed, Err(TypedTableError::Table(error)) if error == wanted),
+            "{id}"
+        );
     }
     assert_eq!(rt; guests(alloc, &table.scan_all()?)?.as_str(), "a1 Arthur 1,");
     Ok(())

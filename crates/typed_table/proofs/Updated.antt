@@ -52,7 +52,7 @@ module _ {T E : Type 0} (Written : T → Item → Type 0) (Unwritten : T → Fau
   module _ (done : Unit {0})
       (makes : (before item : Item) → Makes before (Ok item) → MakesItem Written Reads Change before item) where
     under : (item : Item) (own : Key) (other : Bool) → is_ne (key_cmp own key) ≡ other
-        → MatchBool other (RefusesBy (gives TableError.KeyChanged) old new (Ok done))
+        → MatchBool other (RefusesBy (gives TableError.KeyChanged) (items_of old) (items_of new) (Ok done))
         (IsOkAnd {E = Failed E} (Ok done) (λ _. Updates key_cmp (items_of old) (items_of new) own (Some item)))
         → Updates key_cmp (items_of old) (items_of new) key (Some item)
     under item own true e h = absurd h.0
@@ -62,16 +62,16 @@ module _ {T E : Type 0} (Written : T → Item → Type 0) (Unwritten : T → Fau
 
     of_own : (item : Item) (own : Result Key TableError)
         → MatchResult own
-        (λ k. MatchBool (is_ne (key_cmp k key)) (RefusesBy (gives TableError.KeyChanged) old new (Ok done))
+        (λ k. MatchBool (is_ne (key_cmp k key)) (RefusesBy (gives TableError.KeyChanged) (items_of old) (items_of new) (Ok done))
         (IsOkAnd {E = Failed E} (Ok done) (λ _. Updates key_cmp (items_of old) (items_of new) k (Some item))))
-        (λ error. RefusesBy (gives error) old new (Ok done))
+        (λ error. RefusesBy (gives error) (items_of old) (items_of new) (Ok done))
         → Updates key_cmp (items_of old) (items_of new) key (Some item)
     of_own item (Ok own) h = under item own (is_ne (key_cmp own key)) refl h
     of_own item (Err e) h = absurd h.0
 
     of_made : (before : Item) (made : Result Item (Failed E)) → Makes before made
-        → MatchResult made (Replaces gives key old new (Ok done))
-        (λ error. RefusesBy (λ e. e ≡ error) old new (Ok done))
+        → MatchResult made (Replaces gives (schema_of old) key (items_of old) (items_of new) (Ok done))
+        (λ error. RefusesBy (λ e. e ≡ error) (items_of old) (items_of new) (Ok done))
         → Done (Some before)
     of_made before (Ok item) m h =
         let is = makes before item m in
@@ -79,10 +79,10 @@ module _ {T E : Type 0} (Written : T → Item → Type 0) (Unwritten : T → Fau
     of_made before (Err e) m h = absurd h.0
 
     of_there : (there : Option Item)
-        → MatchOption there (RefusesBy (gives TableError.NoItem) old new (Ok done))
+        → MatchOption there (RefusesBy (gives TableError.NoItem) (items_of old) (items_of new) (Ok done))
         (λ item. (made : Result Item (Failed E)) × Makes item made
-        × MatchResult made (Replaces gives key old new (Ok done))
-        (λ error. RefusesBy (λ e. e ≡ error) old new (Ok done)))
+        × MatchResult made (Replaces gives (schema_of old) key (items_of old) (items_of new) (Ok done))
+        (λ error. RefusesBy (λ e. e ≡ error) (items_of old) (items_of new) (Ok done)))
         → Done there
     of_there None h = absurd h.0
     of_there (Some before) h = of_made before h.0 h.1 h.2
@@ -104,21 +104,34 @@ module _ {T E : Type 0} (Written : T → Item → Type 0) (Unwritten : T → Fau
 
     not_under : (before item : Item) (own : Key) (other : Bool) → is_ne (key_cmp own key) ≡ other
         → MakesItem Written Reads Change before item → ReadsKey (schema_of old) item (Ok own)
-        → MatchBool other (RefusesBy (gives TableError.KeyChanged) old new (Err failed))
+        → MatchBool other (RefusesBy (gives TableError.KeyChanged) (items_of old) (items_of new) (Err failed))
         (IsOkAnd {E = Failed E} (Err failed) (λ (_ : Unit {0}). Updates key_cmp (items_of old) (items_of new) own (Some item)))
         → Fails (Some before)
     not_under before item own true e is reads h =
-        let differ = other_keys (key_cmp own key) e in
-        (inr (is.0, is.2, inr (is.1, is.3, (TypedTableError.Table TableError.KeyChanged,
-        inr (refl, own, (item, is.4, reads), differ), h.0))), h.1)
+        let differ = other_keys (key_cmp own key) e in (
+          inr (
+            is.0,
+            is.2,
+            inr (
+              is.1,
+              is.3,
+              (
+                TypedTableError.Table TableError.KeyChanged,
+                inr (refl, own, (item, is.4, reads), differ),
+                h.0,
+              ),
+            ),
+          ),
+          h.1,
+        )
     not_under before item own false e is reads h = absurd h
 
     not_of_own : (before item : Item) (own : Result Key TableError)
         → MakesItem Written Reads Change before item → ReadsKey (schema_of old) item own
         → MatchResult own
-        (λ k. MatchBool (is_ne (key_cmp k key)) (RefusesBy (gives TableError.KeyChanged) old new (Err failed))
+        (λ k. MatchBool (is_ne (key_cmp k key)) (RefusesBy (gives TableError.KeyChanged) (items_of old) (items_of new) (Err failed))
         (IsOkAnd {E = Failed E} (Err failed) (λ (_ : Unit {0}). Updates key_cmp (items_of old) (items_of new) k (Some item))))
-        (λ error. RefusesBy (gives error) old new (Err failed))
+        (λ error. RefusesBy (gives error) (items_of old) (items_of new) (Err failed))
         → Fails (Some before)
     not_of_own before item (Ok own) is reads h =
         not_under before item own (is_ne (key_cmp own key)) refl is reads h
@@ -135,19 +148,21 @@ module _ {T E : Type 0} (Written : T → Item → Type 0) (Unwritten : T → Fau
         inr (b, reads, inr (after, change, (TypedTableError.Value x, inl unwritten, given)))
 
     not_of_made : (before : Item) (made : Result Item (Failed E)) → Makes before made
-        → MatchResult made (Replaces gives key old new (Err failed))
-        (λ error. RefusesBy (λ e. e ≡ error) old new (Err failed))
+        → MatchResult made (Replaces gives (schema_of old) key (items_of old) (items_of new) (Err failed))
+        (λ error. RefusesBy (λ e. e ≡ error) (items_of old) (items_of new) (Err failed))
         → Fails (Some before)
     not_of_made before (Ok item) m h = not_of_own before item h.0 (makes before item m) h.1 h.2
-    not_of_made before (Err f) m h =
-        (subst (λ (g : Failed E). FailsAt Written Unwritten Reads Change Gives key (schema_of old) (Some before) g.0)
-        (sym h.0) (none_made before f.0 (fails before f m)), h.1)
+    not_of_made before (Err f) m h = (
+      subst (λ (g : Failed E). FailsAt Written Unwritten Reads Change Gives key (schema_of old) (Some before) g.0)
+          (sym h.0) (none_made before f.0 (fails before f m)),
+      h.1,
+    )
 
     not_there : (there : Option Item)
-        → MatchOption there (RefusesBy (gives TableError.NoItem) old new (Err failed))
+        → MatchOption there (RefusesBy (gives TableError.NoItem) (items_of old) (items_of new) (Err failed))
         (λ item. (made : Result Item (Failed E)) × Makes item made
-        × MatchResult made (Replaces gives key old new (Err failed))
-        (λ error. RefusesBy (λ e. e ≡ error) old new (Err failed)))
+        × MatchResult made (Replaces gives (schema_of old) key (items_of old) (items_of new) (Err failed))
+        (λ error. RefusesBy (λ e. e ≡ error) (items_of old) (items_of new) (Err failed)))
         → Fails there
     not_there None h = (inl (TypedTableError.Table TableError.NoItem, refl, h.0), h.1)
     not_there (Some before) h = not_of_made before h.0 h.1 h.2

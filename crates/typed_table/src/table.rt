@@ -210,7 +210,10 @@ impl<T: Keyed> TypedTable<T> {
         ensures schema { schema_of (table_of self.new) ≡ schema_of (table_of self.old) }
     {
         let alloc = self.alloc;
-        match self.table.update(key, move |item| changed(alloc, item, change)) {
+        match self
+            .table
+            .update(key, move |item| changed(alloc, item, change))
+        {
             Ok(()) => Ok(()),
             Err(Failed(error)) => Err(error),
         }
