@@ -26,8 +26,9 @@ const FOLLOWING: &str = "SELECT item FROM dynamo_item WHERE table_id = ?1 AND pa
 /// Returns the items that a query finds in a table, in its direction and up to its limit.
 ///
 /// They are read from the rows under the bytes of its partition key and within bounds of the sort
-/// key. Bounds of the query hold the rows that it finds and no others, so one statement reads as
-/// many rows as there are items in the answer.
+/// key. Bounds of the query hold the rows that it finds and no others. So one statement reads the
+/// rows of the answer, and one row more if a key of the table lies at an end that the query leaves
+/// out: the bound of `<`, or the key after which a backward query starts.
 ///
 /// # Errors
 ///

@@ -1,5 +1,5 @@
 -- Items that were found to have a key.
-use Rattle.std.proofs.Common.{◌≡◌, ℕ, ◌+◌, ◌<◌, ◌≤◌, List, length, get_or, take, All, Result, Ok, Err, OnOk, subst}
+use Rattle.std.proofs.Common.{◌≡◌, ℕ, ◌+◌, ◌<◌, ◌≤◌, List, length, get_or, take, All, Result, Ok, Err, IfErr, IsErrAnd, OnOk, subst}
 use Rattle.std.proofs.lemmas.List.{take_all}
 use Rattle.std.proofs.lemmas.List.Elements.{All-more}
 use Rattle.dynamo_value.specs.declared.item.Item.{Item}
@@ -20,3 +20,8 @@ all_have schema items i le h = subst (All (HasKey schema)) (take_all i items le)
 pub on_ok : {T E P : Type 0} (r : Result T E) → P → OnOk r P
 on_ok (Ok _) p = p
 on_ok (Err _) p = tt
+
+-- what an error is, by what it was made of
+pub of_err : {T E : Type 0} {P Q : E → Type 0} (r : Result T E) → ((e : E) → P e → Q e) → IsErrAnd r P → IfErr r Q
+of_err (Ok _) h p = absurd p
+of_err (Err e) h p = h e p

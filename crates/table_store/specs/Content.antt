@@ -1,5 +1,5 @@
 -- What the keys of a table in a database are, and which items it refuses.
-use Rattle.std.specs.Prelude.{◌≡◌, ⊤, false, Result, Ok, Err, MatchResult}
+use Rattle.std.specs.Prelude.{◌≡◌, ◌⊎◌, ⊤, false, Result, Ok, Err, MatchResult}
 use Rattle.std.specs.Ordering.{is_ne}
 use Rattle.dynamo_value.specs.declared.item.Item.{Item}
 use Rattle.table_key.specs.KeyOf.{ReadsKey}
@@ -24,7 +24,17 @@ NeedsKey schema item r =
 abbrev pub HasKey : KeySchema → Item → Type 0
 HasKey schema item = (key : Key) × ReadsKey schema item (Ok key)
 
+-- the item has this key
+abbrev pub HasThisKey : KeySchema → Key → Item → Type 0
+HasThisKey schema key item =
+    (own : Key) × ReadsKey schema item (Ok own) × (is_ne (key_cmp own key) ≡ false)
+
 -- a change makes an item that has this key
-abbrev pub KeepsKey : (Item → Result Item TableError → Type 0) → KeySchema → Key → Type 0
-KeepsKey Makes schema key =
-    (before after : Item) × Makes before (Ok after) × ((own : Key) × ReadsKey schema after (Ok own) × (is_ne (key_cmp own key) ≡ false))
+abbrev pub KeepsKey : {E : Type 0} → (Item → Result Item E → Type 0) → KeySchema → Key → Type 0
+KeepsKey Makes schema key = (before after : Item) × Makes before (Ok after) × HasThisKey schema key after
+
+-- An error of a change is the change's own, or is made of one of the table.
+abbrev pub FailsToChange : {E : Type 0} → (StoreError → E → Type 0) → (Item → Result Item E → Type 0)
+    → E → Type 0
+FailsToChange gives Makes e =
+    ((before : Item) × Makes before (Err e)) ⊎ ((error : StoreError) × gives error e)

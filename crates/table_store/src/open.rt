@@ -11,8 +11,11 @@ use table_rows::StoreError;
 
 /// Returns a table without items in a database in memory.
 ///
-/// The database is the paged one that [`create_at`] has, over files in memory, so a put, an update
-/// or a delete costs the logarithm of the number of items.
+/// The database is the paged one that [`create_at`] has, over files in memory. A put, an update or
+/// a delete visits as many rows as the logarithm of the number of items. It then copies the log of
+/// the latest changes, which has at most a hundred pages of 4 KB, or a few more. About once in a
+/// hundred pages that are written, the log goes into the database, and that is copied whole.
+/// [`TableStore::write_all`] copies once for all its items.
 ///
 /// # Errors
 ///
@@ -37,13 +40,25 @@ pub fn create_in_memory_file(
 // the only one.
 const SALT_SEED: u64 = 0;
 
+// How many pages that were read are kept, which takes their memory at once.
+const CACHE_PAGES: usize = 200;
+
+// How many pages the log has before it goes into the database. Each change copies the log in memory,
+// and each log that goes into the database copies that.
+const LOG_PAGES: usize = 100;
+
 // A database over two files in memory, that of its pages and that of its log.
 fn connect_in_memory(alloc: Global) -> Result<Connection<FileStore<Memory>>, StoreError> {
     let files = Files {
         log: Memory::new(alloc),
         db: Memory::new(alloc),
     };
-    match Connection::open_files(alloc, files, Options::new(SALT_SEED)) {
+    let options = Options {
+        cache_pages: CACHE_PAGES,
+        checkpoint_frames: LOG_PAGES,
+        ..Options::new(SALT_SEED)
+    };
+    match Connection::open_files(alloc, files, options) {
         Ok(conn) => Ok(conn),
         Err((error, _)) => Err(StoreError::from(error)),
     }

@@ -1,8 +1,8 @@
-ghost use Rattle.std.specs.Prelude.{◌≡◌, ◌≤◌, All, IfOk, Ok, OnOk, is_some, length, true};
+ghost use Rattle.std.specs.Prelude.{◌≡◌, ◌≤◌, All, IfErr, IfOk, Ok, OnOk, is_some, length, true};
 ghost use Rattle.std.specs.Fn.{FnOnceReturnsAt};
 ghost use Rattle.table_key.specs.KeyOf.{ReadsKey, words_of};
 ghost use Rattle.table_query.specs.Conditions.{holds};
-ghost use Rattle.table_store.specs.Content.{HasKey, IsFound, KeepsKey, NeedsKey, schema_of};
+ghost use Rattle.table_store.specs.Content.{FailsToChange, HasKey, HasThisKey, IsFound, KeepsKey, NeedsKey, schema_of};
 
 use crate::depth::is_kept;
 use dynamo_value::Item;
@@ -216,30 +216,41 @@ impl<S: Alter + Drop> TableStore<S> {
 
     /// Puts what `change` makes of the item under a key in its place.
     ///
+    /// The errors are of any type that a [`StoreError`] converts to, such as one of the caller's own.
+    ///
     /// # Errors
     ///
-    /// `Key` with `NoItem` where the key has no item, with the error of `change`, with those of [`KeySchema::key_of`] of the
-    /// changed item, and with `KeyChanged` where that has another key; `TooDeep` as [`TableStore::put`]; and those of
-    /// [`TableStore::get`].
-    pub fn update<F: FnOnce(&Item) -> Result<Item, TableError>>(
+    /// The error of `change`; `Key` with `NoItem` if the key has no item, with those of [`KeySchema::key_of`] of the changed item,
+    /// and with `KeyChanged` if that has another key; `TooDeep` as [`TableStore::put`]; and those of [`TableStore::get`].
+    pub fn update<E: From<StoreError>, F: FnOnce(&Item) -> Result<Item, E>>(
         &mut self,
         key: &Key,
         change: F,
-    ) -> Result<(), StoreError>
+    ) -> Result<(), E>
         requires { F.IsAlwaysCallable change }
         ensures changes { OnOk result (KeepsKey (FnOnceReturnsAt F.FnOnce change) (schema_of self.old) key.now) }
+        ensures err { IfErr result (FailsToChange E.from_gives (FnOnceReturnsAt F.FnOnce change)) }
         ensures schema { schema_of self.new ≡ schema_of self.old }
     {
         let Some(item) = self.get(key)? else {
-            return Err(StoreError::Key(TableError::NoItem));
+            return Err(E::from(StoreError::Key(TableError::NoItem)));
         };
         let changed = change(&item)?;
-        let own_key = self.table.schema.key_of(&changed)?;
+        self.put_changed(key, &changed)?;
+        Ok(())
+    }
+
+    // Puts a changed item under its key, which is to be this one.
+    fn put_changed(&mut self, key: &Key, item: &Item) -> Result<(), StoreError>
+        ensures own { OnOk result (HasThisKey (schema_of self.old) key.now item.now) }
+        ensures schema { schema_of self.new ≡ schema_of self.old }
+    {
+        let own_key = self.table.schema.key_of(item)?;
         if own_key.cmp(key).is_ne() {
             return Err(StoreError::Key(TableError::KeyChanged));
         }
         let key = KeyBytes::of(self.alloc, key)?;
-        self.put_at(&key, &changed)
+        self.put_at(&key, item)
     }
 
     /// The items that a query finds.
