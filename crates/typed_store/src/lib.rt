@@ -1,6 +1,7 @@
 //! A table in a SQLite database of the values of one type.
 #![tactic(auto)]
 
+mod change;
 mod error;
 mod store;
 

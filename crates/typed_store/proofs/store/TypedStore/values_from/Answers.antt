@@ -16,7 +16,7 @@ loop-item-init g c = (
   [],
   c.into_iter-item-iterator.ensures.into_iter_gives.0,
   subst
-      (AllZip (ReadsAs g.T.Deserialize.reads) []) (sym c.in_ok-values.ensures.items) tt,
+      (AllZip (ReadsAs g.T.AsItem.reads_item) []) (sym c.in_ok-values.ensures.items) tt,
 )
 
 -- one value more was read
@@ -27,8 +27,8 @@ loop-item-preserved g c =
     let left = into_iter_items c.next.new.self in (
       l.0 ++ item ∷ [],
       append_assoc l.0 (item ∷ []) left ∙ ap (λ xs. l.0 ++ xs) (sym c.in-Some.ensures.steps.0) ∙ l.1,
-      rw c.in_ok-push.ensures.items (pushed (ReadsAs g.T.Deserialize.reads) l.0 c.loop-item.values.items item
-          c.in_ok-value_from.field-0 l.2 c.in_ok-value_from.ensures.read),
+      rw c.in_ok-push.ensures.items (pushed (ReadsAs g.T.AsItem.reads_item) l.0 c.loop-item.values.items item
+          c.in_ok-from_item.field-0 l.2 c.in_ok-from_item.ensures.read),
     )
 
 pub returns : goal.returns
@@ -37,4 +37,4 @@ returns g c =
     let left = c.loop-item.item-iterator.rest in
     let all : l.0 ≡ c.args.found.items =
     sym (append-nil l.0) ∙ ap (λ xs. l.0 ++ xs) (sym (none left.items (sym left.ok.0 ∙ c.in-None.ensures.steps.0))) ∙ l.1 in
-    subst (λ items. AllZip (ReadsAs g.T.Deserialize.reads) items c.loop-item.values.items) all l.2
+    subst (λ items. AllZip (ReadsAs g.T.AsItem.reads_item) items c.loop-item.values.items) all l.2
