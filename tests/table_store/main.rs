@@ -6,6 +6,8 @@
 //! how many of them were refused, and the first that differs, if any does. Fewer calls follow on tables in a database of pages
 //! in memory, where each change copies the log.
 //!
+//! Three updates by a function with errors of its own follow.
+//!
 //! Then both kinds of tables are queried for values that lie close to each other, and answer as a plain filter does. Last the
 //! rows are counted that a database reads for a query.
 #![tactic(auto)]
@@ -14,6 +16,7 @@ mod calls;
 mod counting;
 mod decimal;
 mod list;
+mod own_errors;
 mod pools;
 mod queries;
 mod question;
@@ -66,7 +69,7 @@ fn listed(alloc: Global) -> Result<Vec<Three<MemStore>>, StoreError> {
     Ok(tables)
 }
 
-// Four of the tables, in databases of pages. Each takes the memory of two thousand pages at once.
+// Four of the tables, in databases of pages. Each takes the memory of two hundred pages at once.
 fn paged(alloc: Global) -> Result<Vec<Three<FileStore<Memory>>>, StoreError> {
     let mut tables = Vec::new(alloc);
     for shape in [
@@ -164,6 +167,7 @@ fn main(rt: HostRuntime) -> io::Result<()> {
         Ok(tally) => print_all(&rt, &tally)?,
         Err(error) => println!(rt; "{error}")?,
     }
+    own_errors::print_answers(&rt)?;
     queries::print_answers(&rt)?;
     reads::print_reads(&rt)
 }
