@@ -1,37 +1,244 @@
-//! Loading the lines of an export, some hundred in a transaction.
-use crate::run::{Answer, Outcome};
-use crate::session::PAGE;
-use anyhow::bail;
+//! Loading an input into a table, some hundred items in a transaction.
+use crate::at_table::PAGE;
+use crate::document::{Document, document_of};
+use crate::from_plain::item_of_plain;
+use crate::key_words::item_refusal;
+use crate::place::Place;
+use crate::refusal::{Answer, Outcome, Refusal};
+use crate::teller::Teller;
+use crate::text::{first_value, line_feeds, unmarked};
+use crate::words::Flags;
+use dynamo_json::DynamoJson;
 use dynamo_value::Item;
-use fixtures::{Line, LineFault, Lines};
+use fixtures::{Fault, Lines, Request, change_of, item_alone, json_of, one_request};
+use json::{Scratch, is_valid};
+use serde_json::Value;
 use sqlite::Alter;
-use std::fmt::Display;
-use std::io::{BufReader, IsTerminal};
-use table_store::TableStore;
+use std::alloc::{AllocError, Global};
+use std::io::{BufRead, IsTerminal, Read};
+use std::str;
+use table_store::{StoreError, TableStore};
 
-// A load at work: what is loaded of the input so far.
+/// A load at work: what is loaded of an input so far.
 #[derive(Drop)]
-struct Loading<'r, 'a, S: Alter + Drop> {
-    rt: &'r HostRuntime,
+pub struct Loading<'r, 'a, 'i, S: Alter + Drop> {
+    teller: Teller<'r>,
     store: &'a mut TableStore<S>,
-    // How many items are in the table.
+    table: &'a str,
+    // The name of the input's file, where it has one.
+    input: Option<&'i str>,
+    flags: Flags,
+    scratch: Scratch,
+    // How many puts and deletes are in the table.
     loaded: u64,
-    // How many lines have a fault.
+    // How many lines and entries have a fault.
     broken: u64,
-    // Items of lines that are not in the table yet.
+    // Items that are put but not in the table yet.
     waiting: Vec<Item>,
 }
 
-impl<S: Alter + Drop> Loading<'_, '_, S> {
-    // Takes in the item of a line, which waits for a transaction of some hundred, or tells why there is none.
-    fn take(&mut self, line: Result<Line, LineFault>) -> anyhow::Result<()> {
-        match line {
-            Ok(Line { number, item }) => match self.store.check(&item) {
-                Ok(()) => self.waiting.push(item)?,
-                Err(error) => self.tell(format_args!("line {number}: {error}")),
-            },
-            Err(fault) => self.tell(fault),
+impl<'r, 'a, 'i, S: Alter + Drop> Loading<'r, 'a, 'i, S> {
+    /// A load into this table that hasn't begun.
+    pub fn new(
+        teller: Teller<'r>,
+        store: &'a mut TableStore<S>,
+        table: &'a str,
+        input: Option<&'i str>,
+        flags: Flags,
+    ) -> Self {
+        Loading {
+            teller,
+            store,
+            table,
+            input,
+            flags,
+            scratch: Scratch::new(teller.rt.alloc()),
+            loaded: 0,
+            broken: 0,
+            waiting: Vec::new(teller.rt.alloc()),
         }
+    }
+
+    /// Puts and deletes what an input holds: line by line if its first line is a JSON value, and else the JSON values of the whole
+    /// text. A fault is told, and ends the load with all before it in the table, or is passed over.
+    ///
+    /// # Errors
+    ///
+    /// Those of the table, and of the input. What was loaded stays.
+    pub fn run<R: BufRead + Drop>(mut self, reader: R) -> Answer {
+        let mut lines = Lines::new(self.alloc(), reader);
+        if let Some(first) = self.first_line(&mut lines)? {
+            if self.is_json(first.as_slice())? {
+                self.take_text(lines.number(), first.as_slice())?;
+                self.take_lines(&mut lines)?;
+            } else {
+                let text = self.whole_text(first.as_slice(), lines)?;
+                self.take_whole(text.as_slice())?;
+            }
+        }
+        self.write()?;
+        self.end()
+    }
+
+    fn alloc(&self) -> Global {
+        self.teller.rt.alloc()
+    }
+
+    // The first line that isn't blank, without a byte order mark; none at the end.
+    fn first_line<R: BufRead>(&mut self, lines: &mut Lines<R>) -> Answer<Option<Vec<u8>>> {
+        for _ in 0..u64::MAX {
+            let Some(line) = lines.next_text() else {
+                break;
+            };
+            let line = line?;
+            let text = if lines.number() == 1 {
+                unmarked(line.as_slice())
+            } else {
+                line.as_slice()
+            };
+            if !text.trim_ascii_start().is_empty() {
+                return Ok(Some(Vec::from_slice(self.alloc(), text)?));
+            }
+        }
+        Ok(None)
+    }
+
+    // Whether a text is one JSON value.
+    fn is_json(&mut self, text: &[u8]) -> Result<bool, AllocError> {
+        match str::from_utf8(text) {
+            Ok(text) => is_valid(text, &mut self.scratch),
+            Err(_) => Ok(false),
+        }
+    }
+
+    // The whole text of an input whose first line that isn't blank was read, with line feeds for the blank ones before.
+    fn whole_text<R: BufRead + Drop>(&self, first: &[u8], lines: Lines<R>) -> Answer<Vec<u8>> {
+        let mut text = Vec::new(self.alloc());
+        for _ in 1..lines.number() {
+            text.push(b'\n')?;
+        }
+        text.extend_from_slice(first)?;
+        let mut reader = lines.into_reader();
+        reader.read_to_end(&mut text)?;
+        Ok(text)
+    }
+
+    // Takes the lines that are left, one by one.
+    fn take_lines<R: BufRead>(&mut self, lines: &mut Lines<R>) -> Answer<()> {
+        for _ in 0..u64::MAX {
+            if self.is_over() {
+                break;
+            }
+            match lines.next_text() {
+                Some(Ok(line)) => self.take_text(lines.number(), line.as_slice())?,
+                Some(Err(error)) => self.tell(self.at(lines.number()), Refusal::from(error)),
+                None => break,
+            }
+        }
+        Ok(())
+    }
+
+    // Takes the JSON values of a whole text. Where it begins with none, its lines are taken one by one, as those of a file whose first
+    // line is broken.
+    fn take_whole(&mut self, text: &[u8]) -> Answer<()> {
+        let mut rest = text;
+        let mut line: u64 = 1;
+        for turn in 0..u64::MAX {
+            let value = rest.trim_ascii_start();
+            if value.is_empty() || self.is_over() {
+                break;
+            }
+            let blank = rest.len().saturating_sub(value.len());
+            let (before, _) = rest.split_at_checked(blank).unwrap_or((&[], rest));
+            line = line.saturating_add(line_feeds(before));
+            let (value, behind) = first_value(value);
+            if turn == 0 && self.flags.keep_going && !self.is_json(value)? {
+                return self.take_lines(&mut Lines::new(self.alloc(), text));
+            }
+            self.take_text(line, value)?;
+            line = line.saturating_add(line_feeds(value));
+            rest = behind;
+        }
+        Ok(())
+    }
+
+    // Takes a JSON value that begins in a line.
+    fn take_text(&mut self, line: u64, text: &[u8]) -> Answer<()> {
+        let alloc = self.alloc();
+        if self.flags.plain {
+            let item = item_of_plain(alloc, &mut self.scratch, text);
+            return self.take(self.at(line), item.map(Request::Put));
+        }
+        if let Some(item) = item_alone(alloc, &mut self.scratch, text)? {
+            return self.take(self.at(line), Ok(Request::Put(item)));
+        }
+        match json_of(alloc, text) {
+            Ok(json) => self.take_json(line, &json),
+            Err(fault) => {
+                self.tell_broken(line, text, fault);
+                Ok(())
+            }
+        }
+    }
+
+    // Takes what a JSON value holds for the table.
+    fn take_json(&mut self, line: u64, json: &Value) -> Answer<()> {
+        match document_of(self.alloc(), json, self.table) {
+            Ok(Document::Change) => self.take(self.at(line), change_of(self.alloc(), json)),
+            Ok(Document::Items(items)) => self.take_each(line, items, false),
+            Ok(Document::Requests(requests)) => self.take_each(line, requests, true),
+            Ok(Document::Nothing) => Ok(()),
+            Err(refusal) => {
+                self.tell(self.at(line), refusal);
+                Ok(())
+            }
+        }
+    }
+
+    // Takes the entries of a list, in order: requests, or items that are put.
+    fn take_each(&mut self, line: u64, list: &Vec<Value>, are_requests: bool) -> Answer<()> {
+        let alloc = self.alloc();
+        let mut entry: u64 = 0;
+        for json in list {
+            if self.is_over() {
+                break;
+            }
+            entry = entry.saturating_add(1);
+            let place = Place {
+                entry: Some(entry),
+                ..self.at(line)
+            };
+            let request = if are_requests {
+                request_of(alloc, json)
+            } else {
+                put_of(alloc, json)
+            };
+            self.take(place, request)?;
+        }
+        Ok(())
+    }
+
+    // Takes a put or a delete, or tells why there is none.
+    fn take(&mut self, place: Place<'i>, request: Result<Request, Fault>) -> Answer<()> {
+        match request {
+            Ok(Request::Put(item)) => match self.store.check(&item) {
+                Ok(()) => self.put(item),
+                Err(error) => {
+                    self.tell_item(place, &item, error);
+                    Ok(())
+                }
+            },
+            Ok(Request::Delete(key)) => self.delete(place, &key),
+            Err(fault) => {
+                self.tell(place, Refusal::from(fault));
+                Ok(())
+            }
+        }
+    }
+
+    // Puts an item, which waits for a transaction of some hundred.
+    fn put(&mut self, item: Item) -> Answer<()> {
+        self.waiting.push(item)?;
         if self.waiting.len() < PAGE {
             Ok(())
         } else {
@@ -39,58 +246,99 @@ impl<S: Alter + Drop> Loading<'_, '_, S> {
         }
     }
 
-    // Tells the fault of a line.
-    fn tell<F: Display + Drop>(&mut self, fault: F) {
-        let _ = eprintln!(self.rt; "error: {fault}");
-        self.broken = self.broken.saturating_add(1);
+    // Deletes the item of a key, after the items that wait are in the table.
+    fn delete(&mut self, place: Place<'i>, item: &Item) -> Answer<()> {
+        match self.store.key_of(item) {
+            Ok(key) => {
+                self.write()?;
+                drop(self.store.delete(&key)?);
+                self.loaded = self.loaded.saturating_add(1);
+            }
+            Err(error) => self.tell_item(place, item, StoreError::from(error)),
+        }
+        Ok(())
     }
 
     // Puts the items that wait into the table, in one transaction.
-    fn write(&mut self) -> anyhow::Result<()> {
+    fn write(&mut self) -> Answer<()> {
+        if self.waiting.is_empty() {
+            return Ok(());
+        }
         self.store.write_all(self.waiting.as_slice())?;
         let count = u64::try_from(self.waiting.len()).unwrap_or(u64::MAX);
         self.loaded = self.loaded.saturating_add(count);
         self.waiting.clear();
-        if self.rt.stderr().is_terminal() {
-            let _ = eprint!(self.rt; "\r{} items loaded", self.loaded);
+        let rt = self.teller.rt;
+        if rt.stderr().is_terminal() {
+            let _ = eprint!(rt; "\r{} items loaded", self.loaded);
         }
         Ok(())
     }
-}
 
-/// Puts the items of the input's lines into a table. A line with a fault is told, and ends the load with all lines before it in
-/// the table, or is passed over.
-///
-/// # Errors
-///
-/// Those of the table, and of the input, each by its message. What was loaded stays.
-pub fn load<S: Alter + Drop>(
-    rt: &HostRuntime,
-    store: &mut TableStore<S>,
-    keeps_going: bool,
-) -> Answer {
-    let mut lines = Lines::new(rt.alloc(), BufReader::new(rt.alloc(), rt.reader())?);
-    let waiting = Vec::new(rt.alloc());
-    let mut loading = Loading {
-        rt,
-        store,
-        loaded: 0,
-        broken: 0,
-        waiting,
-    };
-    for _ in 0..u64::MAX {
-        match lines.next_line() {
-            Some(line) if keeps_going || loading.broken == 0 => loading.take(line)?,
-            _ => break,
+    // How the load ended.
+    fn end(&self) -> Answer {
+        let rt = self.teller.rt;
+        if rt.stderr().is_terminal() {
+            let _ = eprintln!(rt; "");
+        }
+        let count = self.broken;
+        match count {
+            0 => Ok(Outcome::Done),
+            1 if !self.flags.keep_going => Ok(Outcome::Told),
+            _ => Err(Refusal::message(format!(in rt.alloc();
+                "lines that are not loaded: {count}"
+            ))),
         }
     }
-    loading.write()?;
-    if rt.stderr().is_terminal() {
-        let _ = eprintln!(rt; "");
+
+    // Whether a fault ends the load.
+    fn is_over(&self) -> bool {
+        self.broken > 0 && !self.flags.keep_going
     }
-    match loading.broken {
-        0 => Ok(Outcome::Done),
-        1 if !keeps_going => Ok(Outcome::Told),
-        count => bail!("lines that are not loaded: {count}"),
+
+    // The place of a line.
+    fn at(&self, line: u64) -> Place<'i> {
+        Place {
+            input: self.input,
+            line,
+            entry: None,
+        }
     }
+
+    // Tells a fault, and counts it.
+    fn tell(&mut self, place: Place<'i>, refusal: Refusal) {
+        self.teller.tell(format_args!("{place}: {refusal}"));
+        self.broken = self.broken.saturating_add(1);
+    }
+
+    // Tells why an item has no key of the table, or isn't kept.
+    fn tell_item(&mut self, place: Place<'i>, item: &Item, error: StoreError) {
+        let refusal = item_refusal(self.alloc(), self.store.schema(), item, error);
+        self.tell(place, refusal);
+    }
+
+    // Tells that a text is no JSON, and where in it, if it has several lines.
+    fn tell_broken(&mut self, line: u64, text: &[u8], fault: Fault) {
+        let place = self.at(line);
+        match Value::from_slice(self.alloc(), text.trim_ascii_end()) {
+            Err(error) if error.line() > 1 && !error.is_memory() => {
+                let lines = u64::try_from(error.line()).unwrap_or(u64::MAX);
+                let at = line.saturating_add(lines).saturating_sub(1);
+                let column = error.column();
+                self.teller.tell(format_args!("{place}: {fault} (line {at}, column {column})"));
+                self.broken = self.broken.saturating_add(1);
+            }
+            _ => self.tell(place, Refusal::from(fault)),
+        }
+    }
+}
+
+// The put of an item in a list.
+fn put_of(alloc: Global, json: &Value) -> Result<Request, Fault> {
+    Ok(Request::Put(Item::from_json(alloc, json)?))
+}
+
+// The request in a list.
+fn request_of(alloc: Global, json: &Value) -> Result<Request, Fault> {
+    Ok(one_request(alloc, json)?)
 }

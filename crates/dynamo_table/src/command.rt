@@ -1,0 +1,95 @@
+//! The commands, as their words say them.
+use crate::print::Form;
+use crate::words::{Flags, split_flags};
+
+/// A command on a file of tables.
+#[derive(Clone, Copy, Drop)]
+pub enum Command<'a> {
+    /// To print the tables.
+    List,
+
+    /// To make a table of this name, by the words of its keys.
+    Create(&'a str, &'a [&'a str]),
+
+    /// To delete a table of this name with its items.
+    Drop(&'a str),
+
+    /// What is asked of the table of this name.
+    Of(&'a str, Asked<'a>),
+}
+
+/// What is asked of one table.
+#[derive(Clone, Copy, Drop)]
+pub enum Asked<'a> {
+    /// How many items it has.
+    Count,
+
+    /// To put the one item of an input.
+    Put(Option<&'a str>),
+
+    /// To put and delete what an input holds.
+    Load(Option<&'a str>, Flags),
+
+    /// The item of a key.
+    Get(&'a str, Option<&'a str>, Form),
+
+    /// To delete the item of a key.
+    Delete(&'a str, Option<&'a str>),
+
+    /// The items of a partition that meet a condition on the sort key.
+    Query(&'a str, &'a [&'a str], Flags),
+
+    /// All items.
+    Scan(Form),
+}
+
+impl<'a> Command<'a> {
+    /// The command of a name and the words behind it, but for the file's name; none where they are no command.
+    pub fn of(name: &str, words: &'a [&'a str]) -> Option<Command<'a>> {
+        match (name, words) {
+            ("list", []) => Some(Command::List),
+            ("create", [table, keys @ ..]) => Some(Command::Create(table, keys)),
+            ("drop", [table]) => Some(Command::Drop(table)),
+            (_, [table, words @ ..]) => Some(Command::Of(table, Asked::of(name, words)?)),
+            _ => None,
+        }
+    }
+
+    /// The command of the words of a session's line; none where they are no command.
+    pub fn of_line(words: &'a [&'a str]) -> Option<Command<'a>> {
+        match words {
+            [name, words @ ..] => Command::of(name, words),
+            [] => None,
+        }
+    }
+
+    /// Whether the command makes a file that isn't there.
+    pub fn makes_file(&self) -> bool {
+        matches!(self, Command::Create(_, _))
+    }
+}
+
+impl<'a> Asked<'a> {
+    // What a name and the words behind the table's name ask of a table.
+    fn of(name: &str, words: &'a [&'a str]) -> Option<Asked<'a>> {
+        let (words, flags) = split_flags(words, Flags::taken_by(name));
+        match (name, words) {
+            ("count", []) => Some(Asked::Count),
+            ("put", []) => Some(Asked::Put(None)),
+            ("put", [input]) => Some(Asked::Put(Some(input))),
+            ("load", []) => Some(Asked::Load(None, flags)),
+            ("load", [input]) => Some(Asked::Load(Some(input), flags)),
+            ("get", [partition]) => Some(Asked::Get(partition, None, flags.form())),
+            ("get", [partition, sort]) => Some(Asked::Get(partition, Some(sort), flags.form())),
+            ("delete", [partition]) => Some(Asked::Delete(partition, None)),
+            ("delete", [partition, sort]) => Some(Asked::Delete(partition, Some(sort))),
+            ("query", [partition, condition @ ..]) => {
+                Some(Asked::Query(partition, condition, flags))
+            }
+            ("scan", []) => Some(Asked::Scan(flags.form())),
+            ("export", []) if flags.plain => Some(Asked::Scan(Form::Plain)),
+            ("export", []) => Some(Asked::Scan(Form::Export)),
+            _ => None,
+        }
+    }
+}

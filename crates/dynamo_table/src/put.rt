@@ -1,0 +1,46 @@
+//! The item that is put.
+use crate::key_words::item_refusal;
+use crate::refusal::Answer;
+use dynamo_json::DynamoJson;
+use dynamo_value::Item;
+use fixtures::json_of;
+use serde_json::Value;
+use sqlite::Alter;
+use std::alloc::Global;
+use table_store::TableStore;
+
+/// The item of a text for a table: DynamoDB JSON of it, alone or under `Item` of an object.
+///
+/// An object with a member `Item` that has the table's key as it is is an item with an attribute of that name.
+///
+/// # Errors
+///
+/// `Input` if the text is no JSON, or no DynamoDB JSON of an item; those of [`item_refusal`].
+pub fn item_of_text<S: Alter + Drop>(
+    alloc: Global,
+    store: &TableStore<S>,
+    text: &[u8],
+) -> Answer<Item> {
+    let json = json_of(alloc, text)?;
+    let item = read_item(alloc, store, &json)?;
+    match store.check(&item) {
+        Ok(()) => Ok(item),
+        Err(error) => Err(item_refusal(alloc, store.schema(), &item, error)),
+    }
+}
+
+fn read_item<S: Alter + Drop>(alloc: Global, store: &TableStore<S>, json: &Value) -> Answer<Item> {
+    let Some(inner) = json.get("Item") else {
+        return Ok(item_of(alloc, json)?);
+    };
+    if let Ok(item) = Item::from_json(alloc, json)
+        && store.key_of(&item).is_ok()
+    {
+        return Ok(item);
+    }
+    Ok(item_of(alloc, inner)?)
+}
+
+fn item_of(alloc: Global, json: &Value) -> Result<Item, fixtures::Fault> {
+    Ok(Item::from_json(alloc, json)?)
+}
