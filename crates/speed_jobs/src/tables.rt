@@ -177,8 +177,10 @@ fn log(alloc: Global, random: &mut Random) -> Result<u64, Stopped> {
         let at = random.below(20_000).wrapping_add(from);
         let key = table.key_of(&reading(alloc, at, 0, "")?)?;
         let value = random.below(1_000);
-        let answer: Result<(), TableError> =
-            table.update(&key, |_| Ok(reading(alloc, at, value, "changed")?));
+        let answer: Result<(), TableError> = table.update(
+            &key,
+            |_| Ok(reading(alloc, at, value, "changed")?),
+        );
         digest = digest::number(digest, u64::from(answer.is_ok()));
     }
     let partition = KeyValue::S(String::from_str(alloc, "press-7")?);
