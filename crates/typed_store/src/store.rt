@@ -14,7 +14,7 @@ use std::marker::PhantomData;
 use table_key::Key;
 use table_query::{Condition, Query};
 use table_store::TableStore;
-use typed_table::Keyed;
+use typed_table::{AsItem, Keyed};
 
 /// A table in a SQLite database of values of one type, each an item under its key.
 #[derive(Drop)]
@@ -24,7 +24,7 @@ pub struct TypedStore<T, S: Alter + Drop> {
     values: PhantomData<T>,
 }
 
-impl<T: Keyed, S: Alter + Drop> TypedStore<T, S> {
+impl<T: AsItem + Keyed, S: Alter + Drop> TypedStore<T, S> {
     /// Returns the table of this name in a database, which is made if there is none. What it returns takes its memory from `alloc`.
     ///
     /// # Errors

@@ -1,9 +1,8 @@
-use crate::AsItem;
 use std::alloc::{AllocError, Global};
 use table_key::KeySchema;
 
-/// A type whose values are written as items, and that names the key of its table.
-pub trait Keyed: AsItem {
+/// A type that names the key of its table. Its values are items by [`AsItem`](crate::AsItem).
+pub trait Keyed: Sized {
     /// Returns the attributes that are the key.
     ///
     /// # Errors

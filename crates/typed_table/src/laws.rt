@@ -18,7 +18,7 @@ use dynamo_types::Shaped;
 /// # Errors
 ///
 /// Those of [`TypedTable::put`], and `OutOfMemory`.
-pub fn put_then_get<T: Keyed>(
+pub fn put_then_get<T: AsItem + Keyed>(
     table: &mut TypedTable<T>,
     value: &T,
 ) -> Result<Option<T>, TypedTableError>

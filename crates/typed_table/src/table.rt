@@ -14,7 +14,7 @@ ghost use Rattle.typed_table.specs.Updated.{FailsToUpdate, UpdatesValue};
 
 use crate::change::{Failed, changed};
 use crate::item::values_of;
-use crate::{Keyed, TypedTableError};
+use crate::{AsItem, Keyed, TypedTableError};
 use dynamo_value::Result;
 use memory_table::Table;
 use std::alloc::{AllocError, Global};
@@ -30,7 +30,7 @@ pub struct TypedTable<T> {
     values: PhantomData<T>,
 }
 
-impl<T: Keyed> TypedTable<T> {
+impl<T: AsItem + Keyed> TypedTable<T> {
     /// Returns the table without values. What it holds and returns takes its memory from `alloc`.
     ///
     /// # Errors
