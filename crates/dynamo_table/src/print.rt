@@ -63,7 +63,7 @@ fn with_item(alloc: Global, form: Form, text: Vec<u8>, item: &Item) -> Result<Ve
     Ok(text)
 }
 
-// The text fails for want of memory alone, and so does the JSON value.
+// Making the text, or the JSON value, fails only if memory runs out.
 fn json_text(alloc: Global, item: &Item) -> Result<String, AllocError> {
     item.to_json_text(alloc).map_err(|_| AllocError)
 }

@@ -39,7 +39,7 @@ pub fn run(rt: &HostRuntime, path: &str) -> Answer {
     close(conn, Ok(outcome))
 }
 
-// Whether a command did what its line asks for. Else it is told why not.
+// Returns whether a command did what its line asks for. Else it prints why not.
 fn is_done(teller: Teller<'_>, answer: Answer) -> bool {
     match answer {
         Ok(Outcome::Done) => true,
