@@ -2,6 +2,7 @@
 
 import os
 import re
+import shutil
 import signal
 import subprocess
 import sys
@@ -54,6 +55,15 @@ def with_below(names):
         if name in wanted:
             wanted.update(crates[name])
     return [name for name in crates if name in wanted]
+
+
+def lay_crates(room):
+    """Lays copies of the crates in a folder, with their crates.txt, so that another crate can be laid beside them."""
+    for crate in read_crates():
+        for part in ("src", "specs", "proofs"):
+            if os.path.isdir(f"{TOP}/crates/{crate}/{part}"):
+                shutil.copytree(f"{TOP}/crates/{crate}/{part}", f"{room}/crates/{crate}/{part}")
+    write(f"{room}/crates.txt", read(f"{TOP}/crates.txt"))
 
 
 def sources_of(names):
