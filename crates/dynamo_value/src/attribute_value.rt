@@ -9,13 +9,28 @@ use std::alloc::AllocError;
 use std::collections::HashMap;
 use std::default::Emptied;
 
-/// The value of an attribute, as DynamoDB's JSON form has it.
+/// The value of an attribute (DynamoDB's API reference, `AttributeValue`).
 ///
-/// A contract sees it by `view` of `specs/View.antt`: texts by their bytes, and the members of a map in ascending order
-/// of the bytes of their keys.
+/// Two values are equal if they have the same kind and contents: maps in any order of their
+/// entries, lists and sets in order. A number is kept as its string, so `N("1")` and `N("1.0")`
+/// differ. `clone` returns an equal value.
+///
+/// # Examples
+///
+/// ```rust
+/// use serde_dynamo::{AttributeValue, to_attribute_value};
+///
+/// let age = to_attribute_value(alloc, &42u8)?;
+/// assert_eq!(age, AttributeValue::N(String::from_str(alloc, "42")?));
+///
+/// match &age {
+///     AttributeValue::N(number) => assert_eq!(number.as_str(), "42"),
+///     other => anyhow::bail!("no number: {other:?}"),
+/// }
+/// ```
 #[derive(Debug, Drop)]
 pub enum AttributeValue {
-    /// A number, kept as its text: `"N": "123.45"`. The text isn't checked.
+    /// A number, kept as its string: `"N": "123.45"`. The string isn't checked.
     N(String),
 
     /// A string: `"S": "Hello"`.
@@ -24,22 +39,22 @@ pub enum AttributeValue {
     /// A boolean: `"BOOL": true`.
     Bool(bool),
 
-    /// A byte string, which DynamoDB's JSON form writes in base64: `"B": "dGhpcyB0ZXh0"`.
+    /// A byte string, which is base64 in DynamoDB JSON: `"B": "dGhpcyB0ZXh0"`.
     B(Vec<u8>),
 
-    /// Null: `"NULL": true`. DynamoDB also lets through `"NULL": false`.
+    /// Null: `"NULL": true`. DynamoDB also accepts `"NULL": false`.
     Null(bool),
 
-    /// A map from texts to attribute values: `"M": {"Name": {"S": "Joe"}, "Age": {"N": "35"}}`.
+    /// A map from strings to attribute values: `"M": {"Name": {"S": "Joe"}, "Age": {"N": "35"}}`.
     M(HashMap<String, AttributeValue>),
 
     /// A list of attribute values: `"L": [{"S": "Cookies"}, {"N": "3.14159"}]`.
     L(Vec<AttributeValue>),
 
-    /// A set of strings, in the order in which they were put in: `"SS": ["Giraffe", "Hippo"]`.
+    /// A set of strings, in the order in which they were added: `"SS": ["Giraffe", "Hippo"]`.
     Ss(Vec<String>),
 
-    /// A set of numbers, kept as their texts: `"NS": ["42.2", "-19"]`.
+    /// A set of numbers, kept as their strings: `"NS": ["42.2", "-19"]`.
     Ns(Vec<String>),
 
     /// A set of byte strings: `"BS": ["U3Vubnk=", "UmFpbnk="]`.
@@ -47,8 +62,22 @@ pub enum AttributeValue {
 }
 
 impl AttributeValue {
-    /// The same value, of which a map has given back the room that no entry takes. What it nests isn't looked at. A map that is kept
-    /// takes about half as much memory then, and the next entry that is put moves those it has.
+    /// Returns the same value with the spare capacity of its map freed.
+    ///
+    /// Values inside the map keep theirs. A map then takes about half as much memory, and the next
+    /// insertion moves all of its entries. A value that isn't a map is returned as it is.
+    ///
+    /// # Examples
+    ///
+    /// ```rust
+    /// use serde_dynamo::{AttributeValue, to_attribute_value};
+    /// use std::collections::HashMap;
+    ///
+    /// let mut ages = HashMap::new(alloc);
+    /// drop(ages.insert(String::from_str(alloc, "Arthur")?, 42u8)?);
+    /// let value = to_attribute_value(alloc, &ages)?;
+    /// assert_eq!(value.clone()?.fitted(), value);
+    /// ```
     pub fn fitted(self) -> AttributeValue
         ensures { view result ≡ view self }
     {
@@ -62,8 +91,9 @@ impl AttributeValue {
     }
 }
 
-/// By value, at every depth: texts and byte strings by their bytes, maps by their members in whatever order, lists and
-/// sets in order. A number is its text here, so that `1` and `1.0` differ.
+/// Compares kind and contents at every depth: strings and byte strings by their bytes, maps by
+/// their entries in any order, lists and sets in order. A number is compared as its string, so `1`
+/// and `1.0` differ.
 impl PartialEq for AttributeValue {
     ghost eq = { λ a b. av_eq (view a) (view b) };
 
@@ -80,7 +110,7 @@ impl Eq for AttributeValue {
     ghost laws = { on_equiv view av_eq_equiv };
 }
 
-/// The clone is equal.
+/// The clone is equal. Returns [`AllocError`] if memory runs out.
 impl Clone for AttributeValue {
     ghost is_clone = { λ v w. view w ≡ view v };
 
@@ -89,8 +119,8 @@ impl Clone for AttributeValue {
     }
 }
 
-// Whether two values are equal. What is compared of each kind but lists has functions of its own that aren't inlined, so that the
-// frame of a level stays small.
+// Whether two values are equal. Kinds other than lists are compared in functions of their own that
+// aren't inlined, so that the frame of a level stays small.
 #[cycle(same)]
 fn same(a: &AttributeValue, b: &AttributeValue) -> bool
     ensures { Decides result (view a.now ≡ view b.now) }
@@ -101,7 +131,7 @@ fn same(a: &AttributeValue, b: &AttributeValue) -> bool
     }
 }
 
-// The same, as it comes where one is no list.
+// The same, as it is called if one of them isn't a list.
 #[cycle(same)]
 #[inline(never)]
 fn same_other(a: &AttributeValue, b: &AttributeValue) -> bool
@@ -163,8 +193,8 @@ pub(crate) fn same_maps(
     true
 }
 
-// A value that is equal. What is copied of each kind has functions of its own that aren't inlined: a value that nests others is
-// copied with a small frame for each of its levels, in which no value lies.
+// Returns an equal value. Each kind is copied in a function of its own that isn't inlined: a nested
+// value is copied with a small frame for each of its levels, in which no value lies.
 #[cycle(copy)]
 fn copy(value: &AttributeValue) -> Result<AttributeValue, AllocError>
     ensures { IfOk result (λ v. view v ≡ view value.now) }
@@ -175,7 +205,7 @@ fn copy(value: &AttributeValue) -> Result<AttributeValue, AllocError>
     }
 }
 
-// The same, of a value that nests others; of one that doesn't it is no other.
+// The same, for a value that holds others. It is called for no other value.
 #[cycle(copy)]
 #[inline(never)]
 fn copy_nest(value: &AttributeValue) -> Result<AttributeValue, AllocError>
@@ -188,7 +218,7 @@ fn copy_nest(value: &AttributeValue) -> Result<AttributeValue, AllocError>
     }
 }
 
-// The same, of a value that nests no others; of one that does it is no other.
+// The same, for a value that holds no others. It is called for no other value.
 #[cycle(copy)]
 #[inline(never)]
 fn copy_leaf(value: &AttributeValue) -> Result<AttributeValue, AllocError>
@@ -224,7 +254,7 @@ fn copy_list(list: &Vec<AttributeValue>) -> Result<Vec<AttributeValue>, AllocErr
     Ok(copies)
 }
 
-// Puts a value that is equal behind others.
+// Pushes an equal value.
 #[cycle(copy)]
 #[inline(never)]
 fn push_copy(value: &AttributeValue, copies: &mut Vec<AttributeValue>) -> Result<(), AllocError>
@@ -236,7 +266,7 @@ fn push_copy(value: &AttributeValue, copies: &mut Vec<AttributeValue>) -> Result
     }
 }
 
-// Puts a list behind other values.
+// Pushes a list.
 #[inline(never)]
 fn push_list(copies: &mut Vec<AttributeValue>, list: Vec<AttributeValue>) -> Result<(), AllocError>
     ensures { IfOk result (λ _. map view copies.new.items ≡ map view copies.old.items ++ av.L (elements_view list.items) ∷ []) }
@@ -245,7 +275,7 @@ fn push_list(copies: &mut Vec<AttributeValue>, list: Vec<AttributeValue>) -> Res
     Ok(())
 }
 
-// Puts a value that is equal behind others, as they come where it is no list.
+// Pushes an equal value, as it is called for values that aren't lists.
 #[cycle(copy)]
 #[inline(never)]
 fn push_other(value: &AttributeValue, copies: &mut Vec<AttributeValue>) -> Result<(), AllocError>
@@ -272,7 +302,7 @@ pub(crate) fn copy_map(
     Ok(copies)
 }
 
-// Gives back the room of a map that no entry takes.
+// Frees the spare capacity of a map.
 fn fit(map: &mut HashMap<String, AttributeValue>)
     ensures { members_view map.new.entries ≡ members_view map.old.entries }
 {

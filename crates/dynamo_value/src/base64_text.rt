@@ -1,4 +1,5 @@
-//! Byte strings in DynamoDB JSON: the standard base64 of RFC 4648, section 4, padding included. No other spelling is read.
+//! Byte strings in DynamoDB JSON: the standard base64 of RFC 4648, section 4, with padding. No
+//! other spelling is read.
 
 ghost use Rattle.std.specs.Prelude.{◌≡◌, Ok, Some, IfOk, IfErr, string_bytes};
 ghost use Rattle.base64.specs.GeneralPurpose.{IsBytes};
@@ -12,7 +13,21 @@ use base64::engine::general_purpose::STANDARD;
 use base64::{DecodeAllocError, DecodeError};
 use std::alloc::{AllocError, Global};
 
-/// The base64 text of bytes.
+/// Returns the base64 string of bytes.
+///
+/// # Errors
+///
+/// Returns [`AllocError`] if memory runs out.
+///
+/// # Examples
+///
+/// ```rust
+/// use dynamo_value::base64_text;
+///
+/// assert_eq!(base64_text::encode(alloc, b"Sunny")?.as_str(), "U3Vubnk=");
+/// assert_eq!(base64_text::decode(alloc, "U3Vubnk=")?.as_slice(), b"Sunny".as_slice());
+/// assert!(base64_text::decode(alloc, "U3Vubnk").is_err());
+/// ```
 pub fn encode(alloc: Global, bytes: &[u8]) -> Result<String, AllocError>
     ensures text { IfOk result (λ text. string_bytes text ≡ base64_text bytes.now) }
     ensures bytes { IsBytes bytes.now }
@@ -20,12 +35,15 @@ pub fn encode(alloc: Global, bytes: &[u8]) -> Result<String, AllocError>
     STANDARD.encode(alloc, bytes)
 }
 
-/// The bytes of a base64 text.
+/// Returns the bytes of a base64 string.
 ///
 /// # Errors
 ///
-/// A `Message` that begins `Failed to decode base64: ` where the text is not the one that [`encode`] gives for some bytes:
-/// one without its padding, with bits left over, with symbols of another alphabet or with white space.
+/// Returns [`ErrorImpl::Message`] with a message that begins `Failed to decode base64: ` if the
+/// string isn't the one that [`encode`] returns for some bytes: it lacks its padding, has bits left
+/// over, or has characters of another alphabet or white space.
+///
+/// Returns [`ErrorImpl::OutOfMemory`] if memory runs out.
 pub fn decode(alloc: Global, text: &str) -> Result<Vec<u8>>
     ensures ok { IfOk result (λ bytes. bytes_of_base64 text.now ≡ Ok bytes.items) }
     ensures exact { IfOk result (λ bytes. text.now ≡ base64_text bytes.items) }
@@ -39,11 +57,12 @@ pub fn decode(alloc: Global, text: &str) -> Result<Vec<u8>>
     }
 }
 
-// The refusal of a text that is no base64, with base64's own cause.
+// The error of a string that isn't base64, with the base64 crate's own cause.
 fn not_base64(alloc: Global, cause: DecodeError) -> Error
     ensures { Refused (Some not_base64) (fault_of result) }
 {
-    // The cause is printed first, since what it prints is not known: so the text is known to begin as it should.
+    // The cause is printed first, since what it prints isn't known. So the message is known to
+    // begin as it should.
     let Ok(cause) = format!(in alloc; "{cause}") else {
         return Error::from(ErrorImpl::OutOfMemory);
     };

@@ -9,10 +9,25 @@ use std::fmt;
 use std::marker::Model;
 use std::num::{IntErrorKind, ParseIntError};
 
-/// What writing or reading answers: a value, or an [`Error`].
+/// The result of writing or reading: a value, or an [`Error`].
 pub type Result<T, E = Error> = std::result::Result<T, E>;
 
-/// Why a value could not be written or read. A contract sees it as its kind.
+/// The reason why a value could not be written or read.
+///
+/// An error prints the message that the Rust crate prints, and [`Error::kind`] returns its kind. It
+/// implements `std::error::Error`, so `?` carries it into `anyhow::Error`.
+///
+/// # Examples
+///
+/// ```rust
+/// use serde_dynamo::{AttributeValue, ErrorImpl, from_attribute_value};
+///
+/// let Err(error) = from_attribute_value::<u8>(alloc, AttributeValue::Bool(true)) else {
+///     anyhow::bail!("a boolean is no number");
+/// };
+/// assert!(*error.kind() == ErrorImpl::ExpectedNum);
+/// assert_eq!(error.to_string(alloc)?.as_str(), "Expected num");
+/// ```
 #[derive(Debug, Drop, PartialEq, Eq)]
 pub struct Error {
     kind: ErrorImpl,
@@ -29,7 +44,7 @@ impl Model for Error {
 }
 
 impl Error {
-    /// The kind of the fault, with its contents.
+    /// Returns the kind of the error, with its contents.
     pub fn kind(&self) -> &ErrorImpl
         ensures { result.now ≡ self.now }
     {
@@ -37,79 +52,80 @@ impl Error {
     }
 }
 
-/// The kinds of faults.
+/// The kinds of errors.
 #[derive(Debug, Drop, PartialEq, Eq)]
 pub enum ErrorImpl {
-    /// A fault that an implementation tells in a text of its own.
+    /// An error with a message of its own, as an implementation of `Serialize`, `Deserialize` or
+    /// `Visitor` reports it.
     Message(String),
 
-    /// A value was to be written as an item, and is no map.
+    /// The value was to be written as an item and isn't a map or a struct.
     NotMaplike,
 
-    /// A value was to be written as a set, and is no list.
+    /// The value was to be written as a set and isn't a list.
     NotSetlike,
 
-    /// A string was to be read.
+    /// A string was expected.
     ExpectedString,
 
-    /// A map was to be read.
+    /// A map was expected.
     ExpectedMap,
 
-    /// A list or a set was to be read.
+    /// A list or a set was expected.
     ExpectedSeq,
 
-    /// A number was to be read.
+    /// A number was expected.
     ExpectedNum,
 
-    /// A boolean was to be read.
+    /// A boolean was expected.
     ExpectedBool,
 
-    /// A string of one character was to be read.
+    /// A string of one character was expected.
     ExpectedChar,
 
-    /// Null was to be read.
+    /// Null was expected.
     ExpectedUnit,
 
-    /// Null was to be read, for a struct without fields.
+    /// Null was expected, for a struct without fields.
     ExpectedUnitStruct,
 
-    /// A string or a map was to be read, for an enum.
+    /// A string or a map was expected, for an enum.
     ExpectedEnum,
 
-    /// A byte string was to be read.
+    /// A byte string was expected.
     ExpectedBytes,
 
-    /// A map of one member was to be read, for a variant of an enum.
+    /// A map of one entry was expected, for a variant of an enum.
     ExpectedSingleKey,
 
-    /// The text is no integer of the type that was to be read.
+    /// The string isn't an integer of the expected type. It holds the string and the cause.
     FailedToParseInt(String, ParseIntError),
 
-    /// The text is no number.
+    /// The string isn't a number. It holds the string.
     FailedToParseFloat(String),
 
-    /// The key of a map writes as no text.
+    /// The key of a map is written as something that is no string.
     KeyMustBeAString,
 
-    /// A map was given a second key before the first had its value.
+    /// `serialize_key` was called again before `serialize_value`.
     SerializeMapKeyCalledTwice,
 
-    /// A map was given a value that no key waits for.
+    /// `serialize_value` was called before `serialize_key`.
     SerializeMapValueBeforeKey,
 
-    /// An element of a set of strings writes as something else.
+    /// An element of a set of strings is written as something else.
     StringSetExpectedType,
 
-    /// An element of a set of numbers writes as something else.
+    /// An element of a set of numbers is written as something else.
     NumberSetExpectedType,
 
-    /// An element of a set of byte strings writes as something else.
+    /// An element of a set of byte strings is written as something else.
     BinarySetExpectedType,
 
-    /// No memory was found.
+    /// Memory ran out.
     OutOfMemory,
 
-    /// A map was asked for a value before it was asked for a key.
+    /// `next_value` was called before `next_key`.
     MapValueBeforeKey,
 }
 
@@ -121,7 +137,7 @@ impl From<ErrorImpl> for Error {
     }
 }
 
-/// Want of memory is the kind [`ErrorImpl::OutOfMemory`].
+/// An [`AllocError`] becomes [`ErrorImpl::OutOfMemory`].
 impl From<AllocError> for Error {
     ghost from_gives = { λ _ e. fault_of e ≡ out_of_memory };
 
@@ -130,7 +146,8 @@ impl From<AllocError> for Error {
     }
 }
 
-/// What could not be stored is let go.
+/// An [`AllocFailed`] becomes [`ErrorImpl::OutOfMemory`]. The value that could not be stored is
+/// dropped.
 impl<T: Drop> From<AllocFailed<T>> for Error {
     ghost from_gives = { λ _ e. fault_of e ≡ out_of_memory };
 
@@ -202,7 +219,7 @@ impl std::error::Error for Error {}
 
 impl std::error::Error for ErrorImpl {}
 
-// What Rust's `ParseIntError` prints.
+// The message of Rust's `ParseIntError`.
 fn why_no_integer(cause: &ParseIntError) -> &'static str
     ensures { result.now ≡ integer_cause (error_kind cause.now) }
 {
@@ -215,7 +232,7 @@ fn why_no_integer(cause: &ParseIntError) -> &'static str
     }
 }
 
-// What Rust's `ParseFloatError` prints for the text.
+// The message of Rust's `ParseFloatError` for the string.
 fn why_no_float(text: &str) -> &'static str
     ensures { result.now ≡ float_cause text.now }
 {

@@ -12,6 +12,22 @@ use std::alloc::{AllocError, Global};
 use std::collections::HashMap;
 
 /// An item: attribute values by the names of their attributes.
+///
+/// Two items are equal if they have the same attributes with equal values. `clone` returns an equal
+/// item.
+///
+/// # Examples
+///
+/// ```rust
+/// use serde_dynamo::{AttributeValue, Item};
+/// use std::collections::HashMap;
+///
+/// let mut attributes = HashMap::new(alloc);
+/// drop(attributes.insert(String::from_str(alloc, "active")?, AttributeValue::Bool(true))?);
+/// let item = Item::from(attributes);
+/// assert!(matches!(item.get("active"), Some(AttributeValue::Bool(true))));
+/// assert!(item.get("age").is_none());
+/// ```
 #[derive(Debug, Drop)]
 pub struct Item {
     map: HashMap<String, AttributeValue>,
@@ -21,7 +37,7 @@ impl Item {
     ghost use Rattle.dynamo_value.specs.Table.{table_row};
     ghost use Rattle.dynamo_value.specs.contracts.item.Item.{the_row};
 
-    /// The item without attributes. It takes no memory.
+    /// Returns an item without attributes. It allocates nothing.
     pub fn new(alloc: Global) -> Self
         ensures { (map_of result).entries ≡ [] }
     {
@@ -30,14 +46,25 @@ impl Item {
         }
     }
 
-    /// The map, lent.
+    /// Returns the map of attributes.
     pub fn inner(&self) -> &HashMap<String, AttributeValue>
         ensures { result.now ≡ map_of self.now }
     {
         &self.map
     }
 
-    /// The map, lent for writing: what is left behind the reference is the item's map.
+    /// Returns the map of attributes for writing.
+    ///
+    /// # Examples
+    ///
+    /// ```rust
+    /// use serde_dynamo::{AttributeValue, Item};
+    ///
+    /// let mut item = Item::new(alloc);
+    /// let name = String::from_str(alloc, "active")?;
+    /// drop(item.inner_mut().insert(name, AttributeValue::Bool(true))?);
+    /// assert_eq!(item.inner().len(), 1);
+    /// ```
     pub fn inner_mut(&mut self) -> &mut HashMap<String, AttributeValue>
         ensures* writes_back { sem 𝓛 (Lends the_row table_row self.entry result item_of) }
         ensures value { result.now ≡ map_of self.old }
@@ -45,14 +72,14 @@ impl Item {
         &mut self.map
     }
 
-    /// The map, taken out.
+    /// Returns the map of attributes and consumes the item.
     pub fn into_inner(self) -> HashMap<String, AttributeValue>
         ensures { result ≡ map_of self }
     {
         HashMap::from(self)
     }
 
-    /// The value of the attribute of this name, where there is one.
+    /// Returns the value of the attribute with this name, or `None`.
     pub fn get(&self, key: &str) -> Option<&AttributeValue>
         ensures { option_map (λ a. a.now) result ≡ get_by_text (map_of self.now) key.now }
     {
@@ -60,7 +87,7 @@ impl Item {
     }
 }
 
-/// By value: the same attributes, each with the same value.
+/// Compares by value: the same attributes with equal values.
 impl PartialEq for Item {
     ghost eq = { λ a b. members_eq (item_view a) (item_view b) };
 
@@ -77,7 +104,7 @@ impl Eq for Item {
     ghost laws = { on_equiv item_view members_eq_equiv };
 }
 
-/// The clone is equal.
+/// The clone is equal. Returns [`AllocError`] if memory runs out.
 impl Clone for Item {
     ghost is_clone = { λ item copy. item_view copy ≡ item_view item };
 
@@ -88,7 +115,7 @@ impl Clone for Item {
     }
 }
 
-/// The same map.
+/// The item of this map.
 impl From<HashMap<String, AttributeValue>> for Item {
     ghost from_gives = { λ m item. map_of item ≡ m };
 
@@ -97,7 +124,7 @@ impl From<HashMap<String, AttributeValue>> for Item {
     }
 }
 
-/// The same map.
+/// The map of the item.
 impl From<Item> for HashMap<String, AttributeValue> {
     ghost from_gives = { λ item m. m ≡ map_of item };
 
@@ -106,13 +133,26 @@ impl From<Item> for HashMap<String, AttributeValue> {
     }
 }
 
-/// Items in order, each by its map.
+/// A list of items, each kept as its map.
+///
+/// # Examples
+///
+/// ```rust
+/// use serde_dynamo::{AttributeValue, Items, from_items};
+/// use std::collections::HashMap;
+///
+/// let mut attributes = HashMap::new(alloc);
+/// drop(attributes.insert(String::from_str(alloc, "active")?, AttributeValue::Bool(true))?);
+/// let items = Items::from(vec![in alloc; attributes]?);
+/// let rows: Vec<HashMap<String, bool>> = from_items(alloc, items)?;
+/// assert_eq!(rows.len(), 1);
+/// ```
 #[derive(Debug, Drop)]
 pub struct Items {
     maps: Vec<HashMap<String, AttributeValue>>,
 }
 
-/// By value: as many items, each with the same attributes as the other in its place.
+/// Compares by value: as many items, each equal to the other one at its index.
 impl PartialEq for Items {
     ghost eq = { λ a b. items_eq (items_view a) (items_view b) };
 
@@ -137,7 +177,7 @@ impl Eq for Items {
     ghost laws = { on_equiv items_view items_eq_equiv };
 }
 
-/// The clone is equal.
+/// The clone is equal. Returns [`AllocError`] if memory runs out.
 impl Clone for Items {
     ghost is_clone = { λ items copy. items_view copy ≡ items_view items };
 
@@ -150,7 +190,7 @@ impl Clone for Items {
     }
 }
 
-/// The same maps, in order.
+/// The items of these maps, in order.
 impl From<Vec<HashMap<String, AttributeValue>>> for Items {
     ghost from_gives = { λ maps items. maps_of items ≡ maps.items };
 
@@ -159,7 +199,7 @@ impl From<Vec<HashMap<String, AttributeValue>>> for Items {
     }
 }
 
-/// The same maps, in order.
+/// The maps of the items, in order.
 impl From<Items> for Vec<HashMap<String, AttributeValue>> {
     ghost from_gives = { λ items maps. maps.items ≡ maps_of items };
 

@@ -1,5 +1,5 @@
-//! DynamoDB's values: attribute values, items, byte strings, borrowed text, and the faults of writing and reading
-//! them.
+//! DynamoDB's data: attribute values, items, byte strings, borrowed strings, and the errors of
+//! writing and reading them.
 #![tactic(auto)]
 
 mod attribute_value;

@@ -2,8 +2,18 @@ ghost use Rattle.std.specs.Prelude.{◌≡◌, option_map};
 ghost use Rattle.dynamo_value.specs.Prefix.{prefix_of, prefix_text};
 ghost use Rattle.dynamo_value.specs.PrefixView.{prefix_view};
 
-/// The key that names the kind of an attribute value in DynamoDB JSON: a data type descriptor of DynamoDB's low-level API,
-/// as `S` in `{"S": "Hello"}`.
+/// The key that names the kind of an attribute value in DynamoDB JSON, as `S` in `{"S": "Hello"}`
+/// (DynamoDB's developer guide, "Data type descriptors").
+///
+/// # Examples
+///
+/// ```rust
+/// use dynamo_value::Prefix;
+///
+/// assert!(matches!(Prefix::named("BOOL"), Some(Prefix::Bool)));
+/// assert!(Prefix::named("bool").is_none());
+/// assert_eq!(Prefix::Ss.as_str(), "SS");
+/// ```
 #[derive(Clone, Copy, Debug, PartialEq, Eq)]
 pub enum Prefix {
     /// `N`, a number.
@@ -38,7 +48,7 @@ pub enum Prefix {
 }
 
 impl Prefix {
-    /// The prefix of this text, where it is one of the ten. Case counts: `bool` is none.
+    /// Returns the prefix with this name, or `None`. Case matters.
     pub fn named(text: &str) -> Option<Prefix>
         ensures { option_map prefix_view result ≡ prefix_of text.now }
     {
@@ -57,7 +67,7 @@ impl Prefix {
         }
     }
 
-    /// The text of the prefix.
+    /// Returns the name of the prefix.
     pub fn as_str(self) -> &'static str
         ensures { result.now ≡ prefix_text (prefix_view self) }
     {

@@ -1,4 +1,5 @@
-//! The messages by which reading DynamoDB JSON refuses. Each answers want of memory where there is none for its text.
+//! The errors of reading DynamoDB JSON. Each function returns [`ErrorImpl::OutOfMemory`] instead if
+//! memory runs out for its message.
 
 ghost use Rattle.std.specs.Prelude.{◌≡◌, Some, MatchResult, string_bytes};
 ghost use Rattle.dynamo_value.specs.Fault as fault;
@@ -10,14 +11,14 @@ ghost use Rattle.dynamo_value.specs.SingleKey as single;
 use crate::{Error, ErrorImpl, Prefix};
 use std::alloc::{AllocError, Global};
 
-/// The fault of this message.
+/// Returns an error with this message.
 pub fn message(alloc: Global, text: &str) -> Error
     ensures { Refused (Some (refusal.fault (fault.message text.now))) (fault_of result) }
 {
     of_text(String::from_str(alloc, text))
 }
 
-/// The refusal of what should be an attribute value and is no object.
+/// Returns the error for JSON that should be an attribute value and isn't an object.
 pub fn not_an_object(alloc: Global) -> Error
     ensures { Refused (Some single.not_an_object) (fault_of result) }
 {
@@ -27,14 +28,14 @@ pub fn not_an_object(alloc: Global) -> Error
     )
 }
 
-/// The refusal of an object without a key.
+/// Returns the error for an object without a key.
 pub fn no_key(alloc: Global) -> Error
     ensures { Refused (Some single.no_key) (fault_of result) }
 {
     message(alloc, "Expected exactly one key in the object, found none")
 }
 
-/// The refusal of an object with two keys or more.
+/// Returns the error for an object with several keys.
 pub fn several_keys(alloc: Global) -> Error
     ensures { Refused (Some single.several_keys) (fault_of result) }
 {
@@ -44,14 +45,15 @@ pub fn several_keys(alloc: Global) -> Error
     )
 }
 
-/// The refusal of an object whose one key is no prefix.
+/// Returns the error for an object whose only key isn't a prefix.
 pub fn unknown_key(alloc: Global, key: &str) -> Error
     ensures { Refused (Some (single.unknown_key key.now)) (fault_of result) }
 {
     of_text(format!(in alloc; "The key '{key}' is not a known DynamoDB prefix"))
 }
 
-/// The refusal of what stands under a prefix and is not of the JSON kind that the prefix asks for. Its text is not promised.
+/// Returns the error for a value of another JSON kind than its prefix asks for. Its message isn't
+/// promised.
 pub fn wrong_content(alloc: Global, prefix: Prefix) -> Error
     ensures { Refused (Some refusal.any_message) (fault_of result) }
 {
@@ -66,7 +68,7 @@ pub fn wrong_content(alloc: Global, prefix: Prefix) -> Error
     of_text(format!(in alloc; "invalid type under the key '{key}': expected {expected}"))
 }
 
-// The fault of a message that was made, or not for want of memory.
+// The error of a message, or out of memory if the message could not be made.
 pub(crate) fn of_text(made: Result<String, AllocError>) -> Error
     ensures { MatchResult made (λ text. fault_of result ≡ fault.message (string_bytes text)) (λ _. fault_of result ≡ fault.out_of_memory) }
 {

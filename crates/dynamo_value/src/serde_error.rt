@@ -1,4 +1,5 @@
-//! The trait of errors, in a module of its own, since [`Error`](crate::Error) is also the name of a type.
+//! The trait of errors. It has a module of its own, since [`Error`](crate::Error) is also the name
+//! of a type.
 ghost use Rattle.std.specs.Prelude.{◌≡◌, ◌⊎◌};
 ghost use Rattle.dynamo_value.specs.Fault.{Fault, message, out_of_memory};
 ghost use Rattle.dynamo_value.specs.Kind.{fault_of};
@@ -6,17 +7,17 @@ ghost use Rattle.dynamo_value.specs.Kind.{fault_of};
 use crate::ErrorImpl;
 use std::alloc::Global;
 
-/// What the error type of a serializer or of a reader can be made of, as serde's `ser::Error` and `de::Error`.
+/// The error of a serializer or a reader, as serde's `ser::Error` and `de::Error`.
 pub trait Error: Sized + Drop {
-    // The fault that an error stands for.
+    // The fault of an error.
     ghost fault: { Self → Fault };
 
-    /// The refusal of an implementation, with a text of its own. Where no memory is found for the text, the error is
-    /// that of [`Error::out_of_memory`].
+    /// Returns an error with this message, or that of [`Error::out_of_memory`] if memory runs out
+    /// for the message.
     fn custom(alloc: Global, text: &str) -> Self
         ensures { (fault result ≡ message text.now) ⊎ (fault result ≡ out_of_memory) };
 
-    /// The refusal for want of memory. It takes none.
+    /// Returns the error for out of memory. It allocates nothing.
     fn out_of_memory() -> Self
         ensures { fault result ≡ out_of_memory };
 }
