@@ -7,29 +7,68 @@ use crate::{Deserializer, Error};
 use std::alloc::Global;
 use std::marker::PhantomData;
 
-/// A type whose values can be read.
+/// A type whose values can be read, as serde's `Deserialize`.
+///
+/// # Examples
+///
+/// ```rust
+/// ghost use Rattle.dynamo_de.specs.Answer.{Gives};
+/// ghost use Rattle.dynamo_de.specs.Reading.{read_integer};
+/// ghost use Rattle.dynamo_value.specs.Integer as integers;
+/// ghost use Rattle.std.specs.Prelude.{pos};
+///
+/// use serde_dynamo::de::{Deserialize, Deserializer};
+/// use serde_dynamo::{AttributeValue, from_attribute_value};
+/// use std::alloc::Global;
+///
+/// #[derive(Drop)]
+/// struct Age(u8);
+///
+/// impl Deserialize for Age {
+///     ghost reads = { λ s. Gives (λ age. pos age.0) (read_integer integers.u8 s) };
+///
+///     fn deserialize<D: Deserializer>(alloc: Global, deserializer: D) -> Result<Age, D::Error> {
+///         Ok(Age(u8::deserialize(alloc, deserializer)?))
+///     }
+/// }
+///
+/// let value = AttributeValue::N(String::from_str(alloc, "42")?);
+/// let age: Age = from_attribute_value(alloc, value)?;
+/// assert_eq!(age.0, 42);
+/// ```
 pub trait Deserialize: Sized + Drop {
-    // What the type may answer on each source: a value, or a fault.
+    // The results that the type permits for each source: values or faults.
     ghost reads: { Source → Result Self Fault → Type 0 };
 
-    /// Reads a value. The answer is one that the type permits on the reader's source, or want of memory.
+    /// Reads a value.
+    ///
+    /// # Errors
+    ///
+    /// Returns an error of the deserializer or of the type, as the ghost member `reads` has it.
+    /// Returns the error for out of memory if memory runs out.
     fn deserialize<D: Deserializer>(alloc: Global, deserializer: D) -> Result<Self, D::Error>
         ensures { Meets D.Error.fault (reads (D.source deserializer)) result };
 }
 
-/// What reads a value and knows more than its type.
+/// A reader of values that has some state, as serde's `DeserializeSeed`.
 pub trait DeserializeSeed: Sized + Drop {
+    /// The type of the value.
     type Value: Drop;
 
-    // What the seed may answer on each source: a value, or a fault.
+    // The results that the seed permits for each source: values or faults.
     ghost reads: { Self → Source → Result Self.Value Fault → Type 0 };
 
-    /// Reads a value. The answer is one that the seed permits on the reader's source, or want of memory.
+    /// Reads a value.
+    ///
+    /// # Errors
+    ///
+    /// Returns an error of the deserializer or of the seed, as the ghost member `reads` has it.
+    /// Returns the error for out of memory if memory runs out.
     fn deserialize<D: Deserializer>(self, deserializer: D) -> Result<Self::Value, D::Error>
         ensures { Meets D.Error.fault (reads self (D.source deserializer)) result };
 }
 
-/// The seed that reads a `T` as its type says, where serde has `PhantomData<T>`.
+/// The seed that reads a `T` by `T::deserialize`. serde has `PhantomData<T>` for it.
 #[derive(Drop)]
 pub struct TypeSeed<T> {
     alloc: Global,
@@ -37,7 +76,7 @@ pub struct TypeSeed<T> {
 }
 
 impl<T> TypeSeed<T> {
-    /// The seed of `T`. It takes no memory.
+    /// Returns the seed of `T`. It allocates nothing.
     pub fn new(alloc: Global) -> Self {
         TypeSeed {
             alloc,

@@ -5,7 +5,7 @@ ghost use Rattle.dynamo_de.specs.declared.request.Request.TheVariants as request
 use crate::reader_access::{ReaderEnumAccess, ReaderMapAccess, ReaderSeqAccess};
 use crate::{Reader, Request, Showing, Visitor};
 
-/// Shows a visitor what a reader shows.
+/// Calls the visitor with what a reader shows.
 fn offer<R: Reader, V: Visitor>(
     showing: Showing<R, R::Elements, R::Entries, R::Choice>,
     visitor: V,
@@ -42,12 +42,17 @@ fn offer<R: Reader, V: Visitor>(
     }
 }
 
-/// What a value is read from, as serde's `Deserializer`. Every [`Reader`] is one.
+/// A deserializer, as serde's. Every [`Reader`] is one.
 ///
-/// Each call asks for one form of data and hands a visitor what the reader's source shows at that request. It answers what
-/// the visitor makes of it, or the fault that the source meets in its place.
+/// Each method asks for one kind of data, and calls the visitor with what the source holds. It
+/// returns what the visitor makes of it, or the deserializer's own error.
 pub trait Deserializer: Reader {
-    /// Asks for whatever is there.
+    /// Asks for whatever the source holds.
+    ///
+    /// # Errors
+    ///
+    /// Returns an error if the source holds other data, if the visitor refuses the data, or if
+    /// memory runs out.
     final fn deserialize_any<V: Visitor>(self, visitor: V) -> Result<V::Value, Self::Error>
         ensures { Asks Self.Error.fault (V.claimed visitor) (V.takes visitor) request.Any (Self.source self) result }
     {
@@ -55,6 +60,11 @@ pub trait Deserializer: Reader {
     }
 
     /// Asks for a boolean.
+    ///
+    /// # Errors
+    ///
+    /// Returns an error if the source holds other data, if the visitor refuses the data, or if
+    /// memory runs out.
     final fn deserialize_bool<V: Visitor>(self, visitor: V) -> Result<V::Value, Self::Error>
         ensures { Asks Self.Error.fault (V.claimed visitor) (V.takes visitor) request.Bool (Self.source self) result }
     {
@@ -62,6 +72,11 @@ pub trait Deserializer: Reader {
     }
 
     /// Asks for an `i8`.
+    ///
+    /// # Errors
+    ///
+    /// Returns an error if the source holds other data, if the visitor refuses the data, or if
+    /// memory runs out.
     final fn deserialize_i8<V: Visitor>(self, visitor: V) -> Result<V::Value, Self::Error>
         ensures { Asks Self.Error.fault (V.claimed visitor) (V.takes visitor) request.I8 (Self.source self) result }
     {
@@ -69,6 +84,11 @@ pub trait Deserializer: Reader {
     }
 
     /// Asks for an `i16`.
+    ///
+    /// # Errors
+    ///
+    /// Returns an error if the source holds other data, if the visitor refuses the data, or if
+    /// memory runs out.
     final fn deserialize_i16<V: Visitor>(self, visitor: V) -> Result<V::Value, Self::Error>
         ensures { Asks Self.Error.fault (V.claimed visitor) (V.takes visitor) request.I16 (Self.source self) result }
     {
@@ -76,6 +96,11 @@ pub trait Deserializer: Reader {
     }
 
     /// Asks for an `i32`.
+    ///
+    /// # Errors
+    ///
+    /// Returns an error if the source holds other data, if the visitor refuses the data, or if
+    /// memory runs out.
     final fn deserialize_i32<V: Visitor>(self, visitor: V) -> Result<V::Value, Self::Error>
         ensures { Asks Self.Error.fault (V.claimed visitor) (V.takes visitor) request.I32 (Self.source self) result }
     {
@@ -83,6 +108,11 @@ pub trait Deserializer: Reader {
     }
 
     /// Asks for an `i64`.
+    ///
+    /// # Errors
+    ///
+    /// Returns an error if the source holds other data, if the visitor refuses the data, or if
+    /// memory runs out.
     final fn deserialize_i64<V: Visitor>(self, visitor: V) -> Result<V::Value, Self::Error>
         ensures { Asks Self.Error.fault (V.claimed visitor) (V.takes visitor) request.I64 (Self.source self) result }
     {
@@ -90,6 +120,11 @@ pub trait Deserializer: Reader {
     }
 
     /// Asks for an `i128`.
+    ///
+    /// # Errors
+    ///
+    /// Returns an error if the source holds other data, if the visitor refuses the data, or if
+    /// memory runs out.
     final fn deserialize_i128<V: Visitor>(self, visitor: V) -> Result<V::Value, Self::Error>
         ensures { Asks Self.Error.fault (V.claimed visitor) (V.takes visitor) request.I128 (Self.source self) result }
     {
@@ -97,6 +132,11 @@ pub trait Deserializer: Reader {
     }
 
     /// Asks for a `u8`.
+    ///
+    /// # Errors
+    ///
+    /// Returns an error if the source holds other data, if the visitor refuses the data, or if
+    /// memory runs out.
     final fn deserialize_u8<V: Visitor>(self, visitor: V) -> Result<V::Value, Self::Error>
         ensures { Asks Self.Error.fault (V.claimed visitor) (V.takes visitor) request.U8 (Self.source self) result }
     {
@@ -104,6 +144,11 @@ pub trait Deserializer: Reader {
     }
 
     /// Asks for a `u16`.
+    ///
+    /// # Errors
+    ///
+    /// Returns an error if the source holds other data, if the visitor refuses the data, or if
+    /// memory runs out.
     final fn deserialize_u16<V: Visitor>(self, visitor: V) -> Result<V::Value, Self::Error>
         ensures { Asks Self.Error.fault (V.claimed visitor) (V.takes visitor) request.U16 (Self.source self) result }
     {
@@ -111,6 +156,11 @@ pub trait Deserializer: Reader {
     }
 
     /// Asks for a `u32`.
+    ///
+    /// # Errors
+    ///
+    /// Returns an error if the source holds other data, if the visitor refuses the data, or if
+    /// memory runs out.
     final fn deserialize_u32<V: Visitor>(self, visitor: V) -> Result<V::Value, Self::Error>
         ensures { Asks Self.Error.fault (V.claimed visitor) (V.takes visitor) request.U32 (Self.source self) result }
     {
@@ -118,6 +168,11 @@ pub trait Deserializer: Reader {
     }
 
     /// Asks for a `u64`.
+    ///
+    /// # Errors
+    ///
+    /// Returns an error if the source holds other data, if the visitor refuses the data, or if
+    /// memory runs out.
     final fn deserialize_u64<V: Visitor>(self, visitor: V) -> Result<V::Value, Self::Error>
         ensures { Asks Self.Error.fault (V.claimed visitor) (V.takes visitor) request.U64 (Self.source self) result }
     {
@@ -125,6 +180,11 @@ pub trait Deserializer: Reader {
     }
 
     /// Asks for a `u128`.
+    ///
+    /// # Errors
+    ///
+    /// Returns an error if the source holds other data, if the visitor refuses the data, or if
+    /// memory runs out.
     final fn deserialize_u128<V: Visitor>(self, visitor: V) -> Result<V::Value, Self::Error>
         ensures { Asks Self.Error.fault (V.claimed visitor) (V.takes visitor) request.U128 (Self.source self) result }
     {
@@ -132,20 +192,35 @@ pub trait Deserializer: Reader {
     }
 
     /// Asks for a character.
+    ///
+    /// # Errors
+    ///
+    /// Returns an error if the source holds other data, if the visitor refuses the data, or if
+    /// memory runs out.
     final fn deserialize_char<V: Visitor>(self, visitor: V) -> Result<V::Value, Self::Error>
         ensures { Asks Self.Error.fault (V.claimed visitor) (V.takes visitor) request.Char (Self.source self) result }
     {
         offer::<Self, V>(self.show(Request::Char)?, visitor)
     }
 
-    /// Asks for a text.
+    /// Asks for a string.
+    ///
+    /// # Errors
+    ///
+    /// Returns an error if the source holds other data, if the visitor refuses the data, or if
+    /// memory runs out.
     final fn deserialize_str<V: Visitor>(self, visitor: V) -> Result<V::Value, Self::Error>
         ensures { Asks Self.Error.fault (V.claimed visitor) (V.takes visitor) request.Str (Self.source self) result }
     {
         offer::<Self, V>(self.show(Request::Str)?, visitor)
     }
 
-    /// Asks for a text that is given away.
+    /// Asks for an owned string.
+    ///
+    /// # Errors
+    ///
+    /// Returns an error if the source holds other data, if the visitor refuses the data, or if
+    /// memory runs out.
     final fn deserialize_string<V: Visitor>(self, visitor: V) -> Result<V::Value, Self::Error>
         ensures { Asks Self.Error.fault (V.claimed visitor) (V.takes visitor) request.String (Self.source self) result }
     {
@@ -153,13 +228,23 @@ pub trait Deserializer: Reader {
     }
 
     /// Asks for a byte string.
+    ///
+    /// # Errors
+    ///
+    /// Returns an error if the source holds other data, if the visitor refuses the data, or if
+    /// memory runs out.
     final fn deserialize_bytes<V: Visitor>(self, visitor: V) -> Result<V::Value, Self::Error>
         ensures { Asks Self.Error.fault (V.claimed visitor) (V.takes visitor) request.Bytes (Self.source self) result }
     {
         offer::<Self, V>(self.show(Request::Bytes)?, visitor)
     }
 
-    /// Asks for a byte string that is given away.
+    /// Asks for an owned byte string.
+    ///
+    /// # Errors
+    ///
+    /// Returns an error if the source holds other data, if the visitor refuses the data, or if
+    /// memory runs out.
     final fn deserialize_byte_buf<V: Visitor>(self, visitor: V) -> Result<V::Value, Self::Error>
         ensures { Asks Self.Error.fault (V.claimed visitor) (V.takes visitor) request.ByteBuf (Self.source self) result }
     {
@@ -167,20 +252,35 @@ pub trait Deserializer: Reader {
     }
 
     /// Asks for an option.
+    ///
+    /// # Errors
+    ///
+    /// Returns an error if the source holds other data, if the visitor refuses the data, or if
+    /// memory runs out.
     final fn deserialize_option<V: Visitor>(self, visitor: V) -> Result<V::Value, Self::Error>
         ensures { Asks Self.Error.fault (V.claimed visitor) (V.takes visitor) request.Option (Self.source self) result }
     {
         offer::<Self, V>(self.show(Request::Option)?, visitor)
     }
 
-    /// Asks for unit.
+    /// Asks for a unit.
+    ///
+    /// # Errors
+    ///
+    /// Returns an error if the source holds other data, if the visitor refuses the data, or if
+    /// memory runs out.
     final fn deserialize_unit<V: Visitor>(self, visitor: V) -> Result<V::Value, Self::Error>
         ensures { Asks Self.Error.fault (V.claimed visitor) (V.takes visitor) request.Unit (Self.source self) result }
     {
         offer::<Self, V>(self.show(Request::Unit)?, visitor)
     }
 
-    /// Asks for a struct without fields.
+    /// Asks for a unit struct. The name isn't used.
+    ///
+    /// # Errors
+    ///
+    /// Returns an error if the source holds other data, if the visitor refuses the data, or if
+    /// memory runs out.
     final fn deserialize_unit_struct<V: Visitor>(
         self,
         _name: &'static str,
@@ -191,7 +291,12 @@ pub trait Deserializer: Reader {
         offer::<Self, V>(self.show(Request::UnitStruct)?, visitor)
     }
 
-    /// Asks for a newtype.
+    /// Asks for a newtype struct. The name isn't used.
+    ///
+    /// # Errors
+    ///
+    /// Returns an error if the source holds other data, if the visitor refuses the data, or if
+    /// memory runs out.
     final fn deserialize_newtype_struct<V: Visitor>(
         self,
         _name: &'static str,
@@ -203,13 +308,23 @@ pub trait Deserializer: Reader {
     }
 
     /// Asks for a sequence.
+    ///
+    /// # Errors
+    ///
+    /// Returns an error if the source holds other data, if the visitor refuses the data, or if
+    /// memory runs out.
     final fn deserialize_seq<V: Visitor>(self, visitor: V) -> Result<V::Value, Self::Error>
         ensures { Asks Self.Error.fault (V.claimed visitor) (V.takes visitor) request.Seq (Self.source self) result }
     {
         offer::<Self, V>(self.show(Request::Seq)?, visitor)
     }
 
-    /// Asks for a tuple.
+    /// Asks for a tuple. The length isn't used.
+    ///
+    /// # Errors
+    ///
+    /// Returns an error if the source holds other data, if the visitor refuses the data, or if
+    /// memory runs out.
     final fn deserialize_tuple<V: Visitor>(
         self,
         _len: usize,
@@ -220,7 +335,12 @@ pub trait Deserializer: Reader {
         offer::<Self, V>(self.show(Request::Tuple)?, visitor)
     }
 
-    /// Asks for a tuple struct.
+    /// Asks for a tuple struct. The name and the length aren't used.
+    ///
+    /// # Errors
+    ///
+    /// Returns an error if the source holds other data, if the visitor refuses the data, or if
+    /// memory runs out.
     final fn deserialize_tuple_struct<V: Visitor>(
         self,
         _name: &'static str,
@@ -233,13 +353,23 @@ pub trait Deserializer: Reader {
     }
 
     /// Asks for a map.
+    ///
+    /// # Errors
+    ///
+    /// Returns an error if the source holds other data, if the visitor refuses the data, or if
+    /// memory runs out.
     final fn deserialize_map<V: Visitor>(self, visitor: V) -> Result<V::Value, Self::Error>
         ensures { Asks Self.Error.fault (V.claimed visitor) (V.takes visitor) request.Map (Self.source self) result }
     {
         offer::<Self, V>(self.show(Request::Map)?, visitor)
     }
 
-    /// Asks for a struct.
+    /// Asks for a struct. The names aren't used.
+    ///
+    /// # Errors
+    ///
+    /// Returns an error if the source holds other data, if the visitor refuses the data, or if
+    /// memory runs out.
     final fn deserialize_struct<V: Visitor>(
         self,
         _name: &'static str,
@@ -251,7 +381,12 @@ pub trait Deserializer: Reader {
         offer::<Self, V>(self.show(Request::Struct)?, visitor)
     }
 
-    /// Asks for an enum.
+    /// Asks for an enum. The names aren't used.
+    ///
+    /// # Errors
+    ///
+    /// Returns an error if the source holds other data, if the visitor refuses the data, or if
+    /// memory runs out.
     final fn deserialize_enum<V: Visitor>(
         self,
         _name: &'static str,
@@ -263,14 +398,24 @@ pub trait Deserializer: Reader {
         offer::<Self, V>(self.show(Request::Enum)?, visitor)
     }
 
-    /// Asks for the name of a field or of a variant.
+    /// Asks for the name of a field or a variant.
+    ///
+    /// # Errors
+    ///
+    /// Returns an error if the source holds other data, if the visitor refuses the data, or if
+    /// memory runs out.
     final fn deserialize_identifier<V: Visitor>(self, visitor: V) -> Result<V::Value, Self::Error>
         ensures { Asks Self.Error.fault (V.claimed visitor) (V.takes visitor) request.Identifier (Self.source self) result }
     {
         offer::<Self, V>(self.show(Request::Identifier)?, visitor)
     }
 
-    /// Asks for whatever is there, to be let go.
+    /// Asks for whatever the source holds, to drop it.
+    ///
+    /// # Errors
+    ///
+    /// Returns an error if the source holds other data, if the visitor refuses the data, or if
+    /// memory runs out.
     final fn deserialize_ignored_any<V: Visitor>(self, visitor: V) -> Result<V::Value, Self::Error>
         ensures { Asks Self.Error.fault (V.claimed visitor) (V.takes visitor) request.IgnoredAny (Self.source self) result }
     {

@@ -5,7 +5,18 @@ ghost use Rattle.dynamo_de.specs.Meets.{Meets};
 use crate::{Deserialize, Deserializer, Inside, Reader};
 use std::alloc::Global;
 
-/// Whatever is there, read and let go: all that lies inside is read as ignored-any too, and its first fault is the fault.
+/// Any data, read and dropped. All data inside it is read in the same way, and its first error is
+/// the error.
+///
+/// # Examples
+///
+/// ```rust
+/// use serde_dynamo::de::IgnoredAny;
+/// use serde_dynamo::{AttributeValue, from_attribute_value};
+///
+/// let value = AttributeValue::Bool(true);
+/// assert_eq!(from_attribute_value::<IgnoredAny>(alloc, value)?, IgnoredAny);
+/// ```
 #[derive(Clone, Copy, Debug, Drop, PartialEq, Eq)]
 pub struct IgnoredAny;
 
@@ -21,7 +32,7 @@ impl Deserialize for IgnoredAny {
     }
 }
 
-/// Reads a source and lets it go.
+/// Reads a source and drops it.
 #[cycle(ignore)]
 #[tactic(auto, using(crate::proofs::Ignored::ignored_as_inside))]
 fn ignore<R: Reader>(reader: R) -> Result<(), R::Error>

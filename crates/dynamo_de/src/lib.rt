@@ -1,15 +1,17 @@
-//! The reading side of serde's data model: readers show what their source holds, visitors make values of it.
+//! The reading side of serde's data model.
 //!
-//! Who writes a type, a visitor or a seed sees serde: `impl Deserialize`, with [`Deserializer`]'s requests, [`Visitor`] and
-//! the four accesses. Who writes a reader gives the calls of [`Reader`], which show without visitors; serde's requests come
-//! with them.
+//! To read values of a type, implement [`Deserialize`] with the requests of [`Deserializer`], a
+//! [`Visitor`] and the four accesses, as in serde. To write a deserializer, implement [`Reader`],
+//! whose methods know nothing of visitors. The requests of [`Deserializer`] come with them.
 //!
-//! A `serde_json::Value` reads whatever JSON has a form for: a unit and `None` as null, whole numbers of 64 bits, a map as
-//! an object. A number that no 64 bits hold, a float among them, and a byte string are refused by a message.
+//! A `serde_json::Value` reads all data that JSON has: a unit and `None` as null, whole numbers of
+//! 64 bits, a map as an object. Any other number, a float among them, and a byte string are refused
+//! with a message.
 //!
-//! An `AttributeValue` reads its DynamoDB JSON: a map of one entry, whose key is the prefix of its kind, as in
-//! `{"S": "Hello"}`; an `Item` reads a map of these. What isn't in that form is refused by the messages of DynamoDB JSON. Of
-//! a map with several entries either that is the fault, or one that an entry has by itself: it is open which.
+//! An `AttributeValue` reads its DynamoDB JSON: a map of one entry, whose key is the prefix of its
+//! kind, as in `{"S": "Hello"}`. An `Item` reads a map of these. Data of any other form is refused
+//! with the messages of DynamoDB JSON. For a map with several entries the message is the one for
+//! several keys, or that of an entry that is wrong by itself: which one isn't promised.
 #![tactic(auto)]
 
 mod access;

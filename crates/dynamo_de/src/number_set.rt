@@ -1,10 +1,17 @@
-//! Reading a list that is written as a set of numbers.
+//! Reads a list that is written as a set of numbers.
 ghost use Rattle.dynamo_de.specs.Meets.{Meets};
 
 use crate::{Deserialize, Deserializer, Error};
 use std::alloc::Global;
 
-/// Reads the value as its type says: a list reads from `Ns` as from `L`.
+/// Reads a value of any type: a list reads from `Ns` as from `L`.
+///
+/// It is the counterpart of [`serialize`](dynamo_ser::number_set::serialize), for an `impl
+/// Deserialize` that reads its own set.
+///
+/// # Errors
+///
+/// Returns the error of reading the value by its type.
 pub fn deserialize<T: Deserialize, D: Deserializer>(
     alloc: Global,
     deserializer: D,

@@ -8,21 +8,21 @@ use crate::{
 };
 use std::alloc::Global;
 
-/// The elements that a reader shows.
+/// The elements of a reader's sequence.
 #[derive(Drop)]
 pub struct ReaderSeqAccess<R: Reader> {
     elements: R::Elements,
 }
 
 impl<R: Reader> ReaderSeqAccess<R> {
-    /// The access to these elements. It takes no memory.
+    /// Returns the access to these elements. It allocates nothing.
     pub fn new(elements: R::Elements) -> Self
         ensures { result.elements ≡ elements }
     {
         ReaderSeqAccess { elements }
     }
 
-    /// The elements that aren't read yet, lent.
+    /// Returns the remaining elements.
     pub fn elements(&self) -> &R::Elements
         ensures { result.now ≡ self.now.elements }
     {
@@ -55,7 +55,7 @@ impl<R: Reader> SeqAccess for ReaderSeqAccess<R> {
         self.next_element_seed(TypeSeed::<T>::new(alloc))
     }
 
-    /// How many elements are left, where the reader counts them.
+    /// Returns the number of remaining elements, if the reader counts them.
     fn size_hint(&self) -> Option<usize>
         ensures hint { Hints (R.elements self.now.elements) result }
         ensures exact { result ≡ hint_of (R.counted self.now.elements) (R.elements self.now.elements) }
@@ -64,7 +64,7 @@ impl<R: Reader> SeqAccess for ReaderSeqAccess<R> {
     }
 }
 
-/// The entries that a reader shows, and a value whose key was read.
+/// The entries of a reader's map, and the pending value, whose key was read last.
 #[derive(Drop)]
 pub struct ReaderMapAccess<R: Reader> {
     entries: R::Entries,
@@ -72,7 +72,7 @@ pub struct ReaderMapAccess<R: Reader> {
 }
 
 impl<R: Reader> ReaderMapAccess<R> {
-    /// The access to these entries. It takes no memory.
+    /// Returns the access to these entries. It allocates nothing.
     pub fn new(entries: R::Entries) -> Self
         ensures entries { result.entries ≡ entries }
         ensures pending { result.pending ≡ None }
@@ -83,7 +83,7 @@ impl<R: Reader> ReaderMapAccess<R> {
         }
     }
 
-    /// The entries that aren't read yet, lent.
+    /// Returns the remaining entries.
     pub fn entries(&self) -> &R::Entries
         ensures { result.now ≡ self.now.entries }
     {
@@ -118,14 +118,14 @@ impl<R: Reader> MapAccess for ReaderMapAccess<R> {
     }
 }
 
-/// The variant that a reader shows.
+/// The variant of a reader's enum.
 #[derive(Drop)]
 pub struct ReaderEnumAccess<R: Reader> {
     choice: R::Choice,
 }
 
 impl<R: Reader> ReaderEnumAccess<R> {
-    /// The access to this variant. It takes no memory.
+    /// Returns the access to this variant. It allocates nothing.
     pub fn new(choice: R::Choice) -> Self
         ensures { result.choice ≡ choice }
     {
@@ -151,7 +151,7 @@ impl<R: Reader> EnumAccess for ReaderEnumAccess<R> {
     }
 }
 
-/// The content of a variant that a reader shows.
+/// The content of a reader's variant.
 #[derive(Drop)]
 pub struct ReaderVariantAccess<R: Reader> {
     alloc: Global,

@@ -1,33 +1,63 @@
-/// What a reader is asked for: one for each `deserialize_` call of [`Deserializer`](crate::Deserializer).
+/// The kinds of data that a reader can be asked for: one for each method of
+/// [`Deserializer`](crate::Deserializer).
 #[derive(Clone, Copy, Debug, PartialEq, Eq)]
 pub enum Request {
+    /// Whatever the source holds.
     Any,
+    /// A boolean.
     Bool,
+    /// An `i8`.
     I8,
+    /// An `i16`.
     I16,
+    /// An `i32`.
     I32,
+    /// An `i64`.
     I64,
+    /// An `i128`.
     I128,
+    /// A `u8`.
     U8,
+    /// A `u16`.
     U16,
+    /// A `u32`.
     U32,
+    /// A `u64`.
     U64,
+    /// A `u128`.
     U128,
+    /// A character.
     Char,
+    /// A string.
     Str,
+    /// An owned string.
     String,
+    /// A byte string.
     Bytes,
+    /// An owned byte string.
     ByteBuf,
+    /// An option.
     Option,
+    /// A unit.
     Unit,
+    /// A unit struct.
     UnitStruct,
+    /// A newtype struct.
     NewtypeStruct,
+    /// A sequence.
     Seq,
+    /// A tuple.
     Tuple,
+    /// A tuple struct.
     TupleStruct,
+    /// A map.
     Map,
+    /// A struct.
     Struct,
+    /// A variant of an enum.
     Enum,
+    /// The name of a field or a variant.
     Identifier,
+    /// Whatever the source holds, to drop it.
     IgnoredAny,
 }

@@ -9,53 +9,75 @@ use crate::taken::invalid_type;
 use crate::{Error, Kind};
 use std::alloc::Global;
 
-/// What a [`Reader`](crate::Reader) shows. `D` reads what lies inside, `L` has the elements of a sequence, `M` the entries
-/// of a map, `C` a variant.
+/// What a [`Reader`](crate::Reader) finds in its source. `D` reads a content, `L` has the elements
+/// of a sequence, `M` the entries of a map, `C` a variant.
 #[derive(Drop)]
 pub enum Showing<D, L, M, C> {
+    /// A boolean.
     Bool(bool),
+    /// An `i8`.
     I8(i8),
+    /// An `i16`.
     I16(i16),
+    /// An `i32`.
     I32(i32),
+    /// An `i64`.
     I64(i64),
+    /// An `i128`.
     I128(i128),
+    /// A `u8`.
     U8(u8),
+    /// A `u16`.
     U16(u16),
+    /// A `u32`.
     U32(u32),
+    /// A `u64`.
     U64(u64),
+    /// A `u128`.
     U128(u128),
-    /// A number that neither an `i64` nor a `u64` holds, by its text.
+    /// A number that neither an `i64` nor a `u64` holds, as its string.
     NumberText(String),
+    /// A character.
     Char(char),
-    /// The first character of a text that has more.
+    /// The first character of a string that has several.
     FirstChar(char),
+    /// A string.
     Text(String),
+    /// A byte string.
     Bytes(Vec<u8>),
+    /// `None`.
     None,
+    /// A unit.
     Unit,
     /// The content of an option.
     Some(D),
-    /// The content of a newtype.
+    /// The content of a newtype struct.
     Newtype(D),
+    /// The elements of a sequence.
     Sequence(L),
+    /// The entries of a map.
     Map(M),
+    /// A variant of an enum.
     Enum(C),
 }
 
-/// What is shown, without what lies inside of it.
+/// What a reader finds, without contents.
 pub type Surface = Showing<(), (), (), ()>;
 
-/// What lies inside of what is shown, without the rest of it: the elements of a sequence, the entries of a map, and of
-/// anything else nothing.
+/// The elements or the entries that a reader finds.
 #[derive(Drop)]
 pub enum Inside<L, M> {
+    /// Neither: a scalar, a content or a variant.
     Nothing,
+    /// The elements of a sequence.
     Elements(L),
+    /// The entries of a map.
     Entries(M),
 }
 
 impl<D, L, M, C> Showing<D, L, M, C> {
-    /// The refusal of what a type doesn't take, as `invalid type: string, expected a boolean`. What is shown is let go.
+    /// Returns the error for data that a type doesn't take, as `invalid type: string, expected a
+    /// boolean`. The data is dropped.
     #[inline(always)]
     pub fn refused<E: Error>(self, alloc: Global, expecting: &str) -> E
     where
@@ -68,7 +90,7 @@ impl<D, L, M, C> Showing<D, L, M, C> {
         invalid_type(alloc, self.kind(), expecting)
     }
 
-    /// The kind of what is shown, for the text of a refusal.
+    /// Returns the kind of the data, for an error's message.
     pub fn kind(&self) -> Kind {
         match self {
             Showing::Bool(_) => Kind::Bool,
@@ -96,7 +118,7 @@ impl<D, L, M, C> Showing<D, L, M, C> {
         }
     }
 
-    /// The same without what lies inside, which is let go.
+    /// Returns the same without its contents, which are dropped.
     pub fn surface(self) -> Surface
     where
         D: Drop,
@@ -132,7 +154,7 @@ impl<D, L, M, C> Showing<D, L, M, C> {
         }
     }
 
-    /// Returns the elements or the entries that lie inside, and drops the rest.
+    /// Returns the elements or the entries, and drops the rest.
     pub fn inside(self) -> Inside<L, M>
     where
         D: Drop,

@@ -1,4 +1,5 @@
-//! What types take of what a reader shows: the parts of which several are made, and the refusal of all else.
+//! Parts that several types share: the entries, the elements or the name that a reader finds, and
+//! the error for other data.
 
 ghost use Rattle.std.specs.Prelude.{◌≡◌, ◌⊎◌, Err, string_bytes};
 ghost use Rattle.dynamo_value.specs.Fault.{out_of_memory};
@@ -12,7 +13,7 @@ use crate::impls::char_text;
 use crate::{Error, Kind, Reader, Request, Showing};
 use std::alloc::Global;
 
-/// The refusal of a kind that isn't taken, as `invalid type: string, expected a boolean`.
+/// Returns the error for a kind that isn't expected, as `invalid type: string, expected a boolean`.
 pub fn invalid_type<E: Error>(alloc: Global, shown: Kind, expecting: &str) -> E
     ensures { (E.fault result ≡ out_of_memory) ⊎ IsMessage {V = E} (Err (E.fault result)) }
 {
@@ -28,8 +29,9 @@ pub fn invalid_type<E: Error>(alloc: Global, shown: Kind, expecting: &str) -> E
     }
 }
 
-/// The refusal of what isn't taken: a message that names what was shown and what was expected. A visitor that claims the
-/// kind and has no call of its own for it is refused as for want of memory.
+/// Returns the error for a kind that a visitor doesn't take: a message that names what was found
+/// and what was expected. If the visitor claims the kind and has no method of its own for it, it is
+/// the error for out of memory.
 pub(crate) fn refuse<E: Error, V>(
     alloc: Global,
     shown: Kind,
@@ -44,11 +46,12 @@ pub(crate) fn refuse<E: Error, V>(
     Err(invalid_type(alloc, shown, expecting))
 }
 
-/// The entries of a map that is asked for.
+/// Asks for a map, and returns its entries.
 ///
 /// # Errors
 ///
-/// What is shown in place of a map is refused by a message that names what was expected.
+/// Returns an error with a message that names what was expected if the source holds something else.
+/// Returns the reader's error if it refuses the request, or if memory runs out.
 #[inline(never)]
 pub fn entries_of<R: Reader>(
     alloc: Global,
@@ -63,11 +66,13 @@ pub fn entries_of<R: Reader>(
     }
 }
 
-/// The elements of a sequence, which is asked for by this request: as a sequence, a tuple or a tuple struct.
+/// Asks for a sequence by this request, which is [`Request::Seq`], [`Request::Tuple`] or
+/// [`Request::TupleStruct`], and returns its elements.
 ///
 /// # Errors
 ///
-/// What is shown in place of a sequence is refused by a message that names what was expected.
+/// Returns an error with a message that names what was expected if the source holds something else.
+/// Returns the reader's error if it refuses the request, or if memory runs out.
 #[inline(never)]
 pub fn elements_of<R: Reader>(
     alloc: Global,
@@ -83,11 +88,12 @@ pub fn elements_of<R: Reader>(
     }
 }
 
-/// The name of a field or of a variant.
+/// Asks for the name of a field or a variant, and returns it.
 ///
 /// # Errors
 ///
-/// What is shown in place of a text is refused by a message that names what was expected.
+/// Returns an error with a message that names what was expected if the source holds something else.
+/// Returns the reader's error if it refuses the request, or if memory runs out.
 pub fn identifier_of<R: Reader>(
     alloc: Global,
     reader: R,

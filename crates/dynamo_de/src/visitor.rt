@@ -10,30 +10,39 @@ use crate::taken::refuse;
 use crate::{Deserializer, EnumAccess, Error, Kind, MapAccess, SeqAccess};
 use std::alloc::Global;
 
-/// What makes a value of what a reader shows, as serde's `Visitor`.
+/// Makes a value of the data that a deserializer finds, as serde's `Visitor`.
 ///
-/// A visitor names the kinds that it takes in [`Visitor::claims`] and gives each of these a body. The provided bodies hand
-/// a narrow integer on as one of 64 bits, a character and a text that is given away as a lent text, a byte string that is
-/// given away as a lent one; all others refuse by a message.
+/// A visitor lists the kinds that it takes in [`Visitor::claims`], and implements the `visit_`
+/// method of each of these. The provided methods pass a narrow integer on to that of 64 bits, a
+/// character and an owned string on to `visit_str`, and an owned byte string on to `visit_bytes`.
+/// All others return an error as `invalid type: string, expected a boolean`.
+///
+/// If a visitor claims a kind and doesn't implement its method, the provided method returns the
+/// error for out of memory.
 pub trait Visitor: Sized + Drop {
+    /// The value that the visitor makes.
     type Value: Drop;
 
-    // The kinds that have a body of their own, and what is answered to them.
+    // The kinds with a method of their own, and the results that these permit.
     ghost claimed: { Self → Kind → Bool };
 
     ghost takes: { Self → Sight → Result Self.Value Fault → Type 0 };
 
-    /// What the visitor takes, for the text of a refusal: it stands behind `expected `.
+    /// Returns what the visitor expects, as an error's message has it after `expected `.
     fn expecting(&self) -> &'static str;
 
-    /// Where the memory of a refusal's text comes from.
+    /// Returns the allocator of an error's message.
     fn alloc(&self) -> Global;
 
-    /// Whether there is a body of the visitor's own for this kind. Give one to each kind that is claimed.
+    /// Returns whether the visitor implements the method of this kind.
     fn claims(&self, kind: Kind) -> bool
         ensures { result ≡ claimed self.now kind };
 
-    /// A boolean.
+    /// Takes a boolean.
+    ///
+    /// # Errors
+    ///
+    /// Returns an error if the visitor refuses the data, or if memory runs out.
     fn visit_bool<E: Error>(self, v: bool) -> Result<Self::Value, E>
         ensures { Visits E.fault (claimed self) (takes self) (sight.boolean v) result }
     {
@@ -45,7 +54,11 @@ pub trait Visitor: Sized + Drop {
         )
     }
 
-    /// An `i8`: as an `i64`, unless the visitor says otherwise.
+    /// Takes an `i8`. The provided method passes it on to `visit_i64`.
+    ///
+    /// # Errors
+    ///
+    /// Returns an error if the visitor refuses the data, or if memory runs out.
     fn visit_i8<E: Error>(self, v: i8) -> Result<Self::Value, E>
         ensures { Visits E.fault (claimed self) (takes self) (sight.integer integers.i8 v) result }
     {
@@ -55,7 +68,11 @@ pub trait Visitor: Sized + Drop {
         self.visit_i64(i64::from(v))
     }
 
-    /// An `i16`: as an `i64`, unless the visitor says otherwise.
+    /// Takes an `i16`. The provided method passes it on to `visit_i64`.
+    ///
+    /// # Errors
+    ///
+    /// Returns an error if the visitor refuses the data, or if memory runs out.
     fn visit_i16<E: Error>(self, v: i16) -> Result<Self::Value, E>
         ensures { Visits E.fault (claimed self) (takes self) (sight.integer integers.i16 v) result }
     {
@@ -65,7 +82,11 @@ pub trait Visitor: Sized + Drop {
         self.visit_i64(i64::from(v))
     }
 
-    /// An `i32`: as an `i64`, unless the visitor says otherwise.
+    /// Takes an `i32`. The provided method passes it on to `visit_i64`.
+    ///
+    /// # Errors
+    ///
+    /// Returns an error if the visitor refuses the data, or if memory runs out.
     fn visit_i32<E: Error>(self, v: i32) -> Result<Self::Value, E>
         ensures { Visits E.fault (claimed self) (takes self) (sight.integer integers.i32 v) result }
     {
@@ -75,7 +96,11 @@ pub trait Visitor: Sized + Drop {
         self.visit_i64(i64::from(v))
     }
 
-    /// An `i64`.
+    /// Takes an `i64`.
+    ///
+    /// # Errors
+    ///
+    /// Returns an error if the visitor refuses the data, or if memory runs out.
     fn visit_i64<E: Error>(self, v: i64) -> Result<Self::Value, E>
         ensures { Visits E.fault (claimed self) (takes self) (sight.integer integers.i64 v) result }
     {
@@ -87,7 +112,11 @@ pub trait Visitor: Sized + Drop {
         )
     }
 
-    /// An `i128`.
+    /// Takes an `i128`.
+    ///
+    /// # Errors
+    ///
+    /// Returns an error if the visitor refuses the data, or if memory runs out.
     fn visit_i128<E: Error>(self, v: i128) -> Result<Self::Value, E>
         ensures { Visits E.fault (claimed self) (takes self) (sight.integer integers.i128 v) result }
     {
@@ -99,7 +128,11 @@ pub trait Visitor: Sized + Drop {
         )
     }
 
-    /// A `u8`: as a `u64`, unless the visitor says otherwise.
+    /// Takes a `u8`. The provided method passes it on to `visit_u64`.
+    ///
+    /// # Errors
+    ///
+    /// Returns an error if the visitor refuses the data, or if memory runs out.
     fn visit_u8<E: Error>(self, v: u8) -> Result<Self::Value, E>
         ensures { Visits E.fault (claimed self) (takes self) (sight.integer integers.u8 (pos v)) result }
     {
@@ -109,7 +142,11 @@ pub trait Visitor: Sized + Drop {
         self.visit_u64(u64::from(v))
     }
 
-    /// A `u16`: as a `u64`, unless the visitor says otherwise.
+    /// Takes a `u16`. The provided method passes it on to `visit_u64`.
+    ///
+    /// # Errors
+    ///
+    /// Returns an error if the visitor refuses the data, or if memory runs out.
     fn visit_u16<E: Error>(self, v: u16) -> Result<Self::Value, E>
         ensures { Visits E.fault (claimed self) (takes self) (sight.integer integers.u16 (pos v)) result }
     {
@@ -119,7 +156,11 @@ pub trait Visitor: Sized + Drop {
         self.visit_u64(u64::from(v))
     }
 
-    /// A `u32`: as a `u64`, unless the visitor says otherwise.
+    /// Takes a `u32`. The provided method passes it on to `visit_u64`.
+    ///
+    /// # Errors
+    ///
+    /// Returns an error if the visitor refuses the data, or if memory runs out.
     fn visit_u32<E: Error>(self, v: u32) -> Result<Self::Value, E>
         ensures { Visits E.fault (claimed self) (takes self) (sight.integer integers.u32 (pos v)) result }
     {
@@ -129,7 +170,11 @@ pub trait Visitor: Sized + Drop {
         self.visit_u64(u64::from(v))
     }
 
-    /// A `u64`.
+    /// Takes a `u64`.
+    ///
+    /// # Errors
+    ///
+    /// Returns an error if the visitor refuses the data, or if memory runs out.
     fn visit_u64<E: Error>(self, v: u64) -> Result<Self::Value, E>
         ensures { Visits E.fault (claimed self) (takes self) (sight.integer integers.u64 (pos v)) result }
     {
@@ -141,7 +186,11 @@ pub trait Visitor: Sized + Drop {
         )
     }
 
-    /// A `u128`.
+    /// Takes a `u128`.
+    ///
+    /// # Errors
+    ///
+    /// Returns an error if the visitor refuses the data, or if memory runs out.
     fn visit_u128<E: Error>(self, v: u128) -> Result<Self::Value, E>
         ensures { Visits E.fault (claimed self) (takes self) (sight.integer integers.u128 (pos v)) result }
     {
@@ -153,7 +202,11 @@ pub trait Visitor: Sized + Drop {
         )
     }
 
-    /// A number that neither an `i64` nor a `u64` holds, by its text.
+    /// Takes a number that neither an `i64` nor a `u64` holds, as its string.
+    ///
+    /// # Errors
+    ///
+    /// Returns an error if the visitor refuses the data, or if memory runs out.
     fn visit_number_text<E: Error>(self, v: &str) -> Result<Self::Value, E>
         ensures { Visits E.fault (claimed self) (takes self) (sight.number_text v.now) result }
     {
@@ -165,7 +218,11 @@ pub trait Visitor: Sized + Drop {
         )
     }
 
-    /// A character: as its text, unless the visitor says otherwise.
+    /// Takes a character. The provided method passes it on to `visit_str`.
+    ///
+    /// # Errors
+    ///
+    /// Returns an error if the visitor refuses the data, or if memory runs out.
     fn visit_char<E: Error>(self, v: char) -> Result<Self::Value, E>
         ensures { Visits E.fault (claimed self) (takes self) (sight.char v) result }
     {
@@ -176,7 +233,11 @@ pub trait Visitor: Sized + Drop {
         self.visit_str(v.encode_utf8(&mut buffer))
     }
 
-    /// A text, lent.
+    /// Takes a string.
+    ///
+    /// # Errors
+    ///
+    /// Returns an error if the visitor refuses the data, or if memory runs out.
     fn visit_str<E: Error>(self, v: &str) -> Result<Self::Value, E>
         ensures { Visits E.fault (claimed self) (takes self) (sight.text v.now) result }
     {
@@ -188,14 +249,22 @@ pub trait Visitor: Sized + Drop {
         )
     }
 
-    /// A text, given away: as a lent one, unless the visitor says otherwise.
+    /// Takes an owned string. The provided method passes it on to `visit_str`.
+    ///
+    /// # Errors
+    ///
+    /// Returns an error if the visitor refuses the data, or if memory runs out.
     fn visit_string<E: Error>(self, v: String) -> Result<Self::Value, E>
         ensures { Visits E.fault (claimed self) (takes self) (sight.text (string_bytes v)) result }
     {
         self.visit_str(v.as_str())
     }
 
-    /// A byte string, lent.
+    /// Takes a byte string.
+    ///
+    /// # Errors
+    ///
+    /// Returns an error if the visitor refuses the data, or if memory runs out.
     fn visit_bytes<E: Error>(self, v: &[u8]) -> Result<Self::Value, E>
         ensures { Visits E.fault (claimed self) (takes self) (sight.bytes v.now) result }
     {
@@ -207,14 +276,22 @@ pub trait Visitor: Sized + Drop {
         )
     }
 
-    /// A byte string, given away: as a lent one, unless the visitor says otherwise.
+    /// Takes an owned byte string. The provided method passes it on to `visit_bytes`.
+    ///
+    /// # Errors
+    ///
+    /// Returns an error if the visitor refuses the data, or if memory runs out.
     fn visit_byte_buf<E: Error>(self, v: Vec<u8>) -> Result<Self::Value, E>
         ensures { Visits E.fault (claimed self) (takes self) (sight.bytes v.items) result }
     {
         self.visit_bytes(v.as_slice())
     }
 
-    /// No content.
+    /// Takes `None`.
+    ///
+    /// # Errors
+    ///
+    /// Returns an error if the visitor refuses the data, or if memory runs out.
     fn visit_none<E: Error>(self) -> Result<Self::Value, E>
         ensures { Visits E.fault (claimed self) (takes self) (sight.none) result }
     {
@@ -226,7 +303,12 @@ pub trait Visitor: Sized + Drop {
         )
     }
 
-    /// The content of an option.
+    /// Takes the content of an option.
+    ///
+    /// # Errors
+    ///
+    /// Returns an error if the visitor refuses the data, if reading the content fails, or if memory
+    /// runs out.
     fn visit_some<D: Deserializer>(self, deserializer: D) -> Result<Self::Value, D::Error>
         ensures { Visits D.Error.fault (claimed self) (takes self) (sight.some (D.source deserializer)) result }
     {
@@ -238,7 +320,11 @@ pub trait Visitor: Sized + Drop {
         )
     }
 
-    /// Unit.
+    /// Takes a unit.
+    ///
+    /// # Errors
+    ///
+    /// Returns an error if the visitor refuses the data, or if memory runs out.
     fn visit_unit<E: Error>(self) -> Result<Self::Value, E>
         ensures { Visits E.fault (claimed self) (takes self) (sight.unit) result }
     {
@@ -250,7 +336,12 @@ pub trait Visitor: Sized + Drop {
         )
     }
 
-    /// The content of a newtype.
+    /// Takes the content of a newtype struct.
+    ///
+    /// # Errors
+    ///
+    /// Returns an error if the visitor refuses the data, if reading the content fails, or if memory
+    /// runs out.
     fn visit_newtype_struct<D: Deserializer>(self, deserializer: D) -> Result<Self::Value, D::Error>
         ensures { Visits D.Error.fault (claimed self) (takes self) (sight.newtype (D.source deserializer)) result }
     {
@@ -262,7 +353,12 @@ pub trait Visitor: Sized + Drop {
         )
     }
 
-    /// The elements of a sequence.
+    /// Takes the elements of a sequence.
+    ///
+    /// # Errors
+    ///
+    /// Returns an error if the visitor refuses the data, if reading an element fails, or if memory
+    /// runs out.
     fn visit_seq<A: SeqAccess>(self, seq: A) -> Result<Self::Value, A::Error>
         ensures { Visits A.Error.fault (claimed self) (takes self) (sight.sequence (A.left seq)) result }
     {
@@ -274,7 +370,12 @@ pub trait Visitor: Sized + Drop {
         )
     }
 
-    /// The entries of a map, none of whose values is pending.
+    /// Takes the entries of a map, whose first key isn't read yet.
+    ///
+    /// # Errors
+    ///
+    /// Returns an error if the visitor refuses the data, if reading an entry fails, or if memory
+    /// runs out.
     fn visit_map<A: MapAccess>(self, map: A) -> Result<Self::Value, A::Error>
         ensures { (A.left map).pending ≡ None → Visits A.Error.fault (claimed self) (takes self) (sight.entries (A.left map).entries) result }
     {
@@ -286,7 +387,12 @@ pub trait Visitor: Sized + Drop {
         )
     }
 
-    /// A variant of an enum.
+    /// Takes a variant of an enum.
+    ///
+    /// # Errors
+    ///
+    /// Returns an error if the visitor refuses the data, if reading the variant fails, or if memory
+    /// runs out.
     fn visit_enum<A: EnumAccess>(self, variant: A) -> Result<Self::Value, A::Error>
         ensures { Visits A.Error.fault (claimed self) (takes self) (sight.variant (A.chosen variant)) result }
     {

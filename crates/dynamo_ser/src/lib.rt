@@ -1,20 +1,23 @@
-//! The writing side of serde's data model: values tell data, serializers take them.
+//! The writing side of serde's data model.
 //!
-//! Who writes a type sees serde: `impl Serialize`, with [`Serializer`]'s calls and the seven builders. Who writes a
-//! serializer gives [`Outcomes`], the calls of [`Serializer`] that take finished scalars, and for the builders the small
-//! calls of [`ListBuilder`], [`SerializeMap`] and [`StructBuilder`]; serde's calls that take a `&T` come with them.
+//! To write values of a type, implement [`Serialize`] with the calls of [`Serializer`] and its
+//! seven builders, as in serde. To write a serializer, implement [`Outcomes`], the calls of
+//! [`Serializer`] for scalars, and the few methods of [`ListBuilder`], [`SerializeMap`] and
+//! [`StructBuilder`]. The calls that take a `&T` come with them.
 //!
-//! Scalars, texts, byte strings, options, boxes, references, lists, tuples and maps are written as they are. A list is
-//! written as one of DynamoDB's sets by [`string_set`], [`number_set`] and [`binary_set`], or by the wrappers
-//! [`StringSet`], [`NumberSet`] and [`BinarySet`].
+//! These types are written here: booleans, integers, `char`, `String`, `Text`, `Bytes`, `ByteBuf`,
+//! options, boxes, references, `Vec`, tuples of two to four elements, `HashMap` and `BTreeMap`. A
+//! list is written as one of DynamoDB's sets by [`string_set`], [`number_set`] and [`binary_set`],
+//! or by the wrappers [`StringSet`], [`NumberSet`] and [`BinarySet`].
 //!
-//! A `serde_json::Value` is written as what it is: null as a unit, a whole number as a `u64`, or an `i64` where it is
-//! negative, an array as a sequence, an object as a map in the order of its keys. A float, which this data model doesn't
-//! have, is refused by the message `JSON floats are not supported`.
+//! A `serde_json::Value` is written as serde_json does: null as a unit, a whole number as a `u64`,
+//! or as an `i64` if it is negative, an array as a sequence, an object as a map in the order of its
+//! keys. This data model has no floats, so a float is refused with the message `JSON floats are not
+//! supported`.
 //!
-//! An `AttributeValue` is written as its DynamoDB JSON: a map of one pair, whose key is the prefix of its kind, as in
-//! `{"S": "Hello"}`. A number is its text, a byte string its base64 text, a set a sequence under its prefix. An `Item` is
-//! the map of its attributes.
+//! An `AttributeValue` is written as its DynamoDB JSON: a map of one entry, whose key is the prefix
+//! of its kind, as in `{"S": "Hello"}`. A number is written as its string, a byte string as its
+//! base64 string, a set as a sequence. An `Item` is written as the map of its attributes.
 #![tactic(auto)]
 
 pub mod binary_set;

@@ -9,19 +9,21 @@ use crate::{
 use dynamo_value::{Error, ErrorImpl, Result};
 use std::alloc::Global;
 
-/// The writer of map keys: it writes the text of a key, and refuses by `KeyMustBeAString` what has none.
+/// The serializer of map keys: it writes a key as a string, and refuses any other with
+/// [`ErrorImpl::KeyMustBeAString`].
 #[derive(Clone, Copy)]
 pub struct MapKeySerializer {
     alloc: Global,
 }
 
 impl MapKeySerializer {
+    /// Returns the serializer.
     pub fn new(alloc: Global) -> MapKeySerializer {
         MapKeySerializer { alloc }
     }
 }
 
-// The refusal of what has no text.
+// The error for a key that isn't written as a string.
 fn no_key() -> Error
     ensures { result ≡ ErrorImpl.KeyMustBeAString }
 {
@@ -192,7 +194,8 @@ impl Serializer for MapKeySerializer {
     }
 }
 
-/// The builder of what is no key. The serializer hands out none; one that is made refuses whatever it is given.
+/// The builder of what can't be a key. The serializer never returns one. If one is made, it refuses
+/// all that it is given.
 #[derive(Drop)]
 pub struct NoKey {
     alloc: Global,

@@ -6,20 +6,23 @@ ghost use Rattle.dynamo_ser.specs.Datum.{Datum};
 use crate::Error;
 use std::alloc::Global;
 
-/// What a serializer answers: the part of [`Serializer`](crate::Serializer) that its builders know of it.
+/// The results of a serializer: the part of [`Serializer`](crate::Serializer) that its builders
+/// know of.
 pub trait Outcomes: Sized + Drop {
-    /// What is answered for a datum that is written.
+    /// The value that a written datum gives.
     type Ok: Drop;
 
-    /// What is answered for a datum that is refused.
+    /// The error of a serializer.
     type Error: Error;
 
-    // The answers that a datum may have, want of memory among them where writing the datum may take memory.
+    // The results that a datum may have, out of memory among them where writing the datum may
+    // allocate.
     ghost outcome: { Self → Datum → Result Self.Ok Self.Error → Type 0 };
 
-    /// The allocator of what is written. A value that makes a text of its own, or a message, takes it from here.
+    /// Returns the allocator of what is written. A value that builds a string or a message takes it
+    /// from here.
     fn alloc(&self) -> Global;
 
-    // An implementation's own refusal may be handed on.
+    // An implementation's own error may be passed on.
     ghost refusal: { (s : Self) (text : List ℕ) (e : Self.Error) → Self.Error.fault e ≡ message text → outcome s (datum.refuse text) (Err e) };
 }

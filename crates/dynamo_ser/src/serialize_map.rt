@@ -12,59 +12,75 @@ use std::alloc::Global;
 
 /// The builder of a map, as serde's: `{"one": 1, "two": 2}`.
 ///
-/// Keys are written as texts by one writer for all serializers. Who writes a serializer gives the small calls from
-/// `alloc` to `push_entry`, and `end`; serde's calls come with them.
+/// All serializers write keys in the same way, as strings. To write a serializer, implement the
+/// methods from `alloc` to `push_entry`, and `end`. The methods that take a `&T` come with them.
 pub trait SerializeMap<S: Outcomes<Ok = Self::Ok, Error = Self::Error>>: Sized + Drop {
+    /// The value that a written map gives.
     type Ok: Drop;
 
+    /// The serializer's error.
     type Error: Error;
 
-    // What is answered where these pairs follow, and then the end. A key that is pending counts for nothing.
+    // The results if these pairs follow, and then the end. A pending key has no part in it.
     ghost gives: { Self → Pairs → Result Self.Ok Self.Error → Type 0 };
 
-    // The text of the key that waits for its value.
+    // The pending key: a key whose value is missing.
     ghost pending: { Self → Option (List ℕ) };
 
     // The serializer of each value.
     ghost writer: { Self → S };
 
-    /// The allocator of the keys' texts.
+    /// Returns the allocator of keys.
     fn alloc(&self) -> Global;
 
-    /// The serializer's error of this fault.
+    /// Returns the serializer's error for this one.
     fn refused(&self, error: dynamo_value::Error) -> Self::Error
         ensures fault { Self.Error.fault result ≡ fault_of error }
         ensures passes_on { PassesOnKey gives self.now error result };
 
-    /// Whether a key waits for its value.
+    /// Returns whether a key is pending.
     fn has_key(&self) -> bool
         ensures { result ≡ is_some (pending self.now) };
 
-    /// Lets a key wait for its value.
+    /// Makes a key pending.
     fn set_key(&mut self, key: String)
         ensures pending { pending self.new ≡ Some (string_bytes key) }
         ensures keeps { Keeps gives self.old self.new };
 
-    /// Takes the key that waits for its value.
+    /// Takes the pending key, if there is one.
     fn take_key(&mut self) -> Option<String>
         ensures taken { option_map string_bytes result ≡ pending self.old }
         ensures pending { pending self.new ≡ None }
         ensures keeps { Keeps gives self.old self.new };
 
-    /// The serializer of the next value.
+    /// Returns the serializer of the next value.
     fn value_serializer(&self) -> S
         ensures same { result ≡ writer self.now }
         ensures passes_on { PassesOnValue Self.Error.fault (S.outcome result) gives self.now };
 
-    /// Takes what was written for a value, under the text of its key.
+    /// Adds a written value under its key.
+    ///
+    /// # Errors
+    ///
+    /// Returns an error if the serializer refuses the entry, or if memory runs out.
     fn push_entry(&mut self, key: String, written: Self::Ok) -> Result<(), Self::Error>
         ensures takes { TakesEntry (string_bytes key) (S.outcome (writer self.old)) written gives self.old self.new result }
         ensures pending { pending self.new ≡ pending self.old };
 
-    /// Writes a key, which then waits for its value.
+    /// Writes a key and makes it pending.
     ///
-    /// While a key waits, a second one is refused unread by `SerializeMapKeyCalledTwice`, and the first goes on waiting.
-    /// A key that is refused leaves none waiting. The entries so far stay.
+    /// The entries so far stay. A key that is refused leaves none pending.
+    ///
+    /// # Errors
+    ///
+    /// Returns the serializer's error for [`ErrorImpl::SerializeMapKeyCalledTwice`] if a key is
+    /// pending already. That key stays pending and `key` isn't read.
+    ///
+    /// Returns the error for [`ErrorImpl::KeyMustBeAString`] if the key isn't written as a string,
+    /// a number, a boolean, a character or a unit variant, or as a newtype struct of one of these.
+    ///
+    /// Returns the error for an error of the key itself, or for [`ErrorImpl::OutOfMemory`] if
+    /// memory runs out.
     final fn serialize_key<K: Serialize>(&mut self, key: &K) -> Result<(), Self::Error>
         ensures twice { (text : List ℕ) → Self.pending self.old ≡ Some text → MatchResult result (λ _. ⊥) (λ e. (Self.Error.fault e ≡ serialize_map_key_called_twice) × (self.new ≡ self.old)) }
         ensures takes { Self.pending self.old ≡ None → MatchResult result
@@ -87,10 +103,17 @@ pub trait SerializeMap<S: Outcomes<Ok = Self::Ok, Error = Self::Error>>: Sized +
         }
     }
 
-    /// Writes the value of the key that waits.
+    /// Writes the value of the pending key.
     ///
-    /// Where no key waits it is refused unread by `SerializeMapValueBeforeKey`. The key is taken first, so that a value
-    /// that is refused has lost its key. The entries so far stay.
+    /// The key is taken first, so a value that is refused has lost its key. The entries so far
+    /// stay.
+    ///
+    /// # Errors
+    ///
+    /// Returns the serializer's error for [`ErrorImpl::SerializeMapValueBeforeKey`] if no key is
+    /// pending. `value` isn't read then.
+    ///
+    /// Returns the error of the value if the serializer refuses it, or if memory runs out.
     final fn serialize_value<V: Serialize>(&mut self, value: &V) -> Result<(), Self::Error>
     where
         S: Serializer,
@@ -110,7 +133,12 @@ pub trait SerializeMap<S: Outcomes<Ok = Self::Ok, Error = Self::Error>>: Sized +
         }
     }
 
-    /// Writes a key and then its value. A key that waits goes on waiting. The entries so far stay.
+    /// Writes a key and its value. A pending key stays pending, and the entries so far stay.
+    ///
+    /// # Errors
+    ///
+    /// Returns the error of the key, as [`serialize_key`](Self::serialize_key) does for a key that
+    /// isn't pending, or that of the value.
     final fn serialize_entry<K: Serialize, V: Serialize>(
         &mut self,
         key: &K,
@@ -130,7 +158,11 @@ pub trait SerializeMap<S: Outcomes<Ok = Self::Ok, Error = Self::Error>>: Sized +
         }
     }
 
-    /// Ends the map. A key that waits is dropped.
+    /// Ends the map. A pending key is dropped.
+    ///
+    /// # Errors
+    ///
+    /// Returns an error if the serializer refuses the map, or if memory runs out.
     fn end(self) -> Result<Self::Ok, Self::Error>
         ensures { gives self no_pairs result };
 }

@@ -10,111 +10,194 @@ use crate::{
     SerializeTuple, SerializeTupleStruct, SerializeTupleVariant,
 };
 
-/// What stands around one content.
+/// What wraps a content.
 #[derive(Clone, Copy)]
 pub enum Wrapper {
     /// `Some(content)`.
     Option,
 
-    /// `struct Name(content)`.
+    /// `struct Name(content)`: the struct's name.
     NewtypeStruct(&'static str),
 
     /// `Variant(content)` of an enum: the enum's name, the variant's index and the variant's name.
     NewtypeVariant(&'static str, u32, &'static str),
 }
 
-/// A serializer, as serde's: it takes a datum of serde's data model, one call for each kind.
+/// A serializer, as serde's: it takes a value of serde's data model, with one call for each kind.
 ///
-/// Names and indices are those of the declaration. A length is a hint: it need not be the number of pieces that follow.
+/// Names and indices are those of the declaration. A length is a hint: it need not be the number of
+/// elements that follow. Which values are refused, and with which errors, is for each serializer to
+/// say: `dynamo_write::Serializer` says it for attribute values.
 pub trait Serializer: Outcomes {
     ghost use Rattle.dynamo_ser.specs.declared.serializer.Wrapper.{Wrapper};
 
+    /// The builder of sequences.
     type SerializeSeq: SerializeSeq<Self, Ok = Self::Ok, Error = Self::Error>;
 
+    /// The builder of tuples.
     type SerializeTuple: SerializeTuple<Self, Ok = Self::Ok, Error = Self::Error>;
 
+    /// The builder of tuple structs.
     type SerializeTupleStruct: SerializeTupleStruct<Self, Ok = Self::Ok, Error = Self::Error>;
 
+    /// The builder of tuple variants.
     type SerializeTupleVariant: SerializeTupleVariant<Self, Ok = Self::Ok, Error = Self::Error>;
 
+    /// The builder of maps.
     type SerializeMap: SerializeMap<Self, Ok = Self::Ok, Error = Self::Error>;
 
+    /// The builder of structs.
     type SerializeStruct: SerializeStruct<Self, Ok = Self::Ok, Error = Self::Error>;
 
+    /// The builder of struct variants.
     type SerializeStructVariant: SerializeStructVariant<Self, Ok = Self::Ok, Error = Self::Error>;
 
     // The serializer of a content.
     ghost content: { Self → Wrapper → Self };
 
-    /// The serializer of a content, under [`serialize_some`](Self::serialize_some) and the two newtype calls.
+    /// Returns the serializer of a content, for [`serialize_some`](Self::serialize_some) and the
+    /// two newtype calls.
+    ///
+    /// # Errors
+    ///
+    /// Returns an error if the serializer refuses every value with this wrapper, or if memory runs
+    /// out.
     fn content_serializer(&self, wrapper: Wrapper) -> Result<Self, Self::Error>
         ensures { BeginsContent Self.outcome (wrapped wrapper) (content self.now wrapper) self.now result };
 
-    /// What is answered where this was written for the content.
+    /// Returns the result of the wrapper, given what was written for its content.
+    ///
+    /// # Errors
+    ///
+    /// Returns an error if the serializer refuses the wrapped value, or if memory runs out.
     fn wrap(self, wrapper: Wrapper, written: Self::Ok) -> Result<Self::Ok, Self::Error>
         ensures { (d : Datum) → Self.outcome (content self wrapper) d (Ok written) → Self.outcome self (wrapped wrapper d) result };
 
-    /// A boolean.
+    /// Writes a `bool`.
+    ///
+    /// # Errors
+    ///
+    /// Returns an error if the serializer refuses the value, or if memory runs out.
     fn serialize_bool(self, v: bool) -> Result<Self::Ok, Self::Error>
         ensures { Self.outcome self (datum.boolean v) result };
 
-    /// An integer of 8 bits with a sign.
+    /// Writes an `i8`.
+    ///
+    /// # Errors
+    ///
+    /// Returns an error if the serializer refuses the value, or if memory runs out.
     fn serialize_i8(self, v: i8) -> Result<Self::Ok, Self::Error>
         ensures { Self.outcome self (datum.integer datum.i8 v) result };
 
-    /// An integer of 16 bits with a sign.
+    /// Writes an `i16`.
+    ///
+    /// # Errors
+    ///
+    /// Returns an error if the serializer refuses the value, or if memory runs out.
     fn serialize_i16(self, v: i16) -> Result<Self::Ok, Self::Error>
         ensures { Self.outcome self (datum.integer datum.i16 v) result };
 
-    /// An integer of 32 bits with a sign.
+    /// Writes an `i32`.
+    ///
+    /// # Errors
+    ///
+    /// Returns an error if the serializer refuses the value, or if memory runs out.
     fn serialize_i32(self, v: i32) -> Result<Self::Ok, Self::Error>
         ensures { Self.outcome self (datum.integer datum.i32 v) result };
 
-    /// An integer of 64 bits with a sign.
+    /// Writes an `i64`.
+    ///
+    /// # Errors
+    ///
+    /// Returns an error if the serializer refuses the value, or if memory runs out.
     fn serialize_i64(self, v: i64) -> Result<Self::Ok, Self::Error>
         ensures { Self.outcome self (datum.integer datum.i64 v) result };
 
-    /// An integer of 128 bits with a sign.
+    /// Writes an `i128`.
+    ///
+    /// # Errors
+    ///
+    /// Returns an error if the serializer refuses the value, or if memory runs out.
     fn serialize_i128(self, v: i128) -> Result<Self::Ok, Self::Error>
         ensures { Self.outcome self (datum.integer datum.i128 v) result };
 
-    /// An integer of 8 bits.
+    /// Writes a `u8`.
+    ///
+    /// # Errors
+    ///
+    /// Returns an error if the serializer refuses the value, or if memory runs out.
     fn serialize_u8(self, v: u8) -> Result<Self::Ok, Self::Error>
         ensures { Self.outcome self (datum.integer datum.u8 (pos v)) result };
 
-    /// An integer of 16 bits.
+    /// Writes a `u16`.
+    ///
+    /// # Errors
+    ///
+    /// Returns an error if the serializer refuses the value, or if memory runs out.
     fn serialize_u16(self, v: u16) -> Result<Self::Ok, Self::Error>
         ensures { Self.outcome self (datum.integer datum.u16 (pos v)) result };
 
-    /// An integer of 32 bits.
+    /// Writes a `u32`.
+    ///
+    /// # Errors
+    ///
+    /// Returns an error if the serializer refuses the value, or if memory runs out.
     fn serialize_u32(self, v: u32) -> Result<Self::Ok, Self::Error>
         ensures { Self.outcome self (datum.integer datum.u32 (pos v)) result };
 
-    /// An integer of 64 bits.
+    /// Writes a `u64`.
+    ///
+    /// # Errors
+    ///
+    /// Returns an error if the serializer refuses the value, or if memory runs out.
     fn serialize_u64(self, v: u64) -> Result<Self::Ok, Self::Error>
         ensures { Self.outcome self (datum.integer datum.u64 (pos v)) result };
 
-    /// An integer of 128 bits.
+    /// Writes a `u128`.
+    ///
+    /// # Errors
+    ///
+    /// Returns an error if the serializer refuses the value, or if memory runs out.
     fn serialize_u128(self, v: u128) -> Result<Self::Ok, Self::Error>
         ensures { Self.outcome self (datum.integer datum.u128 (pos v)) result };
 
-    /// A character.
+    /// Writes a character.
+    ///
+    /// # Errors
+    ///
+    /// Returns an error if the serializer refuses the value, or if memory runs out.
     fn serialize_char(self, v: char) -> Result<Self::Ok, Self::Error>
         ensures { Self.outcome self (datum.char v) result };
 
-    /// A text.
+    /// Writes a string.
+    ///
+    /// # Errors
+    ///
+    /// Returns an error if the serializer refuses the value, or if memory runs out.
     fn serialize_str(self, v: &str) -> Result<Self::Ok, Self::Error>
         ensures { Self.outcome self (datum.string v.now) result };
 
-    /// A byte string.
+    /// Writes a byte string.
+    ///
+    /// # Errors
+    ///
+    /// Returns an error if the serializer refuses the value, or if memory runs out.
     fn serialize_bytes(self, v: &[u8]) -> Result<Self::Ok, Self::Error>
         ensures { Self.outcome self (datum.bytes v.now) result };
 
-    /// `None`.
+    /// Writes `None`.
+    ///
+    /// # Errors
+    ///
+    /// Returns an error if the serializer refuses the value, or if memory runs out.
     fn serialize_none(self) -> Result<Self::Ok, Self::Error>
         ensures { Self.outcome self datum.none result };
 
-    /// `Some(value)`.
+    /// Writes `Some(value)`.
+    ///
+    /// # Errors
+    ///
+    /// Returns an error if the serializer refuses the value, or if memory runs out.
     final fn serialize_some<T: Serialize>(self, value: &T) -> Result<Self::Ok, Self::Error>
         ensures { Writes Self.Error.fault (T.wants value.now) (Self.outcome self) (datum.some (T.tells value.now)) result }
     {
@@ -123,15 +206,27 @@ pub trait Serializer: Outcomes {
         self.wrap(Wrapper::Option, written)
     }
 
-    /// `()`.
+    /// Writes `()`.
+    ///
+    /// # Errors
+    ///
+    /// Returns an error if the serializer refuses the value, or if memory runs out.
     fn serialize_unit(self) -> Result<Self::Ok, Self::Error>
         ensures { Self.outcome self datum.unit result };
 
-    /// `struct Name;`.
+    /// Writes a unit struct: `struct Name;`.
+    ///
+    /// # Errors
+    ///
+    /// Returns an error if the serializer refuses the value, or if memory runs out.
     fn serialize_unit_struct(self, name: &'static str) -> Result<Self::Ok, Self::Error>
         ensures { Self.outcome self (datum.unit_struct name.now) result };
 
-    /// `Variant` of `enum Name { Variant, .. }`.
+    /// Writes a unit variant: `Variant` of `enum Name { Variant, .. }`.
+    ///
+    /// # Errors
+    ///
+    /// Returns an error if the serializer refuses the value, or if memory runs out.
     fn serialize_unit_variant(
         self,
         name: &'static str,
@@ -140,7 +235,11 @@ pub trait Serializer: Outcomes {
     ) -> Result<Self::Ok, Self::Error>
         ensures { Self.outcome self (datum.unit_variant (datum.variant name.now index variant.now)) result };
 
-    /// `struct Name(value)`.
+    /// Writes a newtype struct: `struct Name(value)`.
+    ///
+    /// # Errors
+    ///
+    /// Returns an error if the serializer refuses the value, or if memory runs out.
     final fn serialize_newtype_struct<T: Serialize>(
         self,
         name: &'static str,
@@ -153,7 +252,11 @@ pub trait Serializer: Outcomes {
         self.wrap(Wrapper::NewtypeStruct(name), written)
     }
 
-    /// `Variant(value)` of an enum.
+    /// Writes a newtype variant: `Variant(value)` of an enum.
+    ///
+    /// # Errors
+    ///
+    /// Returns an error if the serializer refuses the value, or if memory runs out.
     final fn serialize_newtype_variant<T: Serialize>(
         self,
         name: &'static str,
@@ -168,15 +271,27 @@ pub trait Serializer: Outcomes {
         self.wrap(Wrapper::NewtypeVariant(name, index, variant), written)
     }
 
-    /// A sequence, whose elements follow.
+    /// Begins a sequence. Its elements follow.
+    ///
+    /// # Errors
+    ///
+    /// Returns an error if the serializer refuses the value, or if memory runs out.
     fn serialize_seq(self, len: Option<usize>) -> Result<Self::SerializeSeq, Self::Error>
         ensures { Begins Self.SerializeSeq.gives (λ pieces. Self.outcome self (datum.seq pieces)) result };
 
-    /// A tuple, whose elements follow.
+    /// Begins a tuple. Its elements follow.
+    ///
+    /// # Errors
+    ///
+    /// Returns an error if the serializer refuses the value, or if memory runs out.
     fn serialize_tuple(self, len: usize) -> Result<Self::SerializeTuple, Self::Error>
         ensures { Begins Self.SerializeTuple.gives (λ pieces. Self.outcome self (datum.tuple pieces)) result };
 
-    /// A tuple struct, whose fields follow.
+    /// Begins a tuple struct. Its fields follow.
+    ///
+    /// # Errors
+    ///
+    /// Returns an error if the serializer refuses the value, or if memory runs out.
     fn serialize_tuple_struct(
         self,
         name: &'static str,
@@ -184,7 +299,11 @@ pub trait Serializer: Outcomes {
     ) -> Result<Self::SerializeTupleStruct, Self::Error>
         ensures { Begins Self.SerializeTupleStruct.gives (λ pieces. Self.outcome self (datum.tuple_struct name.now pieces)) result };
 
-    /// A tuple variant, whose fields follow.
+    /// Begins a tuple variant. Its fields follow.
+    ///
+    /// # Errors
+    ///
+    /// Returns an error if the serializer refuses the value, or if memory runs out.
     fn serialize_tuple_variant(
         self,
         name: &'static str,
@@ -194,12 +313,20 @@ pub trait Serializer: Outcomes {
     ) -> Result<Self::SerializeTupleVariant, Self::Error>
         ensures { Begins Self.SerializeTupleVariant.gives (λ pieces. Self.outcome self (datum.tuple_variant (datum.variant name.now index variant.now) pieces)) result };
 
-    /// A map, whose entries follow. No key waits.
+    /// Begins a map. Its entries follow.
+    ///
+    /// # Errors
+    ///
+    /// Returns an error if the serializer refuses the value, or if memory runs out.
     fn serialize_map(self, len: Option<usize>) -> Result<Self::SerializeMap, Self::Error>
         ensures begins { Begins Self.SerializeMap.gives (λ pieces. Self.outcome self (datum.map pieces)) result }
         ensures idle { MatchResult result (λ b. Self.SerializeMap.pending b ≡ None) (λ _. Unit {0}) };
 
-    /// A struct, whose fields follow.
+    /// Begins a struct. Its fields follow.
+    ///
+    /// # Errors
+    ///
+    /// Returns an error if the serializer refuses the value, or if memory runs out.
     fn serialize_struct(
         self,
         name: &'static str,
@@ -207,7 +334,11 @@ pub trait Serializer: Outcomes {
     ) -> Result<Self::SerializeStruct, Self::Error>
         ensures { Begins Self.SerializeStruct.gives (λ pieces. Self.outcome self (datum.struct name.now pieces)) result };
 
-    /// A struct variant, whose fields follow.
+    /// Begins a struct variant. Its fields follow.
+    ///
+    /// # Errors
+    ///
+    /// Returns an error if the serializer refuses the value, or if memory runs out.
     fn serialize_struct_variant(
         self,
         name: &'static str,

@@ -4,29 +4,39 @@ ghost use Rattle.dynamo_ser.specs.Pieces.{TakesPiece, TakesWritten, PassesOn};
 
 use crate::{Error, Outcomes, Serialize, Serializer};
 
-/// What a builder of a struct gives: the small calls under [`SerializeStruct`] and [`SerializeStructVariant`]. Who
-/// writes a value has no need of it.
+/// The few methods that a builder of a struct implements, below [`SerializeStruct`] and
+/// [`SerializeStructVariant`]. To write values of a type you don't need it.
 pub trait StructBuilder<S: Outcomes<Ok = Self::Ok, Error = Self::Error>>: Sized + Drop {
+    /// The value that a written struct gives.
     type Ok: Drop;
 
+    /// The serializer's error.
     type Error: Error;
 
-    // What is answered where these fields follow, and then the end.
+    // The results if these fields follow, and then the end.
     ghost gives: { Self → Fields → Result Self.Ok Self.Error → Type 0 };
 
     // The serializer of each field.
     ghost writer: { Self → S };
 
-    /// The serializer of the next field.
+    /// Returns the serializer of the next field.
     fn field_serializer(&self) -> S
         ensures same { result ≡ writer self.now }
         ensures passes_on { (name : List ℕ) → PassesOn Self.Error.fault (S.outcome result) gives self.now (field name) };
 
-    /// Takes what was written for the field of this name.
+    /// Adds a written value as the field with this name.
+    ///
+    /// # Errors
+    ///
+    /// Returns an error if the serializer refuses the field, or if memory runs out.
     fn push_field(&mut self, key: &'static str, written: Self::Ok) -> Result<(), Self::Error>
         ensures { TakesWritten (S.outcome (writer self.old)) written gives self.old self.new (field key.now) result };
 
-    /// Writes the field of this name. Where it is refused the fields so far stay.
+    /// Writes the field with this name.
+    ///
+    /// # Errors
+    ///
+    /// Returns the error of the value if the serializer refuses it. The fields so far stay.
     final fn add_field<T: Serialize>(
         &mut self,
         key: &'static str,
@@ -41,13 +51,21 @@ pub trait StructBuilder<S: Outcomes<Ok = Self::Ok, Error = Self::Error>>: Sized 
     }
 
     /// Ends the struct.
+    ///
+    /// # Errors
+    ///
+    /// Returns an error if the serializer refuses the struct, or if memory runs out.
     fn finish(self) -> Result<Self::Ok, Self::Error>
         ensures { gives self no_fields result };
 }
 
 /// The builder of a struct, as serde's: `struct User { id: String, age: u8 }`.
 pub trait SerializeStruct<S: Outcomes<Ok = Self::Ok, Error = Self::Error>>: StructBuilder<S> {
-    /// Writes the field of this name. Where it is refused the fields so far stay.
+    /// Writes the field with this name.
+    ///
+    /// # Errors
+    ///
+    /// Returns the error of the value if the serializer refuses it. The fields so far stay.
     final fn serialize_field<T: Serialize>(
         &mut self,
         key: &'static str,
@@ -61,6 +79,10 @@ pub trait SerializeStruct<S: Outcomes<Ok = Self::Ok, Error = Self::Error>>: Stru
     }
 
     /// Ends the struct.
+    ///
+    /// # Errors
+    ///
+    /// Returns an error if the serializer refuses the struct, or if memory runs out.
     final fn end(self) -> Result<Self::Ok, Self::Error>
         ensures { Self.gives self no_fields result }
     {
@@ -72,7 +94,11 @@ pub trait SerializeStruct<S: Outcomes<Ok = Self::Ok, Error = Self::Error>>: Stru
 pub trait SerializeStructVariant<S: Outcomes<Ok = Self::Ok, Error = Self::Error>>: StructBuilder<
     S,
 > {
-    /// Writes the field of this name. Where it is refused the fields so far stay.
+    /// Writes the field with this name.
+    ///
+    /// # Errors
+    ///
+    /// Returns the error of the value if the serializer refuses it. The fields so far stay.
     final fn serialize_field<T: Serialize>(
         &mut self,
         key: &'static str,
@@ -86,6 +112,10 @@ pub trait SerializeStructVariant<S: Outcomes<Ok = Self::Ok, Error = Self::Error>
     }
 
     /// Ends the variant.
+    ///
+    /// # Errors
+    ///
+    /// Returns an error if the serializer refuses the variant, or if memory runs out.
     final fn end(self) -> Result<Self::Ok, Self::Error>
         ensures { Self.gives self no_fields result }
     {

@@ -1,4 +1,5 @@
-//! Reading attribute values and items by DynamoDB JSON, as the data model has it: a map of one entry, whose key is a prefix.
+//! Reads attribute values and items from DynamoDB JSON, as the data model has it: a map of one
+//! entry, whose key is a prefix.
 
 ghost use Rattle.std.specs.Prelude.{◌≡◌, ◌⊎◌, [], map, string_bytes};
 ghost use Rattle.dynamo_value.specs.Fault.{out_of_memory};
@@ -19,7 +20,7 @@ use dynamo_value::{AttributeValue, ErrorImpl, Item, Prefix, base64_text, refusal
 use std::alloc::Global;
 use std::collections::HashMap;
 
-/// An attribute value is read as DynamoDB JSON has it: `{"N": "1"}`, `{"SS": ["a"]}`, `{"B": "AQI="}`.
+/// An attribute value is read from DynamoDB JSON: `{"N": "1"}`, `{"SS": ["a"]}`, `{"B": "AQI="}`.
 impl Deserialize for AttributeValue {
     ghost reads = { λ s. Agrees view (attribute_from s) };
 
@@ -41,7 +42,7 @@ impl Deserialize for Item {
     }
 }
 
-/// An attribute value of which all is read but the attribute values that it holds.
+/// An attribute value that is read but for the attribute values that it holds.
 #[derive(Drop)]
 enum Opened<L, M> {
     Whole(AttributeValue),
@@ -49,8 +50,9 @@ enum Opened<L, M> {
     Entries(M),
 }
 
-/// Reads an attribute value by the reader's own calls: it holds itself, so no visitor could read it. It is opened, by a function
-/// that isn't inlined, before what it holds is read, so that no reader lies in the frame of a level.
+/// Reads an attribute value with the methods of the reader: it holds attribute values, so no
+/// visitor could read it. A function that isn't inlined opens it before its contents are read, so
+/// that no reader lies in the frame of a level.
 #[cycle(read)]
 fn read<R: Reader>(alloc: Global, reader: R) -> Result<AttributeValue, R::Error>
     ensures { Meets R.Error.fault (Agrees view (attribute_from (R.source reader))) result }
@@ -85,7 +87,7 @@ fn open<R: Reader>(alloc: Global, reader: R) -> Result<Opened<R::Elements, R::En
     open_content(alloc, prefix, content)
 }
 
-// The prefix of an attribute value, and the reader of what stands under it.
+// The prefix of an attribute value, and the reader of its content.
 #[inline(never)]
 fn read_entry<R: Reader>(alloc: Global, reader: R) -> Result<(Prefix, R), R::Error>
     ensures { Meets R.Error.fault (Agrees (λ e. (prefix_view e.0, R.source e.1)) (entry_from (R.source reader))) result }
@@ -108,7 +110,7 @@ fn read_entry<R: Reader>(alloc: Global, reader: R) -> Result<(Prefix, R), R::Err
     }
 }
 
-// Opens what stands under a prefix.
+// Opens the content of a prefix.
 fn open_content<R: Reader>(
     alloc: Global,
     prefix: Prefix,
@@ -187,14 +189,14 @@ fn read_members<R: Reader>(
     Ok(members)
 }
 
-// Reads the texts of a sequence, in order.
+// Reads the strings of a sequence, in order.
 fn read_texts<R: Reader>(alloc: Global, reader: R) -> Result<Vec<String>, R::Error>
     ensures { Meets R.Error.fault (Agrees (λ v. map string_bytes v.items) (read_texts (R.source reader))) result }
 {
     Vec::deserialize(alloc, reader)
 }
 
-// Reads the byte strings of a sequence of base64 texts, in order.
+// Reads the byte strings of a sequence of base64 strings, in order.
 fn read_blobs<R: Reader>(alloc: Global, reader: R) -> Result<Vec<Vec<u8>>, R::Error>
     ensures { Meets R.Error.fault (Agrees (λ v. map (λ b. b.items) v.items) (read_blobs (R.source reader))) result }
 {
@@ -209,7 +211,7 @@ fn read_blobs<R: Reader>(alloc: Global, reader: R) -> Result<Vec<Vec<u8>>, R::Er
     Ok(blobs)
 }
 
-// Reads the bytes of a base64 text.
+// Reads the bytes of a base64 string.
 fn read_bytes<R: Reader>(alloc: Global, reader: R) -> Result<Vec<u8>, R::Error>
     ensures { Meets R.Error.fault (Agrees (λ b. b.items) (read_blob (R.source reader))) result }
 {
@@ -220,7 +222,7 @@ fn read_bytes<R: Reader>(alloc: Global, reader: R) -> Result<Vec<u8>, R::Error>
     }
 }
 
-// A refusal of DynamoDB JSON, as an error of the reader.
+// An error of DynamoDB JSON, as an error of the reader.
 fn told<E: Error>(alloc: Global, refusal: dynamo_value::Error) -> E
     ensures { (E.fault result ≡ fault_of refusal) ⊎ (E.fault result ≡ out_of_memory) }
 {

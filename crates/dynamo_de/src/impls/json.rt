@@ -18,7 +18,8 @@ impl Deserialize for Value {
     }
 }
 
-/// Reads what is there, by the reader's own calls: the value holds itself, so no visitor could read it.
+/// Reads what is there, by the reader's own calls: the value holds itself, so no visitor could read
+/// it.
 #[cycle(read)]
 #[tactic(auto, using(crate::proofs::Json::json_as_shown))]
 fn read<R: Reader>(alloc: Global, reader: R) -> Result<Value, R::Error>

@@ -32,11 +32,11 @@ trait Integer: Sized + Drop {
     fn is_wide() -> bool
         ensures { result ≡ is_wide_kind kind };
 
-    /// The same number in this type, where it holds it.
+    /// The same number in this type, if it holds it.
     fn from_signed(v: i128) -> Option<Self>
         ensures { option_map number result ≡ checked kind v };
 
-    /// The same number in this type, where it holds it.
+    /// The same number in this type, if it holds it.
     fn from_unsigned(v: u128) -> Option<Self>
         ensures { option_map number result ≡ checked kind (pos v) };
 }
@@ -55,7 +55,7 @@ impl<T: Integer> IntegerVisitor<T> {
         }
     }
 
-    /// The number, or the refusal of one that the type doesn't hold.
+    /// The number, or the error if the type doesn't hold it.
     fn ranged<E: Error>(self, number: Option<T>) -> Result<T, E>
         ensures { Meets E.fault (Gives T.number (value_or (option_map T.number number) answer.refused)) result }
     {

@@ -18,7 +18,7 @@ trait FromElements: Sized + Drop {
     // What the elements may be read as.
     ghost of_elements: { List Source → Result Self Fault → Type 0 };
 
-    /// What is expected, for the text of a refusal.
+    /// What is expected, for an error's message.
     fn expected() -> &'static str;
 
     fn from_elements<A: SeqAccess>(alloc: Global, seq: A) -> Result<Self, A::Error>

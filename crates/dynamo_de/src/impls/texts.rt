@@ -12,7 +12,7 @@ use crate::{Deserialize, Deserializer, Error, Request, Showing};
 use dynamo_value::ByteBuf;
 use std::alloc::Global;
 
-// The text of a character.
+// A character as a string.
 pub(crate) fn char_text<E: Error>(alloc: Global, v: char) -> Result<String, E>
     ensures { MatchResult result (λ t. string_bytes t ≡ encode_utf8 v) (λ e. E.fault e ≡ out_of_memory) }
 {
@@ -22,7 +22,7 @@ pub(crate) fn char_text<E: Error>(alloc: Global, v: char) -> Result<String, E>
     }
 }
 
-// The character of a text that has one alone, or a refusal.
+// The only character of a string, or an error if it has none or several.
 #[tactic(auto, using(crate::proofs::Chars::no_char, crate::proofs::Chars::one_alone, crate::proofs::Chars::too_many))]
 fn only_char<E: Error>(alloc: Global, v: &str) -> Result<char, E>
     ensures { Meets E.fault (Gives (λ c. c) (value_or (one_char v.now) answer.refused)) result }
@@ -51,7 +51,7 @@ impl Deserialize for char {
     }
 }
 
-// The text of bytes that are UTF-8, or a refusal.
+// The string of bytes that are UTF-8, or an error.
 #[tactic(auto, using(crate::proofs::Chars::utf8_told, crate::proofs::Chars::utf8_denied))]
 fn utf8_text<E: Error>(alloc: Global, v: Vec<u8>) -> Result<String, E>
     ensures { Meets E.fault (Gives string_bytes (if is_utf8 v.items then answer.value v.items else answer.refused)) result }

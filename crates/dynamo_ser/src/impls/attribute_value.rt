@@ -36,8 +36,8 @@ impl Serialize for Item {
     }
 }
 
-// The map of one pair, whose key is a prefix. It isn't inlined: a value that nests others is written with the frame of one pair for
-// each of its levels, not with one for each of the ten kinds.
+// The map of one entry, whose key is a prefix. It isn't inlined: a nested value is written with the
+// frame of one entry for each of its levels, not with one for each of the ten kinds.
 #[inline(never)]
 fn under<T: Serialize, S: Serializer>(
     prefix: Prefix,
@@ -51,14 +51,14 @@ fn under<T: Serialize, S: Serializer>(
     pair.end()
 }
 
-// A byte string that is written as its base64 text.
+// A byte string that is written as its base64 string.
 #[derive(Clone, Copy)]
 struct Base64<'a>(&'a [u8]);
 
 impl Serialize for Base64<'_> {
     ghost tells = { λ b. datum.string (base64_text b.0.now) };
 
-    // the text
+    // the string
     ghost wants = { λ _. Unit {0} };
 
     fn serialize<S: Serializer>(&self, serializer: S) -> Result<S::Ok, S::Error> {
@@ -69,7 +69,7 @@ impl Serialize for Base64<'_> {
     }
 }
 
-// Byte strings that are written as the list of their base64 texts.
+// Byte strings that are written as the list of their base64 strings.
 #[derive(Clone, Copy)]
 struct Base64List<'a>(&'a Vec<Vec<u8>>);
 

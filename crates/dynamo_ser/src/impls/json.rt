@@ -22,7 +22,7 @@ impl Serialize for Value {
     }
 }
 
-// A whole number of 64 bits; serde's data model has floats, and this one has none.
+// A whole number of 64 bits. serde's data model has floats, this one doesn't.
 fn serialize_number<S: Serializer>(number: &Number, serializer: S) -> Result<S::Ok, S::Error>
     ensures { Writes S.Error.fault (float_wants (number_view number.now)) (S.outcome serializer) (number_datum (number_view number.now)) result }
 {
