@@ -11,7 +11,8 @@ use dynamo_de::{Reader, Request, Showing};
 use dynamo_value::{Error, ErrorImpl, Result};
 use std::alloc::Global;
 
-/// The reader of an element of a set of byte strings. It shows the bytes at every request. It never refuses.
+/// The reader of an element of a set of byte strings. It shows the bytes for every request, and
+/// never fails.
 #[derive(Drop)]
 pub struct DeserializerBytes {
     alloc: Global,
@@ -19,7 +20,8 @@ pub struct DeserializerBytes {
 }
 
 impl DeserializerBytes {
-    /// The reader of these bytes. It takes no memory. What is read takes its memory from `alloc`.
+    /// Returns the reader of these bytes. It allocates nothing. A value that is read from it is
+    /// allocated in `alloc`.
     pub fn from_bytes(alloc: Global, bytes: Vec<u8>) -> Self
         ensures { bytes_source result ≡ byte_string bytes.items }
     {

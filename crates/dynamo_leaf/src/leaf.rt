@@ -14,37 +14,50 @@ use dynamo_de::{Request, Showing};
 use dynamo_value::{Error, ErrorImpl, Result};
 use std::num::ParseIntError;
 
-/// What a single text shows, by the text that is lent: what it writes, or the text itself, which the leaf doesn't hold.
+/// What a borrowed string holds: a scalar, or the string itself, which the leaf doesn't keep.
 #[derive(Debug, Drop, PartialEq, Eq)]
 pub enum Leaf {
+    /// A boolean or an integer.
     Scalar(Scalar),
-    /// The text, as one of a number that neither an `i64` nor a `u64` holds.
+    /// The string, as a number that neither an `i64` nor a `u64` holds.
     NumberText,
+    /// The string.
     Text,
-    /// The variant of that name, without content.
+    /// The unit variant of this name.
     Name,
-    /// A newtype, whose content is the same key.
+    /// A newtype struct, whose content is the same key.
     Newtype,
 }
 
-/// What a text writes: a boolean or an integer.
+/// A boolean or an integer that a string holds.
 #[derive(Debug, Drop, PartialEq, Eq)]
 pub enum Scalar {
+    /// A boolean.
     Bool(bool),
+    /// An `i8`.
     I8(i8),
+    /// An `i16`.
     I16(i16),
+    /// An `i32`.
     I32(i32),
+    /// An `i64`.
     I64(i64),
+    /// An `i128`.
     I128(i128),
+    /// A `u8`.
     U8(u8),
+    /// A `u16`.
     U16(u16),
+    /// A `u32`.
     U32(u32),
+    /// A `u64`.
     U64(u64),
+    /// A `u128`.
     U128(u128),
 }
 
 impl Scalar {
-    /// What a reader shows of it. It takes no memory.
+    /// Returns what a reader shows for it.
     #[inline(always)]
     pub fn shown<D, L, M, C>(self) -> Showing<D, L, M, C>
         ensures { (source : D → Source) (elements : L → List Source) (entries : M → List Entry)
@@ -67,17 +80,17 @@ impl Scalar {
     }
 }
 
-/// Why the text of a number shows nothing, by the text that is lent.
+/// Why a borrowed string isn't a number.
 #[derive(Debug, Drop, PartialEq, Eq)]
 pub enum NoNumber {
-    /// It is no integer of the type that is asked for.
+    /// It isn't an integer of the type that is asked for.
     Integer(ParseIntError),
-    /// It is no float's text, nor an integer of 64 bits.
+    /// It is neither an integer of 64 bits nor a float.
     Float,
 }
 
 impl NoNumber {
-    /// The error, which has the text. It takes no memory.
+    /// Returns the error with this string. It allocates nothing.
     pub fn of_text(self, text: String) -> Error
         ensures { fault_of result ≡ no_number_fault (string_bytes text) self }
     {
@@ -88,7 +101,7 @@ impl NoNumber {
     }
 }
 
-// The integer of a text at the kind that is asked for, or why the text is none; nothing where no integer is asked for.
+// The integer of a string if an integer is asked for, or why the string isn't one.
 fn read_integer(request: Request, text: &str) -> Option<Result<Scalar, ParseIntError>>
     ensures { ReadsInteger (asked request) text.now result }
 {
@@ -107,7 +120,7 @@ fn read_integer(request: Request, text: &str) -> Option<Result<Scalar, ParseIntE
     }
 }
 
-// The number of a text whose kind nobody asks for.
+// The number of a string if any kind of number will do.
 fn show_any_number(text: &str) -> Result<Leaf, NoNumber>
     ensures { ShowsLeaf (no_number_fault text.now) text.now (number_shown text.now) result }
 {
@@ -135,15 +148,30 @@ fn show_bool(key: &str) -> Result<Leaf>
     }
 }
 
-/// What the text of a number shows. It takes no memory.
+/// Returns what the string of a number holds. It allocates nothing.
 ///
-/// At the request of an integer it shows that integer. At any other request it shows an `i64` where the text is one, else a
-/// `u64` where it is one, else the text itself where it is a float's.
+/// If an integer type is asked for, it is an integer of that type. For any other request it is an
+/// `i64` or else a `u64` if one of these holds the number, or else the string if it is a float's.
 ///
 /// # Errors
 ///
-/// [`NoNumber::Integer`], with the cause, where an integer is asked for and the text is none of that type; and
-/// [`NoNumber::Float`] where none is asked for and the text is none of these.
+/// Returns [`NoNumber::Integer`] with the cause if an integer type is asked for and the string
+/// isn't an integer of that type.
+///
+/// Returns [`NoNumber::Float`] if none is asked for and the string is neither an integer of 64 bits
+/// nor a float.
+///
+/// # Examples
+///
+/// ```rust
+/// use dynamo_leaf::{Leaf, Scalar, show_number};
+/// use serde_dynamo::de::Request;
+///
+/// assert!(matches!(show_number(Request::U8, "42"), Ok(Leaf::Scalar(Scalar::U8(42)))));
+/// assert!(matches!(show_number(Request::Any, "42"), Ok(Leaf::Scalar(Scalar::I64(42)))));
+/// assert!(matches!(show_number(Request::Any, "1.5"), Ok(Leaf::NumberText)));
+/// assert!(show_number(Request::U8, "256").is_err());
+/// ```
 pub fn show_number(request: Request, text: &str) -> Result<Leaf, NoNumber>
     ensures { ShowsLeaf (no_number_fault text.now) text.now (number_text_shown request text.now) result }
 {
@@ -154,15 +182,18 @@ pub fn show_number(request: Request, text: &str) -> Result<Leaf, NoNumber>
     }
 }
 
-/// What the key of a map shows. It takes no memory.
+/// Returns what the key of a map holds. It allocates nothing.
 ///
-/// At the request of an integer it shows that integer, and at the request of a boolean the one that `true` or `false` names.
-/// A newtype is shown the same key again, and an enum the variant of that name. At any other request it shows the text.
+/// If an integer type is asked for, it is an integer of that type. A boolean is `true` or `false`.
+/// A newtype struct gets the same key again, and an enum gets the variant of this name. For any
+/// other request it is the string.
 ///
 /// # Errors
 ///
-/// [`ErrorImpl::ExpectedNum`] where an integer is asked for and the text is none of that type, and
-/// [`ErrorImpl::ExpectedString`] where a boolean is asked for and the text names none.
+/// Returns [`ErrorImpl::ExpectedNum`] if an integer type is asked for and the string isn't an
+/// integer of that type.
+///
+/// Returns [`ErrorImpl::ExpectedString`] if a boolean is asked for and the string isn't one.
 pub fn show_key(request: Request, text: &str) -> Result<Leaf>
     ensures { ShowsLeaf fault_of text.now (key_shown request text.now) result }
 {
@@ -177,8 +208,8 @@ pub fn show_key(request: Request, text: &str) -> Result<Leaf>
     }
 }
 
-/// What an element of a set of strings shows, and the name of a variant, whatever its text: the variant of that name to an
-/// enum, and the text at any other request.
+/// Returns what an element of a set of strings or the name of a variant holds: for an enum the
+/// variant of this name, for any other request the string.
 #[inline(always)]
 pub fn show_plain_text(request: Request) -> Leaf
     ensures { (text : List ℕ) → plain_text_shown request text ≡ Ok (leaf_sight text result) }

@@ -8,28 +8,29 @@ use crate::Leaf;
 use dynamo_de::Showing;
 use std::alloc::Global;
 
-/// A reader that can stand around what lies inside of a text: the same key again, or a variant of that name. Who gives these
-/// two calls can turn a [`Leaf`] into what the reader shows, by [`raise`].
+/// A reader that can read a key again, or be a variant. To use [`raise`] with a reader, implement
+/// these two functions.
 pub trait LeafReader: Sized + Drop {
-    /// A variant that isn't read yet.
+    /// A variant of an enum.
     type Choice: Drop;
 
-    // What the reader reads from, and what it tells of a variant.
+    // The source of the reader, and what its variants mean.
     ghost leaf_source: { Self → Source };
 
     ghost leaf_chosen: { Self.Choice → Result (List ℕ × Option Source) Fault };
 
-    /// The reader of a key. It takes no memory.
+    /// Returns the reader of a key. It allocates nothing.
     fn of_key(alloc: Global, text: String) -> Self
         ensures { leaf_source result ≡ key_text (string_bytes text) };
 
-    /// The variant of a name, without content. It takes no memory.
+    /// Returns the unit variant of a name. It allocates nothing.
     fn of_name(alloc: Global, text: String) -> Self::Choice
         ensures { leaf_chosen result ≡ Ok (string_bytes text, None) };
 }
 
-/// What a reader shows where its text shows this leaf: the same, with a reader around what lies inside. `L` and `M` are the
-/// elements and the entries of its showings, of which a leaf has none. It takes no memory, and it never refuses.
+/// Returns what a reader shows if its string is this leaf. It allocates nothing and never fails.
+///
+/// `L` and `M` are the reader's elements and entries, of which a leaf has none.
 #[inline(always)]
 pub fn raise<R: LeafReader, L, M>(
     alloc: Global,

@@ -1,17 +1,17 @@
-//! Readers of what stands inside an attribute value: the keys of maps, and the elements of the sets of numbers, of strings
-//! and of byte strings.
+//! Readers of parts of an attribute value: the keys of maps, and the elements of sets.
 //!
-//! | What is read | Its reader | Its elements, one by one |
+//! | What is read | Its reader | The elements of a set |
 //! |---|---|---|
 //! | the key of a map | [`DeserializerMapKey`] | |
 //! | an element of a set of numbers | [`DeserializerNumber`] | [`DeserializerSeqNumbers`] |
 //! | an element of a set of strings | [`StringDeserializer`] | [`DeserializerSeqStrings`] |
 //! | an element of a set of byte strings | [`DeserializerBytes`] | [`DeserializerSeqBytes`] |
 //!
-//! What a text shows is a [`Leaf`], by [`show_key`], [`show_number`] and [`show_plain_text`], which are lent the text. The three
-//! readers of texts are one [`TextDeserializer`], which a [`TextKind`] tells which of these to call. A reader turns a leaf and
-//! its text into what it shows itself by [`raise`]; a reader of another crate that is a [`LeafReader`] can do the same. Nothing
-//! here takes memory: texts and byte strings are moved.
+//! A [`Leaf`] is what a borrowed string holds, by [`show_key`], [`show_number`] or
+//! [`show_plain_text`]. The three readers of strings are one [`TextDeserializer`], whose
+//! [`TextKind`] chooses one of these functions. [`raise`] turns a leaf and its string into what a
+//! reader shows. A reader of another crate can use it, too, if it implements [`LeafReader`].
+//! Nothing here allocates: strings and byte strings are moved.
 #![tactic(auto)]
 
 mod bytes;

@@ -1,12 +1,12 @@
-/// The elements of a reader that never shows a sequence: there are none.
+/// The elements of a reader that never shows a sequence.
 #[derive(Debug, Drop)]
 pub struct NoElements;
 
-/// The entries of a reader that never shows a map: there are none.
+/// The entries of a reader that never shows a map.
 #[derive(Debug, Drop)]
 pub struct NoEntries;
 
-/// The variant of a reader that never shows an enum. Asking for it is refused by
+/// The variant of a reader that never shows an enum. Choosing it fails with
 /// [`ErrorImpl::ExpectedEnum`](dynamo_value::ErrorImpl).
 #[derive(Debug, Drop)]
 pub struct NoVariant;

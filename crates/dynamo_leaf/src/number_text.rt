@@ -1,4 +1,4 @@
-// Texts of numbers: std's `parse` reads just the integer texts and the float texts that the grammar names.
+// Strings of numbers: std's `parse` reads just the integers and the floats that the grammar names.
 ghost use Rattle.dynamo_de.specs.Number.{parse, is_float_text as is_float};
 ghost use Rattle.dynamo_value.specs.Integer.{i8, i16, i32, i64, i128, u8, u16, u32, u64, u128};
 ghost use Rattle.std.specs.Prelude.{◌≡◌, option_map, pos};
@@ -6,9 +6,9 @@ ghost use Rattle.std.specs.Result.{result_ok};
 
 use std::num::ParseIntError;
 
-// The integers that texts write, at each kind: an optional `+`, at a signed kind an optional `+` or `-`, then one digit or
-// more, with a value that the kind holds. Any other text is the error that std gives. They take no memory.
-
+// The integers of strings, for each type: an optional `+`, for a signed type an optional `+` or
+// `-`, then at least one digit, with a value that the type holds. Any other string is the error
+// that std returns. They allocate nothing.
 #[tactic(auto, using(crate::proofs::Numbers::reads_i8))]
 pub(crate) fn parse_i8(text: &str) -> Result<i8, ParseIntError>
     ensures { result_ok result ≡ parse i8 text.now }
@@ -79,13 +79,23 @@ pub(crate) fn parse_u128(text: &str) -> Result<u128, ParseIntError>
     text.parse::<u128>()
 }
 
-/// Says whether a text is a float's, and takes no memory.
+/// Returns whether the string is a float's. It allocates nothing.
 ///
-/// A float's text may begin with a `+` or a `-`. After it stands `inf`, `infinity` or `nan`, letters in either case, or a
-/// number. A number is decimal digits with at most one point, which may stand first, last or between, and at least one
-/// digit. It may end in an exponent: `e` or `E`, perhaps a `+` or a `-`, and one digit or more. Nothing else may stand in
-/// the text: no blank, no underscore and no prefix as `0x`. The answer says nothing of the float's size: a text whose
-/// number is too large for any float is a float's text as well.
+/// A float may begin with `+` or `-`. Then follows `inf`, `infinity` or `nan` in any case, or a
+/// number: decimal digits, at least one, with at most one point before, between or after them. A
+/// number may end with an exponent: `e` or `E`, an optional `+` or `-`, and at least one digit.
+/// Nothing else is allowed: no blanks, no underscores and no prefix as `0x`. The size of the number
+/// doesn't matter: one that is too large for any float is a float as well.
+///
+/// # Examples
+///
+/// ```rust
+/// use serde_dynamo::is_float_text;
+///
+/// assert!(is_float_text("-1.5e3") && is_float_text(".5") && is_float_text("NaN"));
+/// assert!(is_float_text("1e999"));
+/// assert!(!is_float_text("1_000") && !is_float_text("0x10") && !is_float_text(""));
+/// ```
 #[tactic(auto, using(crate::proofs::Floats::reads_float))]
 pub fn is_float_text(text: &str) -> bool
     ensures { result ≡ is_float text.now }

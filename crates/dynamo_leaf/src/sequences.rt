@@ -9,13 +9,15 @@ use std::alloc::Global;
 use std::marker::PhantomData;
 use std::vec::IntoIter;
 
-/// The elements of a set of strings, each read by a [`StringDeserializer`](crate::StringDeserializer).
+/// The elements of a set of strings, each read by a
+/// [`StringDeserializer`](crate::StringDeserializer).
 pub type DeserializerSeqStrings = DeserializerSeqTexts<PlainText>;
 
-/// The elements of a set of numbers, each read by a [`DeserializerNumber`](crate::DeserializerNumber).
+/// The elements of a set of numbers, each read by a
+/// [`DeserializerNumber`](crate::DeserializerNumber).
 pub type DeserializerSeqNumbers = DeserializerSeqTexts<NumberText>;
 
-/// The elements of a set of texts of one kind, each read by a [`TextDeserializer`].
+/// The elements of a set of strings of one kind, each read by a [`TextDeserializer`].
 #[derive(Drop)]
 pub struct DeserializerSeqTexts<P> {
     alloc: Global,
@@ -24,7 +26,8 @@ pub struct DeserializerSeqTexts<P> {
 }
 
 impl<P: TextKind> DeserializerSeqTexts<P> {
-    /// The elements of this set, in its order. It takes no memory. What is read takes its memory from `alloc`.
+    /// Returns the elements of this set, in order. It allocates nothing. A value that is read from
+    /// it is allocated in `alloc`.
     pub fn from_vec(alloc: Global, texts: Vec<String>) -> Self
         ensures { texts_left P.of_text result ≡ each P.of_text (map string_bytes texts.items) }
     {
@@ -51,7 +54,7 @@ impl<P: TextKind> SeqAccess for DeserializerSeqTexts<P> {
         }
     }
 
-    /// None: the elements of a set aren't counted.
+    /// Returns `None`: the elements of a set aren't counted.
     fn size_hint(&self) -> Option<usize>
         ensures { result ≡ None }
     {
@@ -67,7 +70,8 @@ pub struct DeserializerSeqBytes {
 }
 
 impl DeserializerSeqBytes {
-    /// The elements of this set, in its order. It takes no memory. What is read takes its memory from `alloc`.
+    /// Returns the elements of this set, in order. It allocates nothing. A value that is read from
+    /// it is allocated in `alloc`.
     pub fn from_vec(alloc: Global, byte_strings: Vec<Vec<u8>>) -> Self
         ensures { bytes_left result ≡ each byte_string (map (λ b. b.items) byte_strings.items) }
     {
@@ -93,7 +97,7 @@ impl SeqAccess for DeserializerSeqBytes {
         }
     }
 
-    /// None: the byte strings of a set aren't counted.
+    /// Returns `None`: the elements of a set aren't counted.
     fn size_hint(&self) -> Option<usize>
         ensures { result ≡ None }
     {

@@ -12,24 +12,21 @@ use dynamo_value::{Error, ErrorImpl, Result};
 use std::alloc::Global;
 use std::marker::PhantomData;
 
-/// The reader of the key of a map.
-///
-/// It shows what [`show_key`](crate::show_key) says, and meets the same errors. A newtype is shown the same key again, and
-/// an enum the variant of that name.
+/// The reader of the key of a map. It shows what [`show_key`](crate::show_key) returns, with the
+/// same errors.
 pub type DeserializerMapKey = TextDeserializer<KeyText>;
 
-/// The reader of an element of a set of numbers.
-///
-/// It shows what [`show_number`](crate::show_number) says, and meets the same errors: an integer of the type that is asked
-/// for, and at any other request whichever number is there.
+/// The reader of an element of a set of numbers. It shows what [`show_number`](crate::show_number)
+/// returns. Its errors are [`ErrorImpl::FailedToParseInt`] and [`ErrorImpl::FailedToParseFloat`],
+/// with the string.
 pub type DeserializerNumber = TextDeserializer<NumberText>;
 
-/// The reader of an element of a set of strings, and of the name of a variant.
-///
-/// An enum is shown the variant of that name. At any other request it shows the text. It never refuses.
+/// The reader of an element of a set of strings, or of the name of a variant. It shows the string,
+/// or the variant of this name for an enum. It never fails.
 pub type StringDeserializer = TextDeserializer<PlainText>;
 
-/// How the text of a reader is read: what is shown inside of one is read by a reader of the same type.
+/// How the string of a reader is read. A reader of a key or a name inside another has the same
+/// type.
 #[derive(Drop)]
 enum Place {
     /// As its kind says.
@@ -40,9 +37,8 @@ enum Place {
     Name,
 }
 
-/// The reader of a single text, of the key of a map, of a number or of a plain text.
-///
-/// It shows what [`TextKind::show_text`] of its kind says, and meets the same errors.
+/// The reader of a single string: the key of a map, a number or a plain string. It shows what
+/// [`TextKind::show_text`] of its kind returns, with the same errors.
 #[derive(Drop)]
 pub struct TextDeserializer<P> {
     alloc: Global,
@@ -52,7 +48,8 @@ pub struct TextDeserializer<P> {
 }
 
 impl<P: TextKind> TextDeserializer<P> {
-    /// The reader of this text. It takes no memory. What is read takes its memory from `alloc`.
+    /// Returns the reader of this string. It allocates nothing. A value that is read from it is
+    /// allocated in `alloc`.
     pub fn from_string(alloc: Global, text: String) -> Self
         ensures { text_source P.of_text result ≡ P.of_text (string_bytes text) }
     {
@@ -65,8 +62,8 @@ impl<P: TextKind> TextDeserializer<P> {
     }
 }
 
-// The text of a number shows neither a key nor a name, and a plain text no key. Both are here so that one function raises
-// every leaf.
+// A number is neither a key nor a name, and a plain string isn't a key. Both functions are here so
+// that `raise` serves every kind.
 impl<P: TextKind> LeafReader for TextDeserializer<P> {
     type Choice = VariantName;
 

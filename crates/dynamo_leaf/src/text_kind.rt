@@ -14,18 +14,26 @@ mod sealed {
 
 use sealed::Sealed;
 
-/// What a text is inside of an attribute value, which says what it shows: [`KeyText`], [`NumberText`] or [`PlainText`].
-/// There are no others.
+/// The kind of a string in an attribute value: [`KeyText`], [`NumberText`] or [`PlainText`]. There
+/// are no others.
 pub trait TextKind: Sealed + Drop {
-    // The source that a text of this kind is.
+    // The source of a string of this kind.
     ghost of_text: { List ℕ → Source };
 
-    /// What a text of this kind shows, and the text. It takes no memory.
+    /// Returns what a string of this kind holds, and the string. It allocates nothing.
+    ///
+    /// # Errors
+    ///
+    /// Returns [`ErrorImpl::ExpectedNum`](dynamo_value::ErrorImpl) or
+    /// [`ErrorImpl::ExpectedString`](dynamo_value::ErrorImpl) for a key, and
+    /// [`ErrorImpl::FailedToParseInt`](dynamo_value::ErrorImpl) or
+    /// [`ErrorImpl::FailedToParseFloat`](dynamo_value::ErrorImpl) for a number, as [`show_key`] and
+    /// [`show_number`] have it. A plain string is never refused.
     fn show_text(request: Request, text: String) -> Result<(Leaf, String)>
         ensures { ShowsText fault_of (shown request (of_text (string_bytes text))) result };
 }
 
-/// The key of a map, by [`show_key`].
+/// The key of a map, for [`show_key`].
 #[derive(Drop)]
 pub struct KeyText;
 
@@ -41,7 +49,7 @@ impl TextKind for KeyText {
     }
 }
 
-/// An element of a set of numbers, by [`show_number`].
+/// An element of a set of numbers, for [`show_number`].
 #[derive(Drop)]
 pub struct NumberText;
 
@@ -59,7 +67,7 @@ impl TextKind for NumberText {
     }
 }
 
-/// An element of a set of strings, or the name of a variant, by [`show_plain_text`].
+/// An element of a set of strings or the name of a variant, for [`show_plain_text`].
 #[derive(Drop)]
 pub struct PlainText;
 

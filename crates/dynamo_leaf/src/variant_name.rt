@@ -1,6 +1,6 @@
 use std::alloc::Global;
 
-/// A variant by its name, without content: what a text shows where an enum is asked for.
+/// A unit variant by its name: what a string is if an enum is asked for.
 #[derive(Drop)]
 pub struct VariantName {
     pub(crate) alloc: Global,

@@ -16,22 +16,33 @@ use dynamo_leaf::LeafReader;
 use dynamo_value::{AttributeValue, Error, ErrorImpl, Result};
 use std::alloc::Global;
 
-/// The reader of an attribute value, and of what stands inside of one.
+/// The reader of an attribute value and of its parts.
 ///
-/// What it shows at each request is told by the definition `attribute_shown` of `dynamo_de`'s `specs/Shown.antt`: a number
-/// as the integer that is asked for, an option as none where it is `NULL` with true and else as some of the same value, a
-/// struct as a map or as a list of its fields, an enum as a text or as a map of one key, and so on. The elements of a list
-/// are read as attribute values, those of a set of strings as plain texts, of numbers as texts of numbers, and of byte
-/// strings as byte strings; the keys of a map as key texts. A map is read in ascending order of the bytes of its keys. To
-/// show a map takes memory, for the list of its entries.
+/// A number shows the integer type that is asked for. An option is `None` for `NULL` with true, and
+/// otherwise the content is the same value. A struct is read from a map, or from a list of its
+/// fields. An enum is read from a string, or from a map of one entry. A list and each kind of set
+/// are sequences. A map is read in ascending order of the bytes of its keys, and allocates the list
+/// of its entries. The definition `attribute_shown` of `dynamo_de`'s `specs/Shown.antt` has every
+/// case.
+///
+/// # Examples
+///
+/// ```rust
+/// use serde_dynamo::de::Deserialize;
+/// use serde_dynamo::{AttributeValue, Deserializer};
+///
+/// let reader = Deserializer::from_attribute_value(alloc, AttributeValue::Bool(true));
+/// assert!(bool::deserialize(alloc, reader)?);
+/// ```
 #[derive(Drop)]
 pub struct Deserializer {
     alloc: Global,
     source: Source,
 }
 
-/// An attribute value; or, inside of one, the key of a map, an element of a set of numbers or of byte strings, and a plain
-/// text, which is an element of a set of strings or the name of a variant.
+/// An attribute value; or, inside of one, the key of a map, an element of a set of numbers or of
+/// byte strings, and a plain text, which is an element of a set of strings or the name of a
+/// variant.
 #[derive(Drop)]
 enum Source {
     AttributeValue(AttributeValue),
@@ -42,7 +53,8 @@ enum Source {
 }
 
 impl Deserializer {
-    /// The reader of this attribute value. It takes no memory. What is read takes its memory from `alloc`.
+    /// Returns the reader of this attribute value. It allocates nothing. A value that is read from
+    /// it is allocated in `alloc`.
     pub fn from_attribute_value(alloc: Global, value: AttributeValue) -> Self
         ensures { source_of result ≡ attribute (view value) }
     {
@@ -52,7 +64,7 @@ impl Deserializer {
         }
     }
 
-    // The reader of this plain text. It takes no memory.
+    // The reader of this plain string. It allocates nothing.
     pub(crate) fn from_plain_text(alloc: Global, text: String) -> Self
         ensures { source_of result ≡ plain_text (string_bytes text) }
     {
@@ -63,7 +75,7 @@ impl Deserializer {
     }
 }
 
-// What a source shows that isn't a text where a string is asked for, without what lies inside.
+// What a source that isn't a string shows for a string's request, without its contents.
 #[inline(never)]
 fn other_surface(reader: Deserializer, request: Request) -> Result<Surface>
     ensures { ShowsSurface fault_of (shown request (source_of reader)) result }
@@ -113,7 +125,7 @@ impl Reader for Deserializer {
         self.alloc
     }
 
-    /// What the source shows at a request. The elements of a list are counted, those of a set are not.
+    /// Returns what the source holds. The elements of a list are counted, those of a set aren't.
     #[inline(always)]
     fn show(self, request: Request) -> Result<Shown>
         ensures shown { IsShown (shown request (source_of self)) result }
@@ -129,7 +141,7 @@ impl Reader for Deserializer {
         }
     }
 
-    /// The same without what lies inside. A text where a string is asked for is shown as it is, and that at once.
+    /// Returns the same without its contents. A string is returned at once for a string's request.
     #[inline(always)]
     fn surface(self, request: Request) -> Result<Surface> {
         let Deserializer { alloc, source } = self;
@@ -187,7 +199,7 @@ impl Reader for Deserializer {
         Error::from(ErrorImpl::ExpectedChar)
     }
 
-    /// How many elements of a list are left, exactly. Those of a set aren't counted.
+    /// Returns the number of remaining elements of a list. Those of a set aren't counted.
     #[tactic(auto, using(crate::proofs::Views::length_values))]
     fn elements_left(rest: &Elements) -> Option<usize> {
         match &rest.rest {
@@ -196,7 +208,7 @@ impl Reader for Deserializer {
         }
     }
 
-    /// How many entries are left, exactly.
+    /// Returns the number of remaining entries.
     fn entries_left(rest: &Entries) -> Option<usize>
         ensures hint { Hints (entries_left rest.now) result }
         ensures exact { result ≡ Some (length (entries_left rest.now)) }

@@ -11,7 +11,7 @@ use dynamo_value::{AttributeValue, Error, Result};
 use std::alloc::Global;
 use std::collections::HashMap;
 
-/// A variant that is written as a map of its name to its content.
+/// A variant that is a map of one entry, from its name to its content.
 #[derive(Drop)]
 pub struct DeserializerEnum {
     alloc: Global,
@@ -19,10 +19,10 @@ pub struct DeserializerEnum {
 }
 
 impl DeserializerEnum {
-    /// The variant that the one key of this item names, with the key's value as its content. It takes no memory. What is
-    /// read takes its memory from `alloc`.
+    /// Returns the variant with the only key of this item as its name and the key's value as its
+    /// content. It allocates nothing. A value that is read from it is allocated in `alloc`.
     ///
-    /// An item of no key, or of two and more, is refused when its variant is asked for, by
+    /// If the item has no key or several, asking for the variant fails with
     /// [`ExpectedSingleKey`](dynamo_value::ErrorImpl::ExpectedSingleKey).
     pub fn from_item(alloc: Global, item: HashMap<String, AttributeValue>) -> Self
         ensures { enum_chosen result ≡ only_entry (members_view item.entries) }
@@ -49,14 +49,15 @@ impl EnumAccess for DeserializerEnum {
     }
 }
 
-/// The content of a variant, read by a [`Deserializer`]. There always is one, so that no call refuses for want of it.
+/// The content of a variant, read by a [`Deserializer`]. There always is one.
 #[derive(Drop)]
 pub struct DeserializerVariant {
     content: Deserializer,
 }
 
 impl DeserializerVariant {
-    /// The content that is this attribute value. It takes no memory. What is read takes its memory from `alloc`.
+    /// Returns the content that is this attribute value. It allocates nothing. A value that is read
+    /// from it is allocated in `alloc`.
     pub fn from_attribute_value(alloc: Global, value: AttributeValue) -> Self
         ensures { variant_content result ≡ Some (attribute (view value)) }
     {

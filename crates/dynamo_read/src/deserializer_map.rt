@@ -12,19 +12,21 @@ use dynamo_value::{AttributeValue, Error, Result};
 use std::alloc::Global;
 use std::collections::HashMap;
 
-/// The entries of an item in ascending order of the bytes of their keys, each read by a [`Deserializer`], and the value
-/// whose key was read last.
+/// The entries of an item in ascending order of the bytes of their keys, each read by a
+/// [`Deserializer`], and the pending value, whose key was read last.
 #[derive(Drop)]
 pub struct DeserializerMap {
     access: ReaderMapAccess<Deserializer>,
 }
 
 impl DeserializerMap {
-    /// The entries of this item, none of whose values is pending. All leave the item, which is empty then. Their list and
-    /// what is read take their memory from `alloc`.
+    /// Takes all entries of this item, which is empty then. No value is pending. The list of
+    /// entries, and a value that is read from it, are allocated in `alloc`.
     ///
-    /// Where no memory is found for the list, the error is [`OutOfMemory`](dynamo_value::ErrorImpl::OutOfMemory), and the
-    /// item holds what it held.
+    /// # Errors
+    ///
+    /// Returns [`ErrorImpl::OutOfMemory`](dynamo_value::ErrorImpl::OutOfMemory) if memory runs out.
+    /// The item keeps its entries then.
     pub fn from_item(alloc: Global, item: &mut HashMap<String, AttributeValue>) -> Result<Self>
         ensures left { IfOk result (λ map. (map_left map).entries ≡ entries_view item.old.entries) }
         ensures pending { IfOk result (λ map. (map_left map).pending ≡ None) }
@@ -51,7 +53,7 @@ impl MapAccess for DeserializerMap {
         self.access.next_value_seed(seed)
     }
 
-    /// How many entries are left, exactly.
+    /// Returns the number of remaining entries.
     fn size_hint(&self) -> Option<usize>
         ensures hint { Hints (map_left self.now).entries result }
         ensures exact { result ≡ Some (length (map_left self.now).entries) }

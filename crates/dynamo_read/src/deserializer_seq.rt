@@ -18,7 +18,8 @@ pub struct DeserializerSeq {
 }
 
 impl DeserializerSeq {
-    /// The elements of this list, in its order. It takes no memory. What is read takes its memory from `alloc`.
+    /// Returns the elements of this list, in order. It allocates nothing. A value that is read from
+    /// it is allocated in `alloc`.
     pub fn from_vec(alloc: Global, values: Vec<AttributeValue>) -> Self
         ensures { seq_left result ≡ values_of (elements_view values.items) }
     {
@@ -44,7 +45,7 @@ impl SeqAccess for DeserializerSeq {
         }
     }
 
-    /// How many elements are left, exactly.
+    /// Returns the number of remaining elements.
     #[tactic(auto, using(crate::proofs::Views::length_values))]
     fn size_hint(&self) -> Option<usize>
         ensures hint { Hints (seq_left self.now) result }

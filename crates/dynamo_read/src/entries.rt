@@ -9,7 +9,8 @@ ghost use Rattle.dynamo_read.specs.Entries.{seen_entries, IsSingle};
 use dynamo_value::{AttributeValue, Error, ErrorImpl, Result};
 use std::collections::HashMap;
 
-// The entries of a map in ascending order of the bytes of their keys, put into a list that has room for them.
+// The entries of a map in ascending order of the bytes of their keys, put into a list that has room
+// for them.
 pub(crate) fn sorted(
     map: HashMap<String, AttributeValue>,
     mut list: Vec<(String, AttributeValue)>,

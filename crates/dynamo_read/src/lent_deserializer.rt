@@ -18,26 +18,34 @@ use dynamo_value::{AttributeValue, Error, ErrorImpl, Result};
 use std::alloc::Global;
 use std::collections::HashMap;
 
-/// The reader of a lent attribute value, and of what stands inside of one.
+/// The reader of a borrowed attribute value and of its parts.
 ///
-/// At each request it shows what a [`Deserializer`](crate::Deserializer) of an equal value shows, or refuses by the same fault.
-/// Nothing is taken apart: all is read where it lies. A text, a byte string, and the text of a number that is no integer of 64
-/// bits are copied where they are shown, and so is the text that an error has. To show a map takes memory, for the list of its
-/// entries, which are read in ascending order of the bytes of their keys. Nothing else takes memory: neither an integer, nor a
-/// refusal of another kind, nor a text or a byte string that is ignored.
+/// It shows what a [`Deserializer`](crate::Deserializer) of an equal value shows, with the same
+/// errors. These are copied when they are shown: a string, a byte string, the string of a number
+/// that no 64-bit integer holds, and the string that an error holds. A map allocates the list of
+/// its entries, which are read in ascending order of the bytes of their keys. Nothing else
+/// allocates: neither an integer, nor any other error, nor a string or a byte string that is
+/// ignored.
 ///
 /// # Examples
 ///
-///     let reader = LentDeserializer::from_attribute_value(alloc, &value);
-///     let names: Vec<String> = Vec::deserialize(alloc, reader)?;
+/// ```rust
+/// use serde_dynamo::de::Deserialize;
+/// use serde_dynamo::{AttributeValue, LentDeserializer};
+///
+/// let value = AttributeValue::Bool(true);
+/// let reader = LentDeserializer::from_attribute_value(alloc, &value);
+/// assert!(bool::deserialize(alloc, reader)?);
+/// ```
 #[derive(Drop)]
 pub struct LentDeserializer<'a> {
     alloc: Global,
     source: LentSource<'a>,
 }
 
-/// An attribute value, or the map that is one; or, inside of one, the key of a map, an element of a set of numbers or of byte
-/// strings, and a plain text, which is an element of a set of strings or the name of a variant. Each is lent.
+/// An attribute value, or the map that is one; or, inside of one, the key of a map, an element of a
+/// set of numbers or of byte strings, and a plain string, which is an element of a set of strings
+/// or the name of a variant. Each is borrowed.
 #[derive(Drop)]
 enum LentSource<'a> {
     AttributeValue(&'a AttributeValue),
@@ -49,7 +57,8 @@ enum LentSource<'a> {
 }
 
 impl<'a> LentDeserializer<'a> {
-    /// The reader of this attribute value. It takes no memory. What is read takes its memory from `alloc`.
+    /// Returns the reader of this attribute value. It allocates nothing. A value that is read from
+    /// it is allocated in `alloc`.
     pub fn from_attribute_value(alloc: Global, value: &'a AttributeValue) -> Self
         ensures { lent_source result ≡ attribute (view value.now) }
     {
@@ -59,7 +68,8 @@ impl<'a> LentDeserializer<'a> {
         }
     }
 
-    /// The reader of the attribute value that is this map. It takes no memory. What is read takes its memory from `alloc`.
+    /// Returns the reader of the attribute value that is this map. It allocates nothing. A value
+    /// that is read from it is allocated in `alloc`.
     pub fn from_map(alloc: Global, map: &'a HashMap<String, AttributeValue>) -> Self
         ensures { lent_source result ≡ attribute (av.M (members_view map.now.entries)) }
     {
@@ -69,7 +79,7 @@ impl<'a> LentDeserializer<'a> {
         }
     }
 
-    // The reader of this key. It takes no memory.
+    // The reader of this key. It allocates nothing.
     pub(crate) fn from_key_text(alloc: Global, text: &'a String) -> Self
         ensures { lent_source result ≡ key_text (string_bytes text.now) }
     {
@@ -79,7 +89,7 @@ impl<'a> LentDeserializer<'a> {
         }
     }
 
-    // The reader of this plain text. It takes no memory.
+    // The reader of this plain string. It allocates nothing.
     fn from_plain_text(alloc: Global, text: &'a String) -> Self
         ensures { lent_source result ≡ plain_text (string_bytes text.now) }
     {
@@ -90,7 +100,7 @@ impl<'a> LentDeserializer<'a> {
     }
 }
 
-// What a source shows that isn't a text where a string is asked for, without what lies inside.
+// What a source that isn't a string shows for a string's request, without its contents.
 #[inline(never)]
 fn other_surface(reader: LentDeserializer<'_>, request: Request) -> Result<Surface>
     ensures { ShowsSurface fault_of (shown request (lent_source reader.entry)) result }
@@ -121,7 +131,7 @@ impl<'a> Reader for LentDeserializer<'a> {
         self.alloc
     }
 
-    /// What the source shows at a request. The elements of a list are counted, those of a set are not.
+    /// Returns what the source holds. The elements of a list are counted, those of a set aren't.
     #[inline(always)]
     fn show(self, request: Request) -> Result<LentShown<'a>>
         ensures shown { IsLentShown (shown request (lent_source self.entry)) result }
@@ -138,7 +148,7 @@ impl<'a> Reader for LentDeserializer<'a> {
         }
     }
 
-    /// The same without what lies inside. A text where a string is asked for is shown as it is, and that at once.
+    /// Returns the same without its contents. A string is returned at once for a string's request.
     #[inline(always)]
     fn surface(self, request: Request) -> Result<Surface> {
         let LentDeserializer { alloc, source } = self;
@@ -153,7 +163,8 @@ impl<'a> Reader for LentDeserializer<'a> {
         }
     }
 
-    /// What lies inside of the source where it is ignored. It copies nothing but the text of what is no number, for the error.
+    /// Returns the contents of an ignored source. It copies only a string that isn't a number, for
+    /// the error.
     #[inline(always)]
     fn inside(self) -> Result<Inside<LentElements<'a>, LentEntries<'a>>> {
         let alloc = self.alloc;
@@ -218,7 +229,7 @@ impl<'a> Reader for LentDeserializer<'a> {
         Error::from(ErrorImpl::ExpectedChar)
     }
 
-    /// How many elements of a list are left, exactly. Those of a set aren't counted.
+    /// Returns the number of remaining elements of a list. Those of a set aren't counted.
     #[tactic(auto, using(crate::proofs::Views::length_values))]
     fn elements_left(rest: &LentElements<'a>) -> Option<usize> {
         match &rest.rest {
@@ -227,7 +238,7 @@ impl<'a> Reader for LentDeserializer<'a> {
         }
     }
 
-    /// How many entries are left, exactly.
+    /// Returns the number of remaining entries.
     fn entries_left(rest: &LentEntries<'a>) -> Option<usize>
         ensures hint { Hints (lent_entries rest.now) result }
         ensures exact { result ≡ Some (length (lent_entries rest.now)) }

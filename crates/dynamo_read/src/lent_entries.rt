@@ -9,7 +9,7 @@ use dynamo_value::{AttributeValue, Error, ErrorImpl, Result};
 use std::alloc::Global;
 use std::collections::HashMap;
 
-// The entries of a map, lent, in ascending order of the bytes of their keys.
+// The entries of a map, borrowed, in ascending order of the bytes of their keys.
 pub(crate) fn by_key<'a>(
     alloc: Global,
     members: &'a HashMap<String, AttributeValue>,
@@ -25,7 +25,7 @@ pub(crate) fn by_key<'a>(
     Ok(list)
 }
 
-// The one key of the lent map, and its value. A map of no key, or of two and more, is refused.
+// The one key of the borrowed map, and its value. A map of no key, or of two and more, is refused.
 pub(crate) fn only_lent<'a>(
     members: &'a HashMap<String, AttributeValue>,
 ) -> Result<(&'a String, &'a AttributeValue)>

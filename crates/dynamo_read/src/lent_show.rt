@@ -28,7 +28,7 @@ pub(crate) type LentShown<'a> = Showing<
     LentChoice<'a>,
 >;
 
-// What a lent attribute value shows at each request.
+// What a borrowed attribute value shows at each request.
 #[inline(always)]
 pub(crate) fn attribute_value<'a>(
     alloc: Global,
@@ -67,7 +67,7 @@ pub(crate) fn attribute_value<'a>(
     }
 }
 
-// What the attribute value that is a lent map shows at each request.
+// What the attribute value that is a borrowed map shows at each request.
 pub(crate) fn map_value<'a>(
     alloc: Global,
     request: Request,
@@ -113,7 +113,7 @@ fn any<'a>(alloc: Global, value: &'a AttributeValue) -> Result<LentShown<'a>>
     }
 }
 
-// What lies inside of an ignored value. It copies nothing but the text of what is no number, for the error.
+// The contents of an ignored value. It copies only a string that isn't a number, for the error.
 pub(crate) fn inside<'a>(
     alloc: Global,
     value: &'a AttributeValue,
@@ -127,7 +127,7 @@ pub(crate) fn inside<'a>(
     }
 }
 
-// The same of the text of a number.
+// The same for the string of a number.
 pub(crate) fn inside_number<'a>(
     text: &'a String,
 ) -> Result<Inside<LentElements<'a>, LentEntries<'a>>>
@@ -172,7 +172,8 @@ fn bytes<'a>(alloc: Global, value: &'a AttributeValue) -> Result<LentShown<'a>>
     }
 }
 
-// An option: none where `NULL` is true, and else the same value as its content, also where `NULL` is false.
+// An option: none where `NULL` is true, and else the same value as its content, also where `NULL`
+// is false.
 #[inline(always)]
 fn option<'a>(alloc: Global, value: &'a AttributeValue) -> Result<LentShown<'a>>
     ensures { IsLentShown (option_shown (view value.now)) result }
@@ -237,14 +238,15 @@ fn enumeration<'a>(alloc: Global, value: &'a AttributeValue) -> Result<LentShown
     }
 }
 
-// What a lent byte string shows: a copy of its bytes.
+// What a borrowed byte string shows: a copy of its bytes.
 pub(crate) fn byte_string<'a>(alloc: Global, bytes: &'a Vec<u8>) -> Result<LentShown<'a>>
     ensures { IsLentShown (Ok (sight.bytes bytes.now.items)) result }
 {
     Ok(Showing::Bytes(Vec::from_slice(alloc, bytes.as_slice())?))
 }
 
-// What the lent text of a number shows. The text is copied where it is shown itself, and for the error.
+// What the borrowed string of a number shows. The string is copied where it is shown itself, and
+// for the error.
 pub(crate) fn number_text<'a>(
     alloc: Global,
     request: Request,
@@ -258,7 +260,7 @@ pub(crate) fn number_text<'a>(
     }
 }
 
-// What the lent key of a map shows.
+// What the borrowed key of a map shows.
 #[inline(always)]
 pub(crate) fn key_text<'a>(
     alloc: Global,
@@ -270,7 +272,7 @@ pub(crate) fn key_text<'a>(
     of_leaf(alloc, show_key(request, text.as_str())?, text)
 }
 
-// What a lent plain text shows.
+// What a borrowed plain string shows.
 #[inline(always)]
 pub(crate) fn plain_text<'a>(
     alloc: Global,
@@ -282,7 +284,8 @@ pub(crate) fn plain_text<'a>(
     of_leaf(alloc, show_plain_text(request), text)
 }
 
-// What a lent text shows by its leaf, with readers round what lies inside. It is copied where it is shown itself.
+// What a borrowed string shows by its leaf, with readers around its contents. It is copied where it
+// is shown itself.
 fn of_leaf<'a>(alloc: Global, leaf: Leaf, text: &'a String) -> Result<LentShown<'a>>
     ensures { IsLentShown (Ok (leaf_sight (string_bytes text.now) leaf)) result }
 {

@@ -13,14 +13,14 @@ use std::collections::HashMap;
 use std::slice::Iter;
 use std::vec::IntoIter;
 
-/// The elements of a lent list or of a lent set that aren't read yet.
+/// The elements of a borrowed list or of a borrowed set that aren't read yet.
 #[derive(Drop)]
 pub struct LentElements<'a> {
     pub(crate) alloc: Global,
     pub(crate) rest: LentRest<'a>,
 }
 
-/// What is left of a lent list, of a lent set of strings, of numbers or of byte strings.
+/// What is left of a borrowed list, of a borrowed set of strings, of numbers or of byte strings.
 #[derive(Drop)]
 pub(crate) enum LentRest<'a> {
     Values(Iter<'a, AttributeValue>),
@@ -30,7 +30,7 @@ pub(crate) enum LentRest<'a> {
 }
 
 impl<'a> LentElements<'a> {
-    // The elements of a lent list. It takes no memory, as the other three.
+    // The elements of a borrowed list. Like the other three it allocates nothing.
     pub(crate) fn values(alloc: Global, values: &'a Vec<AttributeValue>) -> Self
         ensures left { lent_elements result ≡ values_of (elements_view values.now.items) }
         ensures counted { lent_counted result ≡ true }
@@ -41,7 +41,7 @@ impl<'a> LentElements<'a> {
         }
     }
 
-    // The elements of a lent set of strings.
+    // The elements of a borrowed set of strings.
     pub(crate) fn texts(alloc: Global, texts: &'a Vec<String>) -> Self
         ensures left { lent_elements result ≡ each plain_text (map string_bytes texts.now.items) }
         ensures counted { lent_counted result ≡ false }
@@ -52,7 +52,7 @@ impl<'a> LentElements<'a> {
         }
     }
 
-    // The elements of a lent set of numbers.
+    // The elements of a borrowed set of numbers.
     pub(crate) fn numbers(alloc: Global, numbers: &'a Vec<String>) -> Self
         ensures left { lent_elements result ≡ each number_text (map string_bytes numbers.now.items) }
         ensures counted { lent_counted result ≡ false }
@@ -63,7 +63,7 @@ impl<'a> LentElements<'a> {
         }
     }
 
-    // The elements of a lent set of byte strings.
+    // The elements of a borrowed set of byte strings.
     pub(crate) fn byte_strings(alloc: Global, byte_strings: &'a Vec<Vec<u8>>) -> Self
         ensures left { lent_elements result ≡ each byte_string (map (λ b. b.items) byte_strings.now.items) }
         ensures counted { lent_counted result ≡ false }
@@ -75,7 +75,8 @@ impl<'a> LentElements<'a> {
     }
 }
 
-/// The entries of a lent map that aren't read yet, in ascending order of the bytes of their keys.
+/// The entries of a borrowed map that aren't read yet, in ascending order of the bytes of their
+/// keys.
 #[derive(Drop)]
 pub struct LentEntries<'a> {
     pub(crate) alloc: Global,
@@ -83,7 +84,7 @@ pub struct LentEntries<'a> {
 }
 
 impl<'a> LentEntries<'a> {
-    // All entries of the lent map.
+    // All entries of the borrowed map.
     #[tactic(auto, using(crate::proofs::Views::entries_of_members))]
     pub(crate) fn of_map(alloc: Global, map: &'a HashMap<String, AttributeValue>) -> Result<Self>
         ensures ok { IfOk result (λ entries. lent_entries entries ≡ entries_of (members_view map.now.entries)) }
@@ -94,14 +95,14 @@ impl<'a> LentEntries<'a> {
     }
 }
 
-/// A variant of an enum that isn't read yet, of a lent value.
+/// A variant of an enum that isn't read yet, of a borrowed value.
 #[derive(Drop)]
 pub struct LentChoice<'a> {
     pub(crate) alloc: Global,
     pub(crate) form: LentForm<'a>,
 }
 
-/// A variant is written as its name, or as a map of its name to its content; either is lent.
+/// A variant is written as its name, or as a map of its name to its content; either is borrowed.
 #[derive(Drop)]
 pub(crate) enum LentForm<'a> {
     Name(&'a String),
@@ -109,7 +110,7 @@ pub(crate) enum LentForm<'a> {
 }
 
 impl<'a> LentChoice<'a> {
-    // The variant of this lent name, without content. It takes no memory.
+    // The variant of this borrowed name, without content. It allocates nothing.
     pub(crate) fn name(alloc: Global, name: &'a String) -> Self
         ensures { lent_chosen result ≡ Ok (string_bytes name.now, None) }
     {
@@ -119,7 +120,8 @@ impl<'a> LentChoice<'a> {
         }
     }
 
-    // The variant that the one key of the lent map names, with the value as its content. It takes no memory.
+    // The variant that the one key of the borrowed map names, with the value as its content. It
+    // allocates nothing.
     pub(crate) fn map(alloc: Global, map: &'a HashMap<String, AttributeValue>) -> Self
         ensures { lent_chosen result ≡ only_entry (members_view map.now.entries) }
     {

@@ -1,16 +1,16 @@
-//! The readers of attribute values and of items.
+//! The readers of attribute values and items.
 //!
 //! | What is read | Its reader |
 //! |---|---|
 //! | an attribute value | [`Deserializer`] |
-//! | a lent attribute value, or a lent map | [`LentDeserializer`] |
+//! | a borrowed attribute value or map | [`LentDeserializer`] |
 //! | a list, element by element | [`DeserializerSeq`] |
 //! | an item or a map, entry by entry | [`DeserializerMap`] |
-//! | a variant that is a map of its name to its content | [`DeserializerEnum`] |
+//! | a variant that is a map of one entry | [`DeserializerEnum`] |
 //! | the content of a variant | [`DeserializerVariant`] |
 //!
-//! [`from_attribute_value`], [`from_item`] and [`from_items`] put a reader round what they are given and read a value of it.
-//! [`from_item_ref`] reads an item that is lent, and stays whole.
+//! [`from_attribute_value`], [`from_item`] and [`from_items`] read a value from an attribute value,
+//! an item or a list of items. [`from_item_ref`] borrows its item.
 #![tactic(auto)]
 
 ghost use Rattle.std.specs.Prelude.{◌≡◌, map, IfOk, IfErr};
@@ -46,21 +46,63 @@ pub use lent_deserializer::LentDeserializer;
 use std::alloc::Global;
 use std::collections::HashMap;
 
-/// Reads a value of an attribute value. What is read takes its memory from `alloc`.
+/// Reads a value from an attribute value. The value is allocated in `alloc`.
 ///
-/// The answer is one that the type permits on the attribute value, a value or a fault. Where no memory is found, it may be
-/// [`OutOfMemory`](dynamo_value::ErrorImpl::OutOfMemory) in its place.
+/// # Errors
+///
+/// Returns the first error that the type has for the attribute value: one of the `Expected` kinds
+/// of [`ErrorImpl`](dynamo_value::ErrorImpl) for another kind of value,
+/// [`FailedToParseInt`](dynamo_value::ErrorImpl::FailedToParseInt) for a number that the integer
+/// type doesn't hold, or [`Message`](dynamo_value::ErrorImpl::Message) for an error of the type
+/// itself, as a missing field.
+///
+/// Returns [`ErrorImpl::OutOfMemory`](dynamo_value::ErrorImpl::OutOfMemory) if memory runs out.
+///
+/// # Examples
+///
+/// ```rust
+/// use serde_dynamo::{AttributeValue, from_attribute_value};
+///
+/// let age = AttributeValue::N(String::from_str(alloc, "42")?);
+/// assert_eq!(from_attribute_value::<u8>(alloc, age)?, 42);
+///
+/// let null = AttributeValue::Null(true);
+/// let name: Option<String> = from_attribute_value(alloc, null)?;
+/// assert!(name.is_none());
+/// ```
 pub fn from_attribute_value<T: Deserialize>(alloc: Global, value: AttributeValue) -> Result<T>
     ensures { Meets fault_of (T.reads (attribute (view value))) result }
 {
     T::deserialize(alloc, Deserializer::from_attribute_value(alloc, value))
 }
 
-/// Reads a value of an item, as of the attribute value that is the map of its attributes. What is read takes its memory
-/// from `alloc`.
+/// Reads a value from an item. The value is allocated in `alloc`.
 ///
-/// The answer is one that the type permits on that map, a value or a fault. Where no memory is found, it may be
-/// [`OutOfMemory`](dynamo_value::ErrorImpl::OutOfMemory) in its place.
+/// It is the value that [`from_attribute_value`] reads from the map of the item's attributes.
+///
+/// # Errors
+///
+/// Returns the first error that the type has for the map, as [`from_attribute_value`] does.
+///
+/// Returns [`ErrorImpl::OutOfMemory`](dynamo_value::ErrorImpl::OutOfMemory) if memory runs out.
+///
+/// # Examples
+///
+/// ```rust
+/// use serde_dynamo::samples::User;
+/// use serde_dynamo::{Item, from_item, to_item};
+///
+/// let id = String::from_str(alloc, "fSsgVtal8TpP")?;
+/// let name = String::from_str(alloc, "Arthur Dent")?;
+/// let item = to_item(alloc, &User { id, name, age: 42 })?;
+/// let user: User = from_item(alloc, item)?;
+/// assert_eq!(user.age, 42);
+///
+/// let Err(error) = from_item::<User>(alloc, Item::new(alloc)) else {
+///     anyhow::bail!("an empty item is no user");
+/// };
+/// assert_eq!(error.to_string(alloc)?.as_str(), "missing field `id`");
+/// ```
 #[tactic(auto, using(dynamo_value::proofs::Views::view_map))]
 pub fn from_item<T: Deserialize>(alloc: Global, item: Item) -> Result<T>
     ensures { Meets fault_of (T.reads (attribute (av.M (item_view item)))) result }
@@ -68,34 +110,61 @@ pub fn from_item<T: Deserialize>(alloc: Global, item: Item) -> Result<T>
     from_attribute_value(alloc, AttributeValue::M(item.into_inner()))
 }
 
-/// Reads a value of a lent item, which stays as it is. What it may answer is what [`from_item`] may answer on an equal item.
+/// Reads a value from a borrowed item, which stays as it is. The value is allocated in `alloc`.
 ///
-/// It takes the item by reference, and `alloc`, from which what is read takes its memory. It returns one of the answers that the
-/// type permits on the map of the item's attributes, a value or a fault. No copy is made of the item: of what is read, keys,
-/// texts and byte strings are copied, each by itself, and the text of a number that is no integer of 64 bits; and each map has
-/// a list of its entries while it is read.
+/// It is the value that [`from_item`] reads from an equal item. The item isn't cloned: only the
+/// keys, strings and byte strings that the value keeps are, the string of a number that no 64-bit
+/// integer holds, and a list of each map's entries while the map is read.
 ///
 /// # Errors
 ///
-/// The fault that the type permits on that map, as a missing field or an attribute of another kind; and
-/// [`OutOfMemory`](dynamo_value::ErrorImpl::OutOfMemory) where no memory is found.
+/// Returns the first error that the type has for the item's map, as [`from_attribute_value`] does.
+///
+/// Returns [`ErrorImpl::OutOfMemory`](dynamo_value::ErrorImpl::OutOfMemory) if memory runs out.
 ///
 /// # Examples
 ///
-///     let item = to_item(alloc, &user)?;
-///     let first: User = from_item_ref(alloc, &item)?;
-///     let second: User = from_item_ref(alloc, &item)?;
+/// ```rust
+/// use serde_dynamo::samples::User;
+/// use serde_dynamo::{from_item_ref, to_item};
+///
+/// let id = String::from_str(alloc, "fSsgVtal8TpP")?;
+/// let name = String::from_str(alloc, "Arthur Dent")?;
+/// let item = to_item(alloc, &User { id, name, age: 42 })?;
+///
+/// let first: User = from_item_ref(alloc, &item)?;
+/// let second: User = from_item_ref(alloc, &item)?;
+/// assert_eq!(first, second);
+/// ```
 pub fn from_item_ref<T: Deserialize>(alloc: Global, item: &Item) -> Result<T>
     ensures { Meets fault_of (T.reads (attribute (av.M (item_view item.now)))) result }
 {
     T::deserialize(alloc, LentDeserializer::from_map(alloc, item.inner()))
 }
 
-/// Reads a list of values of a list of items, each as of the attribute value that is the map of its attributes. What is
-/// read takes its memory from `alloc`.
+/// Reads a list of values from a list of items, one from each, in order. The values are allocated
+/// in `alloc`.
 ///
-/// The answer has a value for each item, in order, that the type permits on the item's map; or it is the first fault that
-/// an item meets. Where no memory is found, it may be [`OutOfMemory`](dynamo_value::ErrorImpl::OutOfMemory) in its place.
+/// # Errors
+///
+/// Returns the first error of reading an item, as [`from_item`] does.
+///
+/// Returns [`ErrorImpl::OutOfMemory`](dynamo_value::ErrorImpl::OutOfMemory) if memory runs out.
+///
+/// # Examples
+///
+/// ```rust
+/// use serde_dynamo::samples::User;
+/// use serde_dynamo::{Items, from_items, to_item};
+///
+/// let id = String::from_str(alloc, "fSsgVtal8TpP")?;
+/// let name = String::from_str(alloc, "Arthur Dent")?;
+/// let item = to_item(alloc, &User { id, name, age: 42 })?;
+///
+/// let items = Items::from(vec![in alloc; item.into_inner()]?);
+/// let users: Vec<User> = from_items(alloc, items)?;
+/// assert!(matches!(users.as_slice(), [user] if user.age == 42));
+/// ```
 #[tactic(auto, using(crate::proofs::Views::elements_of_maps))]
 pub fn from_items<T: Deserialize>(alloc: Global, items: Items) -> Result<Vec<T>>
     ensures { Meets fault_of (ReadsList T.reads (map (λ m. attribute (av.M m)) (items_view items))) result }

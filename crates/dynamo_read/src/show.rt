@@ -117,7 +117,8 @@ pub(crate) fn character<D, L, M, C>(value: &AttributeValue) -> Result<Showing<D,
     }
 }
 
-// The one character of a text; the first where there are more, which a visitor may refuse for what it is.
+// The one character of a string; the first where there are more, which a visitor may refuse for
+// what it is.
 #[tactic(auto, using(crate::proofs::Characters::only_one, crate::proofs::Characters::first_of_more))]
 fn only_char<D, L, M, C>(text: &str) -> Result<Showing<D, L, M, C>>
     ensures { (source : D → Source) (elements : L → List Source) (entries : M → List Entry)
@@ -156,7 +157,8 @@ fn bytes(value: AttributeValue) -> Result<Shown>
     }
 }
 
-// An option: none where `NULL` is true, and else the same value as its content, also where `NULL` is false.
+// An option: none where `NULL` is true, and else the same value as its content, also where `NULL`
+// is false.
 #[inline(always)]
 fn option(alloc: Global, value: AttributeValue) -> Result<Shown>
     ensures { IsShown (option_shown (view value)) result }
@@ -235,7 +237,7 @@ fn enumeration(alloc: Global, value: AttributeValue) -> Result<Shown>
     }
 }
 
-// What the text of a number shows.
+// What the string of a number shows.
 pub(crate) fn number_text(alloc: Global, request: Request, text: String) -> Result<Shown>
     ensures { IsShown (number_text_shown request (string_bytes text)) result }
 {
@@ -252,7 +254,7 @@ pub(crate) fn key_text(alloc: Global, request: Request, text: String) -> Result<
     Ok(of_leaf(alloc, leaf, text))
 }
 
-// What a plain text shows.
+// What a plain string shows.
 #[inline(always)]
 pub(crate) fn plain_text(alloc: Global, request: Request, text: String) -> Result<Shown>
     ensures { IsShown (plain_text_shown request (string_bytes text)) result }
@@ -261,7 +263,7 @@ pub(crate) fn plain_text(alloc: Global, request: Request, text: String) -> Resul
     Ok(of_leaf(alloc, leaf, text))
 }
 
-// What a single text shows, with readers round what lies inside.
+// What a single string shows, with readers around its contents.
 #[inline(always)]
 fn of_leaf(alloc: Global, leaf: Leaf, text: String) -> Shown
     ensures { seen source_of elements_left entries_left chosen_of result ≡ leaf_sight (string_bytes text) leaf }

@@ -29,7 +29,7 @@ pub(crate) enum Rest {
 }
 
 impl Elements {
-    // The elements of a list. It takes no memory.
+    // The elements of a list. It allocates nothing.
     pub(crate) fn values(alloc: Global, values: Vec<AttributeValue>) -> Self
         ensures left { elements_left result ≡ values_of (elements_view values.items) }
         ensures counted { elements_counted result ≡ true }
@@ -40,7 +40,7 @@ impl Elements {
         }
     }
 
-    // The elements of a set of strings. It takes no memory.
+    // The elements of a set of strings. It allocates nothing.
     pub(crate) fn texts(alloc: Global, texts: Vec<String>) -> Self
         ensures left { elements_left result ≡ each plain_text (map string_bytes texts.items) }
         ensures counted { elements_counted result ≡ false }
@@ -51,7 +51,7 @@ impl Elements {
         }
     }
 
-    // The elements of a set of numbers. It takes no memory.
+    // The elements of a set of numbers. It allocates nothing.
     pub(crate) fn numbers(alloc: Global, numbers: Vec<String>) -> Self
         ensures left { elements_left result ≡ each number_text (map string_bytes numbers.items) }
         ensures counted { elements_counted result ≡ false }
@@ -62,7 +62,7 @@ impl Elements {
         }
     }
 
-    // The elements of a set of byte strings. It takes no memory.
+    // The elements of a set of byte strings. It allocates nothing.
     pub(crate) fn byte_strings(alloc: Global, byte_strings: Vec<Vec<u8>>) -> Self
         ensures left { elements_left result ≡ each byte_string (map (λ b. b.items) byte_strings.items) }
         ensures counted { elements_counted result ≡ false }
@@ -82,7 +82,7 @@ pub struct Entries {
 }
 
 impl Entries {
-    // All entries leave the map. Where no memory is found, the map holds what it held.
+    // All entries leave the map. If memory runs out, the map holds what it held.
     pub(crate) fn take(alloc: Global, map: &mut HashMap<String, AttributeValue>) -> Result<Self>
         ensures ok { IfOk result (λ entries. entries_left entries ≡ entries_view map.old.entries) }
         ensures empty { OnOk result (map.new.entries ≡ []) }
@@ -122,7 +122,7 @@ pub(crate) enum Form {
 }
 
 impl Choice {
-    // The variant of this name, without content. It takes no memory.
+    // The variant of this name, without content. It allocates nothing.
     pub(crate) fn name(alloc: Global, name: String) -> Self
         ensures { chosen_of result ≡ Ok (string_bytes name, None) }
     {
@@ -132,7 +132,8 @@ impl Choice {
         }
     }
 
-    // The variant that the one key of the map names, with the value as its content. It takes no memory.
+    // The variant that the one key of the map names, with the value as its content. It allocates
+    // nothing.
     pub(crate) fn map(alloc: Global, map: HashMap<String, AttributeValue>) -> Self
         ensures { chosen_of result ≡ only_entry (members_view map.entries) }
     {

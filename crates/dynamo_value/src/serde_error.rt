@@ -12,8 +12,8 @@ pub trait Error: Sized + Drop {
     // The fault of an error.
     ghost fault: { Self → Fault };
 
-    /// Returns an error with this message, or that of [`Error::out_of_memory`] if memory runs out
-    /// for the message.
+    /// Returns an error with this message, or [`Error::out_of_memory`] if memory runs out for the
+    /// message.
     fn custom(alloc: Global, text: &str) -> Self
         ensures { (fault result ≡ message text.now) ⊎ (fault result ≡ out_of_memory) };
 

@@ -21,13 +21,15 @@ pub type SerializerMap = MapOf<Serializer>;
 /// The builder of a struct's `M`.
 pub type SerializerStruct = StructOf<Serializer>;
 
-/// The builder of a tuple variant: an `M` of one member, the variant's name, over an `L`.
+/// The builder of a tuple variant: an `M` of one entry, from the variant's name to an `L`.
 pub type SerializerTupleVariant<'a> = TupleVariantOf<'a, Serializer>;
 
-/// The builder of a struct variant: an `M` of one member, the variant's name, over the `M` of its fields.
+/// The builder of a struct variant: an `M` of one entry, from the variant's name to the `M` of its
+/// fields.
 pub type SerializerStructVariant<'a> = StructVariantOf<'a, Serializer>;
 
-// Puts one entry. It isn't inlined, so that a value that has no room to give back is handed on as it lies.
+// Inserts an entry. It isn't inlined, so that a value without spare capacity is passed on where it
+// lies.
 #[inline(never)]
 fn put(map: &mut HashMap<String, AttributeValue>, key: String, value: AttributeValue) -> Result<()>
     ensures ok { OnOk result (entries_view map.new.entries ≡ entries.put text_cmp (string_bytes key) (view value) (entries_view map.old.entries)) }

@@ -14,7 +14,7 @@ pub struct ListOf<T: Target> {
 }
 
 impl<T: Target> ListOf<T> {
-    /// The builder without elements. It takes no memory: the length is a hint that isn't used.
+    /// Returns the builder without elements. It allocates nothing. The length isn't used.
     pub fn new(alloc: Global, _len: Option<usize>) -> Self
         ensures { result.values.items ≡ [] }
     {

@@ -7,7 +7,8 @@ use dynamo_ser::SerializeMap;
 use dynamo_value::{Error, Result};
 use std::alloc::Global;
 
-/// The builder of a map. It keeps its entries as a list, in the order of the calls; the map is made at the end.
+/// The builder of a map. It keeps the entries in a list, in the order of the calls, and makes the
+/// map at the end.
 #[derive(Drop)]
 pub struct MapOf<T: Target> {
     alloc: Global,
@@ -16,7 +17,7 @@ pub struct MapOf<T: Target> {
 }
 
 impl<T: Target> MapOf<T> {
-    /// The builder without entries. It takes no memory: the length is a hint that isn't used.
+    /// Returns the builder without entries. It allocates nothing. The length isn't used.
     pub fn new(alloc: Global, _len: Option<usize>) -> Self
         ensures entries { result.entries.items ≡ [] }
         ensures idle { result.next_key ≡ None }

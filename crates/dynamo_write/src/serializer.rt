@@ -15,13 +15,38 @@ use dynamo_value::{AttributeValue, Error, Result};
 use std::alloc::Global;
 
 /// The serializer of attribute values.
+///
+/// | Data | Attribute value |
+/// |---|---|
+/// | `bool` | `Bool` |
+/// | integers | `N` |
+/// | `char`, strings, unit variants | `S` |
+/// | byte strings | `B` |
+/// | `None`, `()`, unit structs | `Null(true)` |
+/// | `Some(content)`, newtype structs | the content |
+/// | sequences, tuples, tuple structs | `L` |
+/// | newtype structs of a set's symbol | `Ss`, `Ns` or `Bs` |
+/// | maps, structs | `M` |
+/// | other variants | `M` of one entry, from the variant's name to its content |
+///
+/// [`to_attribute_value`](crate::to_attribute_value) lists the errors.
+///
+/// # Examples
+///
+/// ```rust
+/// use serde_dynamo::ser::Serialize;
+/// use serde_dynamo::{AttributeValue, Serializer};
+///
+/// let value = true.serialize(Serializer::new(alloc))?;
+/// assert_eq!(value, AttributeValue::Bool(true));
+/// ```
 #[derive(Clone, Copy)]
 pub struct Serializer {
     alloc: Global,
 }
 
 impl Serializer {
-    /// The serializer whose attribute values take their memory here.
+    /// Returns the serializer whose attribute values are allocated in `alloc`.
     pub fn new(alloc: Global) -> Serializer
         ensures { allocator_of result ≡ alloc }
     {

@@ -23,7 +23,7 @@ pub enum SetKind {
 }
 
 impl SetKind {
-    /// The kind of sets whose symbol this name is, if it is one.
+    /// Returns the kind of set for a newtype struct of this name, if it is the symbol of one.
     pub fn of_symbol(name: &str) -> Option<SetKind>
         ensures { option_map kind_of result ≡ set_kind name.now }
     {
@@ -38,12 +38,16 @@ impl SetKind {
         }
     }
 
-    /// The set of a list's elements.
+    /// Turns a list into a set of this kind.
     ///
     /// # Errors
     ///
-    /// `NotSetlike` where the value is no list, and `StringSetExpectedType`, `NumberSetExpectedType` or `BinarySetExpectedType`
-    /// where an element is of another kind; want of memory.
+    /// Returns [`ErrorImpl::NotSetlike`] if the value isn't a list.
+    ///
+    /// Returns [`ErrorImpl::StringSetExpectedType`], [`ErrorImpl::NumberSetExpectedType`] or
+    /// [`ErrorImpl::BinarySetExpectedType`] if an element is of another kind.
+    ///
+    /// Returns [`ErrorImpl::OutOfMemory`] if memory runs out.
     pub fn set_of(self, alloc: Global, value: AttributeValue) -> Result<AttributeValue>
         ensures { AnswersWithin (as_set (kind_of self) (view value)) result }
     {
@@ -55,8 +59,12 @@ impl SetKind {
     }
 }
 
-/// What is written for a newtype struct of this name over a content: the set of the content's elements where the name is
-/// the symbol of a kind of sets, else the content.
+/// Returns what is written for a newtype struct of this name: a set of the elements if the name is
+/// the symbol of a set, or else the content.
+///
+/// # Errors
+///
+/// Returns the error of [`SetKind::set_of`] if the name is the symbol of a set.
 pub fn named(alloc: Global, name: &str, value: AttributeValue) -> Result<AttributeValue>
     ensures { AnswersWithin (set.named (set_kind name.now) (view value)) result }
 {

@@ -7,7 +7,8 @@ use dynamo_ser::{SerializeStruct, StructBuilder};
 use dynamo_value::{Error, Result};
 use std::alloc::Global;
 
-/// The builder of a struct's map. It keeps its fields as a list, in the order of the calls; the map is made at the end.
+/// The builder of a struct's map. It keeps the fields in a list, in the order of the calls, and
+/// makes the map at the end.
 #[derive(Drop)]
 pub struct StructOf<T: Target> {
     alloc: Global,
@@ -16,7 +17,8 @@ pub struct StructOf<T: Target> {
 }
 
 impl<T: Target> StructOf<T> {
-    /// The builder without fields. It takes no memory. The first field makes room for `len` fields, and for 64 at most.
+    /// Returns the builder without fields. It allocates nothing. The first field makes room for
+    /// `len` fields, but at most for 64.
     pub fn new(alloc: Global, len: usize) -> Self
         ensures { result.fields.items ≡ [] }
     {

@@ -7,7 +7,8 @@ use dynamo_ser::{SerializeStructVariant, StructBuilder};
 use dynamo_value::{Error, Result};
 use std::alloc::Global;
 
-/// The builder of a struct variant: a map of one member, the variant's name, over the map of its fields.
+/// The builder of a struct variant: a map of one entry, from the variant's name to the map of its
+/// fields.
 #[derive(Drop)]
 pub struct StructVariantOf<'a, T: Target> {
     alloc: Global,
@@ -17,8 +18,8 @@ pub struct StructVariantOf<'a, T: Target> {
 }
 
 impl<'a, T: Target> StructVariantOf<'a, T> {
-    /// The builder of the variant of this name without fields. It takes no memory. The first field makes room for `len` fields, and
-    /// for 64 at most.
+    /// Returns the builder of the variant with this name, without fields. It allocates nothing. The
+    /// first field makes room for `len` fields, but at most for 64.
     pub fn new(alloc: Global, key: &'a str, len: usize) -> Self
         ensures fields { result.fields.items ≡ [] }
         ensures name { result.key.now ≡ key.now }

@@ -11,60 +11,75 @@ use dynamo_ser::Outcomes;
 use dynamo_value::{Error, Result};
 use std::alloc::Global;
 
-/// A serializer whose answers are values: how it makes a list of its elements and a map of its members.
+/// A serializer that makes lists and maps of some type of values.
 ///
-/// Who writes such a serializer gives these small calls and has its builders: [`ListOf`](crate::ListOf) for sequences, tuples and
-/// tuple structs, [`MapOf`](crate::MapOf) and [`StructOf`](crate::StructOf); [`TupleVariantOf`](crate::TupleVariantOf) and
-/// [`StructVariantOf`](crate::StructVariantOf) make the map of one member, the variant's name, over its content.
+/// To write such a serializer, implement these few functions. Its builders come with them:
+/// [`ListOf`](crate::ListOf) for sequences, tuples and tuple structs, [`MapOf`](crate::MapOf) for
+/// maps and [`StructOf`](crate::StructOf) for structs. [`TupleVariantOf`](crate::TupleVariantOf)
+/// and [`StructVariantOf`](crate::StructVariantOf) make a map of one entry, from the variant's name
+/// to its content.
 pub trait Target: Outcomes<Error = Error> {
     ghost use Rattle.std.specs.declared.alloc.Global.{Global};
     ghost use Rattle.dynamo_value.specs.declared.error.Error.{Error};
 
-    /// A map whose members are put one by one.
+    /// A map under construction.
     type Map: Drop;
 
     // How contracts see the values, and what data are written as.
     ghost about: { AboutTarget Self.Ok };
 
-    // The members of a map, in the order of their keys.
+    // The entries of a map, in the order of their keys.
     ghost members: { Self.Map → List (List ℕ × about.Seen) };
 
-    // The serializer over an allocator.
+    // The serializer of an allocator.
     ghost over: { Global → Self };
 
-    /// The serializer whose values take their memory here.
+    /// Returns the serializer whose values are allocated in `alloc`.
     fn over(alloc: Global) -> Self
         ensures { result ≡ over alloc };
 
-    /// The same value, as it is put in a list: it may take less room.
+    /// Returns an equal value to put into a list. It may take less memory.
     fn kept(value: Self::Ok) -> Self::Ok
         ensures { about.seen result ≡ about.seen value };
 
-    /// The list of these values.
+    /// Returns the list of these values.
     fn list(values: Vec<Self::Ok>) -> Self::Ok
         ensures { about.seen result ≡ about.list (parts_before about values.items about.no_parts) };
 
-    /// The map without members. It takes no memory.
+    /// Returns an empty map. It allocates nothing.
     fn no_members(alloc: Global) -> Self::Map
         ensures { members result ≡ [] };
 
-    /// The map without members, with room for so many where maps can have it. For none it takes no memory.
+    /// Returns an empty map, with room for so many entries if the type of map has it. It allocates
+    /// nothing for none.
+    ///
+    /// # Errors
+    ///
+    /// Returns [`ErrorImpl::OutOfMemory`](dynamo_value::ErrorImpl::OutOfMemory) if memory runs out.
     fn room_for(alloc: Global, _count: usize) -> Result<Self::Map>
         ensures ok { MatchResult result (λ map. members map ≡ []) (λ e. fault_of e ≡ out_of_memory) }
     {
         Ok(Self::no_members(alloc))
     }
 
-    /// Puts one member; the value of an equal key is replaced.
+    /// Inserts an entry. It replaces the value of an equal key.
+    ///
+    /// # Errors
+    ///
+    /// Returns [`ErrorImpl::OutOfMemory`](dynamo_value::ErrorImpl::OutOfMemory) if memory runs out.
     fn insert(map: &mut Self::Map, key: String, value: Self::Ok) -> Result<()>
         ensures ok { OnOk result (members map.new ≡ put text_cmp (string_bytes key) (about.seen value) (members map.old)) }
         ensures err { MatchResult result (λ _. Unit {0}) (λ e. fault_of e ≡ out_of_memory) };
 
-    /// The value that is this map.
+    /// Returns the value that is this map.
     fn map(map: Self::Map) -> Self::Ok
         ensures { about.seen result ≡ about.map (members map) };
 
-    /// The map of these entries, in the order in which they were written; of equal keys the last value stays.
+    /// Returns the map of these entries. If keys are equal, the last value counts.
+    ///
+    /// # Errors
+    ///
+    /// Returns [`ErrorImpl::OutOfMemory`](dynamo_value::ErrorImpl::OutOfMemory) if memory runs out.
     final fn map_of_entries(alloc: Global, entries: Vec<(String, Self::Ok)>) -> Result<Self::Ok>
         ensures { MatchResult result (λ v. Self.about.seen v ≡ map_of Self.about (held_entries Self.about.seen entries.items)) (λ e. fault_of e ≡ out_of_memory) }
     {
@@ -75,7 +90,12 @@ pub trait Target: Outcomes<Error = Error> {
         Ok(Self::map(map))
     }
 
-    /// The same of a struct's fields. The map is made with room for them.
+    /// Returns the map of a struct's fields. If names are equal, the last value counts. The map is
+    /// made with room for the fields.
+    ///
+    /// # Errors
+    ///
+    /// Returns [`ErrorImpl::OutOfMemory`](dynamo_value::ErrorImpl::OutOfMemory) if memory runs out.
     final fn map_of_fields(alloc: Global, fields: Vec<(&'static str, Self::Ok)>) -> Result<Self::Ok>
         ensures { MatchResult result (λ v. Self.about.seen v ≡ map_of Self.about (fields_of Self.about.seen fields.entry.items)) (λ e. fault_of e ≡ out_of_memory) }
     {
@@ -87,7 +107,11 @@ pub trait Target: Outcomes<Error = Error> {
         Ok(Self::map(map))
     }
 
-    /// The map of one member.
+    /// Returns the map of one entry.
+    ///
+    /// # Errors
+    ///
+    /// Returns [`ErrorImpl::OutOfMemory`](dynamo_value::ErrorImpl::OutOfMemory) if memory runs out.
     final fn one_member(alloc: Global, name: &str, value: Self::Ok) -> Result<Self::Ok>
         ensures { MatchResult result (λ v. Self.about.seen v ≡ one_member Self.about name.now (Self.about.seen value)) (λ e. fault_of e ≡ out_of_memory) }
     {
@@ -97,7 +121,7 @@ pub trait Target: Outcomes<Error = Error> {
         Ok(Self::map(map))
     }
 
-    // What is answered for a datum is what it is written as, or want of memory.
+    // The result for a datum is what it is written as, or out of memory.
     ghost answers: { (s : Self) (d : Datum) (v : Self.Ok) → Self.outcome s d (Ok v) → about.written d ≡ Ok (about.seen v) };
 
     ghost refuses: { (s : Self) (d : Datum) (e : Error) → Self.outcome s d (Err e) → (about.written d ≡ Err (fault_of e)) ⊎ (fault_of e ≡ out_of_memory) };

@@ -6,7 +6,7 @@ use dynamo_ser::{ListBuilder, SerializeTupleVariant};
 use dynamo_value::{Error, Result};
 use std::alloc::Global;
 
-/// The builder of a tuple variant: a map of one member, the variant's name, over a list.
+/// The builder of a tuple variant: a map of one entry, from the variant's name to a list.
 #[derive(Drop)]
 pub struct TupleVariantOf<'a, T: Target> {
     alloc: Global,
@@ -15,7 +15,8 @@ pub struct TupleVariantOf<'a, T: Target> {
 }
 
 impl<'a, T: Target> TupleVariantOf<'a, T> {
-    /// The builder of the variant of this name without fields. It takes no memory: the length is a hint that isn't used.
+    /// Returns the builder of the variant with this name, without fields. It allocates nothing. The
+    /// length isn't used.
     pub fn new(alloc: Global, key: &'a str, _len: usize) -> Self
         ensures values { result.values.items ≡ [] }
         ensures name { result.key.now ≡ key.now }
