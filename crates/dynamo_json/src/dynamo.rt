@@ -20,35 +20,62 @@ use dynamo_value::{AttributeValue, Item, Result, refusal};
 use serde_json::Value;
 use std::alloc::{AllocError, Global};
 
-/// What has a form in DynamoDB JSON, the JSON of DynamoDB's low-level API: attribute values and items.
+/// Conversion to and from DynamoDB JSON, the JSON of DynamoDB's low-level API, for attribute values
+/// and items.
 ///
-/// An attribute value is an object of one member, whose key is a data type descriptor: `{"S": "Hello"}`, `{"N": "123.45"}`,
-/// `{"BOOL": true}`, `{"NULL": true}`, `{"M": {"Name": {"S": "Joe"}}}`, `{"L": [{"S": "Cookies"}]}`,
-/// `{"SS": ["Giraffe", "Hippo"]}`, `{"NS": ["42.2", "-19"]}`. A number is its text, which is not looked at. Byte strings are the
-/// base64 texts of RFC 4648, section 4, padding included: `{"B": "AQI="}`, `{"BS": ["U3Vubnk=", "UmFpbnk="]}`.
+/// An attribute value is an object of one member, whose key is a data type descriptor: `{"S":
+/// "Hello"}`, `{"N": "123.45"}`, `{"BOOL": true}`, `{"NULL": true}`, `{"M": {"Name": {"S":
+/// "Joe"}}}`, `{"L": [{"S": "Cookies"}]}`, `{"SS": ["Giraffe", "Hippo"]}`, `{"NS": ["42.2",
+/// "-19"]}`. The string of a number isn't checked. Byte strings are base64 strings of RFC 4648,
+/// section 4, with padding: `{"B": "AQI="}`, `{"BS": ["U3Vubnk=", "UmFpbnk="]}`.
 ///
-/// An item is the object of its attributes: `{"Id": {"N": "103"}, "InPublication": {"BOOL": false}}`.
+/// An item is the object of its attributes: `{"Id": {"N": "103"}, "InPublication": {"BOOL":
+/// false}}`.
+///
+/// # Examples
+///
+/// ```rust
+/// use serde_dynamo::{AttributeValue, DynamoJson, Item};
+///
+/// let text = r#"{"Id": {"N": "103"}, "InPublication": {"BOOL": false}}"#;
+/// let item = Item::from_json_text(alloc, text)?;
+/// assert!(matches!(item.get("Id"), Some(AttributeValue::N(id)) if id.as_str() == "103"));
+/// assert_eq!(
+///     item.to_json_text(alloc)?.as_str(),
+///     r#"{"Id":{"N":"103"},"InPublication":{"BOOL":false}}"#
+/// );
+/// ```
 pub trait DynamoJson: Sized + Drop {
-    /// The JSON value that stands for a value.
+    /// The JSON value of a value.
     ghost json_value: { Self → Data };
 
-    /// What is promised of the fault by which a JSON value is refused; none where it stands for a value.
+    /// The fault for a JSON value, or `None` if it is the JSON value of a value.
     ghost refusal: { Data → Option Refusal };
 
-    /// The JSON value that stands for this value. The members of a map come in the order of the bytes of their keys.
+    /// Returns the JSON value. The members of an object are in the order of the bytes of their
+    /// keys.
     ///
     /// # Errors
     ///
-    /// `OutOfMemory` alone, where the memory for it is refused.
+    /// Returns [`ErrorImpl::OutOfMemory`](dynamo_value::ErrorImpl::OutOfMemory) if memory runs out.
+    ///
+    /// # Examples
+    ///
+    /// ```rust
+    /// use serde_dynamo::{AttributeValue, DynamoJson};
+    ///
+    /// let json = AttributeValue::Bool(true).to_json(alloc)?;
+    /// assert!(matches!(json.get("BOOL"), Some(serde_json::Value::Bool(true))));
+    /// ```
     fn to_json(&self, alloc: Global) -> Result<Value>
         ensures { MatchResult result (λ json. sj.view json ≡ json_value self.now) (λ e. fault_of e ≡ out_of_memory) };
 
-    /// The text of the JSON value that stands for this value, which is not made for it: the compact text, the one that
-    /// `to_json` and then `to_string` give.
+    /// Returns the JSON text, without blanks. It is the string that `to_json` and then `to_string`
+    /// return, but no JSON value is made.
     ///
     /// # Errors
     ///
-    /// `OutOfMemory` alone, where the memory for it is refused.
+    /// Returns [`ErrorImpl::OutOfMemory`](dynamo_value::ErrorImpl::OutOfMemory) if memory runs out.
     fn to_json_text(&self, alloc: Global) -> Result<String>
         ensures { MatchResult result (λ text. string_bytes text ≡ compact_text (json_value self.now)) (λ e. fault_of e ≡ out_of_memory) }
     {
@@ -57,39 +84,75 @@ pub trait DynamoJson: Sized + Drop {
         Ok(text)
     }
 
-    /// Appends the text that `to_json_text` gives, so that lines can be made in one text. Besides the growth of the text it takes
-    /// memory for the order of the members of a map and for the base64 text of a byte string.
+    /// Appends the JSON text to a string, as for lines of JSON in one string. Besides the string,
+    /// it allocates the order of the members of a map and the base64 string of a byte string.
     ///
     /// # Errors
     ///
-    /// `OutOfMemory` alone, where the memory for it is refused. The text is then as it was.
+    /// Returns [`ErrorImpl::OutOfMemory`](dynamo_value::ErrorImpl::OutOfMemory) if memory runs out.
+    /// The string is unchanged then.
+    ///
+    /// # Examples
+    ///
+    /// ```rust
+    /// use serde_dynamo::{AttributeValue, DynamoJson};
+    ///
+    /// let mut lines = String::new(alloc);
+    /// for value in [AttributeValue::Bool(true), AttributeValue::Null(true)] {
+    ///     value.push_json_text(&mut lines)?;
+    ///     lines.push('\n')?;
+    /// }
+    /// assert_eq!(lines.as_str(), "{\"BOOL\":true}\n{\"NULL\":true}\n");
+    /// ```
     fn push_json_text(&self, text: &mut String) -> Result<()>
         ensures { MatchResult result (λ _. string_bytes text.new ≡ string_bytes text.old ++ compact_text (json_value self.now)) (λ e. (fault_of e ≡ out_of_memory) × (string_bytes text.new ≡ string_bytes text.old)) };
 
-    /// The value that a JSON value stands for.
+    /// Reads a value from its JSON value.
     ///
     /// # Errors
     ///
-    /// A `Message`, of the first fault in the order of arrays and of the bytes of the keys of objects:
+    /// Returns an [`ErrorImpl::Message`](dynamo_value::ErrorImpl::Message) for the first fault in
+    /// the order of arrays and of the bytes of the keys of objects:
     ///
-    /// - what should be an attribute value is no object: `invalid type: expected an object with a single key ..`;
+    /// - an attribute value isn't an object: `invalid type: expected an object with a single key
+    ///   ..`;
     /// - it has no key: `Expected exactly one key in the object, found none`;
-    /// - it has several: `Expected exactly one key in the object, found multiple keys`;
-    /// - its key is no data type descriptor: `The key 'X' is not a known DynamoDB prefix`;
-    /// - its content is of another JSON kind than the key asks for, or an item is no object;
-    /// - a text is the base64 text of no bytes, or spells it otherwise: `Failed to decode base64: ..`.
+    /// - it has several keys: `Expected exactly one key in the object, found multiple keys`;
+    /// - its key isn't a data type descriptor: `The key 'X' is not a known DynamoDB prefix`;
+    /// - its content is of another JSON kind than its key asks for, or an item isn't an object;
+    /// - a byte string isn't a base64 string with padding: `Failed to decode base64: ..`.
     ///
-    /// `OutOfMemory`, where memory is refused.
+    /// Returns [`ErrorImpl::OutOfMemory`](dynamo_value::ErrorImpl::OutOfMemory) if memory runs out.
+    ///
+    /// # Examples
+    ///
+    /// ```rust
+    /// use serde_dynamo::{AttributeValue, DynamoJson};
+    ///
+    /// let json = serde_json::Value::from_str(alloc, r#"{"X": true}"#)?;
+    /// let Err(error) = AttributeValue::from_json(alloc, &json) else {
+    ///     anyhow::bail!("X is no data type descriptor");
+    /// };
+    /// assert_eq!(
+    ///     error.to_string(alloc)?.as_str(),
+    ///     "The key 'X' is not a known DynamoDB prefix"
+    /// );
+    /// ```
     fn from_json(alloc: Global, json: &Value) -> Result<Self>
         ensures ok { IfOk result (λ value. sj.view json.now ≡ json_value value) }
         ensures err { IfErr result (λ e. Refused (refusal (sj.view json.now)) (fault_of e)) };
 
-    /// The value that a JSON text stands for: what `serde_json::Value::from_str` and then `from_json` give. The JSON value is made
-    /// only of a text that isn't written as DynamoDB JSON is, to say what is wrong with it.
+    /// Reads a value from its JSON text. It is the value that `serde_json::Value::from_str` and
+    /// then `from_json` return, but a JSON value is made only of a text that isn't DynamoDB JSON,
+    /// to find the error.
     ///
     /// # Errors
     ///
-    /// `NotJson` where the text is no JSON; a `Fault` where `from_json` refuses its JSON value, or memory is refused.
+    /// Returns [`TextError::NotJson`] if the text isn't JSON.
+    ///
+    /// Returns [`TextError::Fault`] with the error of [`from_json`](Self::from_json) if the text is
+    /// any other JSON, or with [`ErrorImpl::OutOfMemory`](dynamo_value::ErrorImpl::OutOfMemory) if
+    /// memory runs out.
     fn from_json_text(alloc: Global, text: &str) -> Result<Self, TextError>
         ensures ok { IfOk result (λ value. read text.now ≡ Some (json_value value)) }
         ensures err { IfErr result (λ e. RefusedText refusal text.now (fault_in e)) };
@@ -107,14 +170,13 @@ fn json_of_text(alloc: Global, text: &str) -> Result<Value, TextError>
     }
 }
 
-/// A JSON value stands for at most one attribute value, and is read as it.
+/// Each JSON value is that of one attribute value at most.
 impl DynamoJson for AttributeValue {
     ghost json_value = { λ a. json_of (av.view a) };
 
     ghost refusal = { λ json. refusal_in (parsed json) };
 
-    /// The JSON value of this attribute value. Its byte strings hold bytes, so no other attribute value has this JSON value.
-    /// No map in it has a key twice.
+    /// Returns the JSON value. It is that of no other attribute value.
     fn to_json(&self, alloc: Global) -> Result<Value>
         ensures json { MatchResult result (λ json. sj.view json ≡ json_of (av.view self.now)) (λ e. fault_of e ≡ out_of_memory) }
         ensures bytes { OnOk result (HasBytes (av.view self.now)) }
@@ -127,7 +189,7 @@ impl DynamoJson for AttributeValue {
         Ok(json_text::push_value(text, self)?)
     }
 
-    /// The attribute value of a JSON value: what the definition of reading gives.
+    /// Reads an attribute value from its JSON value.
     fn from_json(alloc: Global, json: &Value) -> Result<Self>
         ensures ok { IfOk result (λ value. sj.view json.now ≡ json_of (av.view value)) }
         ensures err { IfErr result (λ e. Refused (refusal_in (parsed (sj.view json.now))) (fault_of e)) }
@@ -136,7 +198,7 @@ impl DynamoJson for AttributeValue {
         from_json::value(alloc, json)
     }
 
-    /// The attribute value of a JSON text: what the definition of reading gives for its JSON value.
+    /// Reads an attribute value from its JSON text.
     fn from_json_text(alloc: Global, text: &str) -> Result<Self, TextError>
         ensures ok { IfOk result (λ value. read text.now ≡ Some (json_of (av.view value))) }
         ensures err { IfErr result (λ e. RefusedText (λ json. refusal_in (parsed json)) text.now (fault_in e)) }
@@ -150,14 +212,13 @@ impl DynamoJson for AttributeValue {
     }
 }
 
-/// A JSON value stands for at most one item, and is read as it.
+/// Each JSON value is that of one item at most.
 impl DynamoJson for Item {
     ghost json_value = { λ item. item_json (item_view item) };
 
     ghost refusal = { λ json. refusal_in (parsed_item json) };
 
-    /// The JSON value of this item. Its byte strings hold bytes, so no other item has this JSON value. No map in it has a key
-    /// twice.
+    /// Returns the JSON value. It is that of no other item.
     fn to_json(&self, alloc: Global) -> Result<Value>
         ensures json { MatchResult result (λ json. sj.view json ≡ item_json (item_view self.now)) (λ e. fault_of e ≡ out_of_memory) }
         ensures bytes { OnOk result (MembersHaveBytes (item_view self.now)) }
@@ -170,7 +231,7 @@ impl DynamoJson for Item {
         Ok(json_text::push_members(text, self.inner())?)
     }
 
-    /// The item of a JSON value: what the definition of reading gives.
+    /// Reads an item from its JSON value.
     fn from_json(alloc: Global, json: &Value) -> Result<Self>
         ensures ok { IfOk result (λ item. sj.view json.now ≡ item_json (item_view item)) }
         ensures err { IfErr result (λ e. Refused (refusal_in (parsed_item (sj.view json.now))) (fault_of e)) }
@@ -182,7 +243,7 @@ impl DynamoJson for Item {
         Ok(Item::from(from_json::members(alloc, object)?))
     }
 
-    /// The item of a JSON text: what the definition of reading gives for its JSON value.
+    /// Reads an item from its JSON text.
     fn from_json_text(alloc: Global, text: &str) -> Result<Self, TextError>
         ensures ok { IfOk result (λ item. read text.now ≡ Some (item_json (item_view item))) }
         ensures err { IfErr result (λ e. RefusedText (λ json. refusal_in (parsed_item json)) text.now (fault_in e)) }

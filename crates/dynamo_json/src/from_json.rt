@@ -13,7 +13,7 @@ use serde_json::{Map, Value};
 use std::alloc::Global;
 use std::collections::HashMap;
 
-/// The attribute value that a JSON value stands for: an object of one member.
+/// The attribute value of a JSON value: an object of one member.
 #[cycle(read)]
 pub(crate) fn value(alloc: Global, json: &Value) -> Result<AttributeValue>
     ensures ok { IfOk result (λ a. parsed (sj.view json.now) ≡ Ok (view a)) }
@@ -35,7 +35,7 @@ pub(crate) fn value(alloc: Global, json: &Value) -> Result<AttributeValue>
     under(alloc, prefix, content)
 }
 
-// The attribute value of the content that stands under a prefix.
+// The attribute value of the content under a prefix.
 #[cycle(read)]
 fn under(alloc: Global, prefix: Prefix, content: &Value) -> Result<AttributeValue>
     ensures ok { IfOk result (λ a. parsed_content (sj.view content.now) (prefix_view prefix) ≡ Ok (view a)) }
@@ -90,7 +90,7 @@ fn elements(alloc: Global, array: &Vec<Value>) -> Result<Vec<AttributeValue>>
     Ok(elements)
 }
 
-// The texts of an array of strings, in order.
+// The strings of an array, in order.
 fn strings(alloc: Global, array: &Vec<Value>) -> Result<Vec<String>>
     ensures ok { IfOk result (λ v. each_in string_in (sj.items_view array.now.items) ≡ Ok (map string_bytes v.items)) }
     ensures err { IfErr result (λ e. Refused (refusal_in (each_in string_in (sj.items_view array.now.items))) (fault_of e)) }
@@ -102,7 +102,7 @@ fn strings(alloc: Global, array: &Vec<Value>) -> Result<Vec<String>>
     Ok(strings)
 }
 
-// The byte strings of an array of base64 texts, in order.
+// The byte strings of an array of base64 strings, in order.
 fn blobs(alloc: Global, array: &Vec<Value>) -> Result<Vec<Vec<u8>>>
     ensures ok { IfOk result (λ v. each_in blob_in (sj.items_view array.now.items) ≡ Ok (map (λ b. b.items) v.items)) }
     ensures err { IfErr result (λ e. Refused (refusal_in (each_in blob_in (sj.items_view array.now.items))) (fault_of e)) }
@@ -114,7 +114,7 @@ fn blobs(alloc: Global, array: &Vec<Value>) -> Result<Vec<Vec<u8>>>
     Ok(blobs)
 }
 
-// The text of a string.
+// The string of a JSON value.
 fn string<'a>(alloc: Global, json: &'a Value) -> Result<&'a str>
     ensures ok { IfOk result (λ text. string_in (sj.view json.now) ≡ Ok text.now) }
     ensures err { IfErr result (λ e. Refused (refusal_in (string_in (sj.view json.now))) (fault_of e)) }

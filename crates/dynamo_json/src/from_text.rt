@@ -1,7 +1,8 @@
-//! Reading attribute values from the text of DynamoDB JSON, a token at a time: no JSON value is made of it.
+//! Reads attribute values from the text of DynamoDB JSON, token by token, without a JSON value in
+//! between.
 //!
-//! Only what reads as an attribute value is followed. At anything else this stops, and the JSON value of the text decides, which
-//! says what is wrong with it.
+//! It follows only what reads as an attribute value. At anything else it stops, and the caller
+//! makes the JSON value of the text, to find the error.
 
 ghost use Rattle.std.specs.List.{AllByRecursion};
 ghost use Rattle.std.specs.Prelude.{◌≡◌, ◌≢◌, ◌<◌, ℕ, List, [], ◌∷◌, length, map, Some, IfOk, IfErr, OnOk, OnErr, string_bytes};
@@ -31,7 +32,7 @@ const MAX_DEPTH: usize = 127;
 /// Why reading or writing stopped.
 #[derive(Clone, Copy, Debug, Drop)]
 pub(crate) enum Stop {
-    /// What is read is no attribute value, or what is written has no such form.
+    /// The text that is read is no attribute value, or the value that is written has no such text.
     Unlike,
 
     /// An allocation failed.
@@ -104,7 +105,8 @@ pub(crate) fn attributes(alloc: Global, text: &str) -> Result<HashMap<String, At
     Ok(map)
 }
 
-/// The attributes under this name in a text, which is an object of this one member. What is read takes its room from `scratch`.
+/// The attributes under this name in a text, which is an object of this one member. The buffers
+/// are those of `scratch`.
 pub(crate) fn attributes_under(
     alloc: Global,
     scratch: &mut Scratch,
@@ -126,7 +128,7 @@ pub(crate) fn attributes_under(
     Ok(map)
 }
 
-// The attribute value that stands next: an object of one member.
+// The next attribute value: an object of one member.
 #[cycle(follow)]
 fn value(
     alloc: Global,
@@ -154,7 +156,7 @@ fn value(
     Ok(value)
 }
 
-// The attribute value of the content that stands next, under a prefix.
+// The attribute value of the next content, under a prefix.
 #[cycle(follow)]
 fn content(
     alloc: Global,
@@ -199,7 +201,8 @@ fn content(
     }
 }
 
-// The map of the members that stand next, to the end of their object. The last value of a key stays.
+// The map of the next members, to the end of their object. If a key is repeated, the last value
+// counts.
 #[cycle(follow)]
 fn members(
     alloc: Global,
@@ -221,7 +224,7 @@ fn members(
     Ok(layout.map(alloc, map)?)
 }
 
-// The values that stand next, to the end of their array.
+// The next values, to the end of their array.
 #[cycle(follow)]
 fn elements(
     alloc: Global,
@@ -242,7 +245,7 @@ fn elements(
     Ok(layout.list(elements))
 }
 
-// The strings that stand next, to the end of their array.
+// The next strings, to the end of their array.
 fn strings(alloc: Global, layout: Layout, reader: &mut Reader<'_>) -> Result<Vec<String>, Stop>
     ensures strings { IfOk result (λ v. (depth : ℕ) → ItemsStand depth reader.old (texts_json (map string_bytes v.items)) reader.new) }
     ensures follows { IfErr result (λ stop. stop ≡ Stop.Unlike → TextsAreNext reader.old → ⊥) }
@@ -256,7 +259,7 @@ fn strings(alloc: Global, layout: Layout, reader: &mut Reader<'_>) -> Result<Vec
     Ok(layout.list(strings))
 }
 
-// The byte strings whose base64 texts stand next, to the end of their array.
+// The byte strings of the next base64 strings, to the end of their array.
 fn blobs(alloc: Global, layout: Layout, reader: &mut Reader<'_>) -> Result<Vec<Vec<u8>>, Stop>
     ensures blobs { IfOk result (λ v. (depth : ℕ) → ItemsStand depth reader.old (texts_json (map base64_text (map (λ b. b.items) v.items))) reader.new) }
     ensures bytes { IfOk result (λ v. AllByRecursion IsBytes (map (λ b. b.items) v.items)) }
@@ -303,7 +306,7 @@ fn end_object(reader: &mut Reader<'_>) -> Result<(), Stop>
     }
 }
 
-// That the key of this name stands next.
+// Checks that the next token is the key of this name.
 fn key_named(reader: &mut Reader<'_>, name: &str) -> Result<(), Stop>
     ensures ok { OnOk result (read_key reader.old ≡ Some (Some name.now, reader.new)) }
     ensures err { OnErr result ((rest : List token.Token) → read_key reader.old ≢ Some (Some name.now, rest)) }
@@ -314,7 +317,7 @@ fn key_named(reader: &mut Reader<'_>, name: &str) -> Result<(), Stop>
     }
 }
 
-// That no token follows.
+// Checks that no token follows.
 fn at_end(reader: &mut Reader<'_>) -> Result<(), Stop>
     ensures ok { OnOk result (reader.old ≡ []) }
     ensures err { OnErr result (reader.old ≢ []) }

@@ -1,4 +1,4 @@
-//! Writing attribute values as the text of their DynamoDB JSON, with no JSON value between.
+//! Writes attribute values as the text of their DynamoDB JSON, without a JSON value in between.
 
 ghost use Rattle.std.specs.Prelude.{◌≡◌, [], ◌++◌, IfOk, OnOk, IsUtf8, MatchResult, length, map, string_bytes, if◌then◌else◌};
 ghost use Rattle.json.specs.Print.{print};
@@ -23,7 +23,7 @@ use std::collections::HashMap;
 use std::mem;
 pub use stored::stored_text;
 
-/// Appends the text of the JSON value of an attribute value. Where memory is refused the text stays as it was.
+/// Appends the JSON text of an attribute value. If memory runs out, the string is unchanged.
 pub(crate) fn push_value(text: &mut String, value: &AttributeValue) -> Result<(), AllocError>
     ensures { MatchResult result (λ _. string_bytes text.new ≡ string_bytes text.old ++ compact_text (json_of (view value.now))) (λ _. string_bytes text.new ≡ string_bytes text.old) }
 {
@@ -34,7 +34,7 @@ pub(crate) fn push_value(text: &mut String, value: &AttributeValue) -> Result<()
     done
 }
 
-/// Appends the text of the object of the members of a map. Where memory is refused the text stays as it was.
+/// Appends the JSON text of the members of a map. If memory runs out, the string is unchanged.
 pub(crate) fn push_members(
     text: &mut String,
     map: &HashMap<String, AttributeValue>,
@@ -48,16 +48,16 @@ pub(crate) fn push_members(
     done
 }
 
-// A text, taken out of its place, and what is written after it.
+// A string, taken out of its place, and what is written after it.
 #[derive(Drop)]
 struct Printer {
     out: Writer,
-    // Room for the base64 text of a byte string.
+    // A buffer for the base64 string of a byte string.
     room: String,
 }
 
 impl Printer {
-    // Takes a text out of its place.
+    // Takes a string out of its place.
     fn after(text: &mut String) -> Printer
         ensures before { result.out.before ≡ string_bytes text.old }
         ensures none { result.out.tokens ≡ [] }
@@ -71,7 +71,7 @@ impl Printer {
         }
     }
 
-    // The text with what was written after it; or, unless that is whole, the text as it was, of so many bytes.
+    // On success the extended string, otherwise the original string, cut back to `before` bytes.
     fn into_text(self, before: usize, whole: bool) -> String
         requires utf8 { IsUtf8 self.out.before }
         requires len { before ≡ length self.out.before }
@@ -141,7 +141,7 @@ impl Printer {
         self.out.end_array()
     }
 
-    // A number or a string: its text under the prefix.
+    // A number or a string: its string under the prefix.
     #[inline(never)]
     fn text(&mut self, prefix: Prefix, text: &str) -> Result<(), AllocError>
         ensures ok { OnOk result (self.new.out.tokens ≡ self.old.out.tokens ++ tokens_of (under (prefix_view prefix) (json.string text.now))) }
@@ -163,7 +163,7 @@ impl Printer {
         self.end()
     }
 
-    // A byte string: its base64 text.
+    // A byte string: its base64 string.
     #[inline(never)]
     fn bytes(&mut self, bytes: &[u8]) -> Result<(), AllocError>
         ensures ok { OnOk result (self.new.out.tokens ≡ self.old.out.tokens ++ tokens_of (under kind.B (json.string (base64_text bytes.now)))) }
@@ -174,7 +174,7 @@ impl Printer {
         self.end()
     }
 
-    // The array of texts under the prefix, in order.
+    // The array of strings under the prefix, in order.
     #[inline(never)]
     fn texts(&mut self, prefix: Prefix, set: &Vec<String>) -> Result<(), AllocError>
         ensures ok { OnOk result (self.new.out.tokens ≡ self.old.out.tokens ++ tokens_of (under (prefix_view prefix) (strings (map string_bytes set.now.items)))) }
@@ -185,7 +185,7 @@ impl Printer {
         self.end()
     }
 
-    // The array of texts, in order.
+    // The array of strings, in order.
     #[inline(never)]
     fn array(&mut self, set: &Vec<String>) -> Result<(), AllocError>
         ensures ok { OnOk result (self.new.out.tokens ≡ self.old.out.tokens ++ tokens_of (strings (map string_bytes set.now.items))) }
@@ -198,7 +198,7 @@ impl Printer {
         self.out.end_array()
     }
 
-    // The array of the base64 texts of byte strings, in order.
+    // The array of the base64 strings of byte strings, in order.
     #[inline(never)]
     fn blobs(&mut self, set: &Vec<Vec<u8>>) -> Result<(), AllocError>
         ensures ok { OnOk result (self.new.out.tokens ≡ self.old.out.tokens ++ tokens_of (under kind.Bs (strings (map base64_text (map (λ b. b.items) set.now.items))))) }
@@ -213,7 +213,7 @@ impl Printer {
         self.end()
     }
 
-    // The base64 text of bytes.
+    // The base64 string of bytes.
     fn base64(&mut self, bytes: &[u8]) -> Result<(), AllocError>
         ensures ok { OnOk result (self.new.out.tokens ≡ self.old.out.tokens ++ tokens_of (json.string (base64_text bytes.now))) }
         ensures before { self.new.out.before ≡ self.old.out.before }
@@ -241,7 +241,7 @@ impl Printer {
     }
 }
 
-// The entries of a map, lent, in the order of the bytes of their keys.
+// The borrowed entries of a map, in the order of the bytes of their keys.
 #[inline(never)]
 fn by_key<'a>(
     alloc: Global,

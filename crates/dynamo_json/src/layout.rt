@@ -1,4 +1,4 @@
-//! How what is read from a text lies in memory.
+//! How an item that was read from a text lies in memory.
 
 ghost use Rattle.std.specs.Prelude.{◌≡◌, IfOk};
 ghost use Rattle.dynamo_value.specs.View.{members_view};
@@ -7,18 +7,19 @@ use dynamo_value::AttributeValue;
 use std::alloc::{AllocError, Global};
 use std::collections::HashMap;
 
-/// The order in which maps are walked, and the room that lists keep.
+/// The order in which maps are walked, and the capacity of lists.
 #[derive(Clone, Copy, Drop)]
 pub(crate) enum Layout {
-    /// Maps are walked in the order of the text, and lists keep the room that they grew to.
+    /// Maps are walked in the order of the text, and lists keep the capacity that they grew to.
     AsRead,
 
-    /// Maps are walked by their names, and lists have room for their elements alone, as if a JSON value had been made of the text.
+    /// Maps are walked in the order of their names, and lists have no spare capacity, as if a JSON
+    /// value had been made of the text.
     ByName,
 }
 
 impl Layout {
-    /// This map in this layout.
+    /// Returns this map in this layout.
     pub(crate) fn map(
         self,
         alloc: Global,
@@ -33,7 +34,7 @@ impl Layout {
         }
     }
 
-    /// This list in this layout. Where the smaller room is refused, the list keeps its own.
+    /// Returns this list in this layout. If the smaller allocation fails, the list keeps its own.
     pub(crate) fn list<T>(self, list: Vec<T>) -> Vec<T>
         ensures { result.items ≡ list.items }
     {
@@ -45,7 +46,7 @@ impl Layout {
     }
 }
 
-// A map of the same entries, put in the order of their names.
+// A map of the same entries, inserted in the order of their names.
 #[inline(never)]
 fn by_name(
     alloc: Global,

@@ -1,4 +1,4 @@
-//! Why a text of DynamoDB JSON isn't read.
+//! The error of reading DynamoDB JSON from a text.
 
 ghost use Rattle.std.specs.Prelude.{◌≡◌};
 ghost use Rattle.dynamo_value.specs.Fault.{out_of_memory};
@@ -9,14 +9,14 @@ use dynamo_value::{Error, ErrorImpl};
 use std::alloc::AllocError;
 use std::fmt;
 
-/// Why a text of DynamoDB JSON is read as no value.
+/// The reason why a JSON text could not be read.
 #[derive(Debug, Drop)]
 pub enum TextError {
-    /// The text is no JSON, for this reason at this line and column. JSON that nests deeper than 127 levels is refused as well,
-    /// as a number outside of every float is.
+    /// The text isn't JSON, with the reason and its line and column. JSON with more than 127 levels
+    /// and a number that is too large for any float are refused, too.
     NotJson(serde_json::Error),
 
-    /// The text is JSON of no such value, or memory is refused.
+    /// The text is JSON, but not that of such a value; or memory ran out.
     Fault(Error),
 }
 
@@ -30,7 +30,7 @@ impl From<Error> for TextError {
     }
 }
 
-/// Want of memory is a fault.
+/// An [`AllocError`] becomes a [`TextError::Fault`] with [`ErrorImpl::OutOfMemory`].
 impl From<AllocError> for TextError {
     ghost use Rattle.std.specs.Prelude.{Some};
 

@@ -75,7 +75,7 @@ fn array(alloc: Global, list: &Vec<AttributeValue>) -> Result<Vec<Value>, AllocE
     Ok(array)
 }
 
-// The array of texts, in order.
+// The array of strings, in order.
 fn texts(alloc: Global, set: &Vec<String>) -> Result<Vec<Value>, AllocError>
     ensures { IfOk result (λ v. json.array (sj.items_view v.items) ≡ strings (map string_bytes set.now.items)) }
 {
@@ -86,7 +86,7 @@ fn texts(alloc: Global, set: &Vec<String>) -> Result<Vec<Value>, AllocError>
     Ok(array)
 }
 
-// The array of the base64 texts of byte strings, in order.
+// The array of the base64 strings of byte strings, in order.
 fn blobs(alloc: Global, set: &Vec<Vec<u8>>) -> Result<Vec<Value>, AllocError>
     ensures json { IfOk result (λ v. json.array (sj.items_view v.items) ≡ strings (map base64_text (map (λ b. b.items) set.now.items))) }
     ensures bytes { OnOk result (AllByRecursion IsBytes (map (λ b. b.items) set.now.items)) }

@@ -16,23 +16,37 @@ use dynamo_value::Item;
 use json::Scratch;
 use std::alloc::{AllocError, Global};
 
-/// The item under this name in a JSON text that is an object of this one member, read as DynamoDB JSON. No JSON value is made of
-/// the text: of `{"Item": {"Id": {"N": "103"}, "InPublication": {"BOOL": false}}}` and `Item` this makes the item of its two
-/// attributes, and nothing else. Each text that `DynamoJson::to_json_text` gives for an item is read in such an object, and so is
-/// one with other spaces or escapes, with the attributes in another order, or with a name twice, of which the last value stays.
+/// Reads the item under this name from a JSON text that is an object of this one member, as a line
+/// of an export.
 ///
-/// `None` where the text isn't followed to its end: it is no JSON, or deeper than 127 levels; it is no such object, as
-/// `{"Item": {}, "Count": 1}` isn't; or the value under the name isn't written as DynamoDB JSON is, as in `{"Item": {"Id": 103}}`.
-/// Whether there is an item all the same, and otherwise what is wrong, the JSON value of the text tells.
+/// Returns `None` if the text isn't read to its end: it isn't JSON, or has more than 127 levels; it
+/// is another object, as `{"Item": {}, "Count": 1}`; or the value under the name isn't DynamoDB
+/// JSON, as in `{"Item": {"Id": 103}}`. To find the error, read the text as a JSON value. Spaces,
+/// escapes and the order of the attributes don't matter. If a name occurs twice, the last value
+/// counts.
 ///
-/// The item is as `DynamoJson::from_json` makes it: at every depth a map is walked by the names of its attributes, and a list or a
-/// set has no unused room, unless the smaller room is refused.
-///
-/// Reading takes its room from `scratch`, which is kept from text to text and grows to the longest.
+/// The item is laid out as [`from_json`](crate::DynamoJson::from_json) would: a map is walked in
+/// the order of its names, and a list or a set has no spare capacity, unless the smaller allocation
+/// fails. The buffers of `scratch` are kept from text to text, and grow to the longest.
 ///
 /// # Errors
 ///
-/// `AllocError`, where memory is refused.
+/// Returns [`AllocError`] if memory runs out.
+///
+/// # Examples
+///
+/// ```rust
+/// use dynamo_json::item_under;
+/// use json::Scratch;
+///
+/// let mut scratch = Scratch::new(alloc);
+/// let line = r#"{"Item": {"Id": {"N": "103"}, "InPublication": {"BOOL": false}}}"#;
+/// let Some(item) = item_under(alloc, &mut scratch, "Item", line)? else {
+///     anyhow::bail!("the line is an item");
+/// };
+/// assert!(item.get("Id").is_some());
+/// assert!(item_under(alloc, &mut scratch, "Item", r#"{"Item": {"Id": 103}}"#)?.is_none());
+/// ```
 pub fn item_under(
     alloc: Global,
     scratch: &mut Scratch,

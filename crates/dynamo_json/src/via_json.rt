@@ -6,14 +6,28 @@ use dynamo_value::{AttributeValue, Result};
 use dynamo_write::to_attribute_value;
 use std::alloc::Global;
 
-/// Writes a value as an attribute value by way of plain JSON: first as [`to_json_value`] does, and then that JSON value as
-/// [`to_attribute_value`] does.
+/// Writes a value as an attribute value by way of plain JSON: [`to_json_value`] and then
+/// [`to_attribute_value`].
 ///
-/// For most values that is what [`to_attribute_value`] gives. Byte strings and sets become lists on the way.
+/// For most values it returns what [`to_attribute_value`] returns. Byte strings and sets become
+/// lists.
 ///
 /// # Errors
 ///
-/// Those of [`to_json_value`]. What plain JSON is made of a value is always written, want of memory aside.
+/// Returns the error of [`to_json_value`]. Plain JSON of a value is always written, unless memory
+/// runs out.
+///
+/// Returns [`ErrorImpl::OutOfMemory`](dynamo_value::ErrorImpl::OutOfMemory) if memory runs out.
+///
+/// # Examples
+///
+/// ```rust
+/// use serde_dynamo::{AttributeValue, Bytes, to_attribute_value, to_attribute_value_via_json};
+///
+/// let bytes = Bytes::new(&[1, 2]);
+/// assert!(matches!(to_attribute_value(alloc, &bytes)?, AttributeValue::B(_)));
+/// assert!(matches!(to_attribute_value_via_json(alloc, &bytes)?, AttributeValue::L(_)));
+/// ```
 pub fn to_attribute_value_via_json<T: Serialize + Drop>(
     alloc: Global,
     value: T,

@@ -10,16 +10,27 @@ ghost use Rattle.dynamo_json.specs.JsonBack.{IsJson, IsWhole, AreJson};
 
 use serde_json::{Map, Number, Value};
 
-/// Whether there is no float in a JSON value, at any depth. Such a value is written and read back as itself, which is the law
-/// `json_value`; a float is refused where it is written.
+/// Returns whether a JSON value has no float at any depth. It allocates nothing.
 ///
-/// It takes no memory.
+/// Such a value is written and read back as itself, by the law `json_value`. A float can't be
+/// written.
+///
+/// # Examples
+///
+/// ```rust
+/// use serde_dynamo::{is_without_floats, to_attribute_value};
+/// use serde_json::Value;
+///
+/// let json = Value::from_str(alloc, "[1, 2.5]")?;
+/// assert!(!is_without_floats(&json));
+/// assert!(to_attribute_value(alloc, &json).is_err());
+/// ```
 #[cycle(walk)]
 pub fn is_without_floats(json: &Value) -> bool
     ensures floats { result ≡ not (has_float (sj.view json.now)) }
 
-    // What a contract doesn't see of a JSON value of a program otherwise: its whole numbers are of 64 bits, and the names of
-    // an object are in order.
+    // What a contract doesn't see of a JSON value of a program otherwise: its whole numbers are of
+    // 64 bits, and the names of an object are in order.
     ensures json { OnTrue result (IsJson (sj.view json.now)) }
 {
     match json {

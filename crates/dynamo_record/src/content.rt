@@ -36,7 +36,7 @@ impl VariantList for Nothing {
     }
 }
 
-/// The content of a newtype variant.
+/// The content of a newtype variant: its field.
 pub struct One<F: FieldType>(pub F::Value);
 
 impl<F: FieldType> VariantList for One<F> {
@@ -58,7 +58,7 @@ impl<F: FieldType> VariantList for One<F> {
     }
 }
 
-/// The content of a tuple variant.
+/// The content of a tuple variant: its fields.
 pub struct Several<L>(pub L);
 
 impl<L: FieldList + Drop> VariantList for Several<L> {
@@ -80,7 +80,7 @@ impl<L: FieldList + Drop> VariantList for Several<L> {
     }
 }
 
-/// The refusal of a sequence that ends before the last of what is expected.
+/// The error of a sequence with too few elements.
 pub(crate) fn too_few<E: Error>(alloc: Global, expecting: &str) -> E
     ensures { (E.fault result ≡ message (too_few_text expecting.now)) ⊎ (E.fault result ≡ out_of_memory) }
 {
@@ -105,7 +105,7 @@ fn read_elements<L: FieldList + Drop, R: Reader>(
     }
 }
 
-/// Reads fields in order from a sequence, which is asked for by this request.
+/// Asks for a sequence by this request, and reads fields in order.
 pub(crate) fn read_fields<L: FieldList + Drop, R: Reader>(
     alloc: Global,
     request: Request,

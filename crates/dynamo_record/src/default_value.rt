@@ -1,4 +1,4 @@
-//! Fields that are read as a default where they are missing.
+//! Fields with a default: their value if the field is missing.
 ghost use Rattle.std.specs.Prelude.{Some, pos, [], ◌∷◌, false};
 ghost use Rattle.dynamo_ser.specs.Datum as datum;
 ghost use Rattle.dynamo_ser.specs.Datum.{Datum};
@@ -12,26 +12,27 @@ use std::alloc::Global;
 use std::collections::{BTreeMap, HashMap};
 use std::marker::PhantomData;
 
-/// The value as which a missing field is read.
+/// The value of a missing field.
 ///
-/// Implement it for a type of your own to name such a value. The types of the library have the defaults that Rust has.
+/// Implement it for a type of your own to name such a value. The types of the library have the
+/// defaults that Rust has.
 pub trait DefaultValue {
-    /// What the field holds.
+    /// The type of the field.
     type Value: Shaped;
 
-    // The datum that the value tells.
+    // The datum of the value.
     ghost told: { Datum };
 
-    /// The value.
+    /// Returns the value.
     ///
     /// # Errors
     ///
-    /// The error of out of memory, where the value allocates.
+    /// Returns the error for out of memory if memory runs out for the value.
     fn value<E: Error>(alloc: Global) -> Result<Self::Value, E>
         ensures { IsDefault E.fault Self.Value.about.tells told result };
 }
 
-/// A field that is read as its default where it is missing.
+/// A field that has its default value if it is missing.
 pub struct WithDefault<D> {
     of: PhantomData<D>,
 }

@@ -15,36 +15,36 @@ use dynamo_de::{
 use std::alloc::Global;
 use std::marker::PhantomData;
 
-/// An enum, described by the list of its variants.
+/// An enum, by its description: the list of its variants.
 pub trait Enumeration: Sized + Drop {
-    /// What the variants hold, as `Choice<Nothing, One<u8>>`: a [`VariantList`]. That is asked for where the enum is read
-    /// alone, so that all else is checked without the contents' own traits.
+    /// The contents of the variants, as `Choice<Nothing, One<u8>>`: a [`VariantList`]. Only reading
+    /// asks for that bound, so that all else is checked without the traits of the contents.
     type Variants;
 
     // The name of the enum, those of its variants, and the variant of a value.
     ghost about: { AboutEnum Self Self.Variants };
 
-    /// The name of the enum.
+    /// Returns the name of the enum.
     fn name() -> &'static str
         ensures { result.now ≡ about.name };
 
-    /// What reading it expects, as `enum Event`.
+    /// Returns what reading expects, as `enum Event`.
     fn expecting() -> &'static str
         ensures { result.now ≡ codes "enum " ++ about.name };
 
-    /// The names of the variants, as they are stored.
+    /// Returns the names of the variants, as they are stored.
     fn names() -> &'static [&'static str]
         ensures { map (λ n. n.now) result.now ≡ about.names };
 
-    /// The value of this variant.
+    /// Returns the value of this variant.
     fn make(variant: Self::Variants) -> Self
         ensures { about.parts result ≡ variant };
 
-    // No two variants have one name, and each has one.
+    // No two variants have the same name, and each has one.
     ghost named: { VariantsNamed about };
 }
 
-/// The number of the variant of this name.
+/// The index of the variant with this name.
 fn place_named<T: Enumeration, E: Error>(alloc: Global, name: &str) -> Result<usize, E>
     ensures { Meets E.fault (NamesVariant T.about.names name.now) result }
 {
@@ -57,7 +57,7 @@ fn place_named<T: Enumeration, E: Error>(alloc: Global, name: &str) -> Result<us
     }
 }
 
-/// The number of the variant that a name names.
+/// Reads the name of a variant as its index.
 #[derive(Drop)]
 struct TagSeed<T> {
     alloc: Global,
@@ -75,7 +75,7 @@ impl<T: Enumeration> DeserializeSeed for TagSeed<T> {
     }
 }
 
-/// Reads the variant that is chosen, and what it holds.
+/// Reads a variant and its content.
 fn read_chosen<T: Enumeration, A: EnumAccess>(alloc: Global, variant: A) -> Result<T, A::Error>
 where
     T::Variants: VariantList,
@@ -92,7 +92,7 @@ where
     }
 }
 
-/// Reads the variant of an enum that is asked for.
+/// Asks for an enum, and reads it.
 fn read_shown<T: Enumeration, R: Reader>(alloc: Global, reader: R) -> Result<T, R::Error>
 where
     T::Variants: VariantList,
@@ -107,11 +107,16 @@ where
     }
 }
 
-/// Reads an enum by its description: the body of `deserialize`.
+/// Reads an enum by its description. It is the body of `deserialize`.
 ///
 /// # Errors
 ///
-/// What the variant's content refuses, and by a message a text that names no variant.
+/// Returns the error of reading the variant's content.
+///
+/// Returns an error with a message for a name that isn't a variant's, and for data that aren't an
+/// enum.
+///
+/// Returns the error for out of memory if memory runs out.
 pub fn read_enum<T: Enumeration, D: Deserializer>(
     alloc: Global,
     deserializer: D,

@@ -7,28 +7,30 @@ use dynamo_de::{Deserialize, Error};
 use dynamo_types::Shaped;
 use std::alloc::Global;
 
-/// How a field is stored: the type of its value, the shape, and what a missing field reads as.
+/// How a field is stored: the type of its value, the shape, and the value of a missing field.
 ///
-/// Every shaped type stores its own values. The others are named by what they do with a value.
+/// Every type with a shape stores its own values. The others say in their names what they do:
+/// [`InStringSet`](crate::InStringSet), [`InNumberSet`](crate::InNumberSet),
+/// [`InBinarySet`](crate::InBinarySet) and [`WithDefault`](crate::WithDefault).
 pub trait FieldType {
-    /// What the field holds.
+    /// The type of the field.
     type Value: Deserialize;
 
-    // What is known of the values, as they are stored.
+    // The shape and the data of the values, as they are stored.
     ghost about: { About Self.Value };
 
-    // The datum as which a missing field is read, where it has one of its own.
+    // The datum of a missing field, if it has one.
     ghost default: { Option Datum };
 
-    /// The value of a missing field.
+    /// Returns the value of a missing field, or `None` if the field can't be missing.
     ///
     /// # Errors
     ///
-    /// The error of want of memory alone, where the value takes memory.
+    /// Returns the error for out of memory if memory runs out for the value.
     fn absent<E: Error>(alloc: Global) -> Result<Option<Self::Value>, E>
         ensures { IsAbsent E.fault about.shape default about.tells result };
 
-    // What is read is permitted by reading at the shape.
+    // Reading permits what reading by the shape permits.
     ghost reads_by_shape: { ReadsByShape about.shape about.tells Self.Value.Deserialize.reads };
 }
 
@@ -46,6 +48,6 @@ impl<T: Shaped> FieldType for T {
     }
 }
 
-/// The field of a struct, a tuple struct or a variant: its value.
+/// A field of a struct, a tuple struct or a variant: its value.
 #[derive(Drop)]
 pub struct Field<F: FieldType>(pub F::Value);

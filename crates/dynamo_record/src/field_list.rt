@@ -12,30 +12,35 @@ use crate::{Field, FieldType};
 use dynamo_de::{Deserialize, Error, Reader};
 use std::alloc::Global;
 
-/// The fields of a struct, a tuple struct or a variant, by their types: one [`Field`], or a pair of lists.
+/// The fields of a struct, a tuple struct or a variant, by their types: one [`Field`], or a tuple
+/// of two, four or eight lists.
 ///
-/// Lists of many fields are pairs of pairs, as `((Field<A>, Field<B>), (Field<C>, Field<D>))`: the flatter the pairs, the
-/// faster they are checked and read.
+/// Nest the tuples of many fields evenly, as `((Field<A>, Field<B>), (Field<C>, Field<D>))`: the
+/// flatter they are, the faster they are checked and read.
 pub trait FieldList: Sized {
-    /// What was read of each field so far.
+    /// The fields that are read so far.
     type Slots;
 
-    // The shapes of the fields, what they tell, and when they are the same by value.
+    // The shapes of the fields, their data, and when they are the same.
     ghost about: { AboutList Self };
 
-    // What was read so far, as data.
+    // The fields that are read so far, as data.
     ghost holds: { Holds Self.Slots };
 
-    /// How many they are, so far as that can be told.
+    /// Returns the number of fields, or at least a lower bound if it is larger than any `usize`.
     fn count() -> usize
         ensures at_most { result ≤ about.count }
         ensures exact { result + 1 < 2 ^ 64 → result ≡ about.count };
 
-    /// Nothing yet.
+    /// Returns the slots with no field read.
     fn unread() -> Self::Slots
         ensures { (ss : Shapes) → holds result (unread (about.shapes ss)) (unread ss) };
 
-    /// Reads a value as the field of this number.
+    /// Reads a value as the field with this index.
+    ///
+    /// # Errors
+    ///
+    /// Returns the error of reading the field.
     fn read_value<D: Reader>(
         slots: &mut Self::Slots,
         place: usize,
@@ -44,11 +49,12 @@ pub trait FieldList: Sized {
     ) -> Result<(), D::Error>
         ensures { place < about.count → place + 1 < 2 ^ 64 → (ss : Shapes) (os more : Slots) → holds slots.old os more → Meets D.Error.fault (Fills holds (about.shapes ss) place os more slots.new (D.source value)) result };
 
-    /// The fields, where none is missed, and the names behind theirs, with which these names begin.
+    /// Returns the fields, and the names that follow theirs.
     ///
     /// # Errors
     ///
-    /// Refuses the first field that is missed by a message with its name, as serde does.
+    /// Returns an error with the message of serde, as ``missing field `name` ``, for the first
+    /// missing field. Returns the error for out of memory if memory runs out.
     fn complete<E: Error>(
         slots: Self::Slots,
         names: &'static [&'static str],
@@ -56,17 +62,21 @@ pub trait FieldList: Sized {
     ) -> Result<(Self, &'static [&'static str]), E>
         ensures { (ss : Shapes) (gs : Defaults) (os more : Slots) → holds slots os more → Completes E.fault about.shapes about.told (complete (about.shapes ss) (about.defaults gs) os) (complete ss gs more) (missed_name (map (λ n. n.now) names.now) (about.shapes ss) (about.defaults gs) os) (λ others. missed_name (map (λ n. n.now) others.now) ss gs more) result };
 
-    /// Reads the fields in order; none where the elements end before.
+    /// Reads the fields in order, or returns `None` if there are too few elements.
+    ///
+    /// # Errors
+    ///
+    /// Returns the first error of a field.
     fn read_in_order<D: Reader>(
         elements: &mut D::Elements,
         alloc: Global,
     ) -> Result<Option<Self>, D::Error>
         ensures { (ss : Shapes) → MakesOrFails D.Error.fault about.shapes about.told (read_fields (about.shapes ss) (D.elements elements.old)) (read_fields ss (D.elements elements.new)) result };
 
-    /// Lets go of what was read.
+    /// Drops the fields that are read so far.
     fn discard_slots(slots: Self::Slots);
 
-    /// Lets go of the fields.
+    /// Drops the fields.
     fn discard(self);
 
     // A slot behind these may be filled.
@@ -79,7 +89,7 @@ pub trait FieldList: Sized {
     ghost counted: { Counts about.count about.shapes };
 }
 
-/// The refusal of a map that has no entry for the field of this name.
+/// The error of a map without an entry for the field with this name.
 fn missing_field<E: Error>(alloc: Global, name: &str) -> E
     ensures { (E.fault result ≡ message (missing_text name.now)) ⊎ (E.fault result ≡ out_of_memory) }
 {

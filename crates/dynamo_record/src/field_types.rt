@@ -9,7 +9,8 @@ use dynamo_types::Shaped;
 use std::alloc::Global;
 use std::marker::PhantomData;
 
-/// A list that is stored as a string set, as by [`StringSet`](dynamo_ser::StringSet).
+/// A field of type `Vec<T>` that is stored as a string set, as by
+/// [`StringSet`](dynamo_ser::StringSet).
 pub struct InStringSet<T> {
     of: PhantomData<T>,
 }
@@ -28,7 +29,8 @@ impl<T: Shaped> FieldType for InStringSet<T> {
     }
 }
 
-/// A list that is stored as a number set, as by [`NumberSet`](dynamo_ser::NumberSet).
+/// A field of type `Vec<T>` that is stored as a number set, as by
+/// [`NumberSet`](dynamo_ser::NumberSet).
 pub struct InNumberSet<T> {
     of: PhantomData<T>,
 }
@@ -47,7 +49,8 @@ impl<T: Shaped> FieldType for InNumberSet<T> {
     }
 }
 
-/// A list that is stored as a binary set, as by [`BinarySet`](dynamo_ser::BinarySet).
+/// A field of type `Vec<T>` that is stored as a binary set, as by
+/// [`BinarySet`](dynamo_ser::BinarySet).
 pub struct InBinarySet<T> {
     of: PhantomData<T>,
 }
@@ -66,7 +69,7 @@ impl<T: Shaped> FieldType for InBinarySet<T> {
     }
 }
 
-/// The same set, which is empty where the field is missing.
+/// The same set. A missing field is an empty one.
 impl<T: Shaped> FieldType for WithDefault<InStringSet<T>> {
     type Value = Vec<T>;
 
@@ -81,7 +84,7 @@ impl<T: Shaped> FieldType for WithDefault<InStringSet<T>> {
     }
 }
 
-/// The same set, which is empty where the field is missing.
+/// The same set. A missing field is an empty one.
 impl<T: Shaped> FieldType for WithDefault<InNumberSet<T>> {
     type Value = Vec<T>;
 
@@ -96,7 +99,7 @@ impl<T: Shaped> FieldType for WithDefault<InNumberSet<T>> {
     }
 }
 
-/// The same set, which is empty where the field is missing.
+/// The same set. A missing field is an empty one.
 impl<T: Shaped> FieldType for WithDefault<InBinarySet<T>> {
     type Value = Vec<T>;
 

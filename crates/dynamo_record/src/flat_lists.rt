@@ -1,4 +1,5 @@
-//! Lists of four and of eight lists, which keep the lists of many fields flat: each is read as the pairs of its halves.
+//! Lists of four and of eight lists, which keep the lists of many fields flat: each is read as the
+//! pairs of its halves.
 ghost use Rattle.std.specs.Prelude.{◌+◌};
 ghost use Rattle.dynamo_record.specs.Behind.{both_behind, both_read, both_counted};
 ghost use Rattle.dynamo_record.specs.Flat.{about_four, about_eight};

@@ -1,5 +1,16 @@
-//! Structs and enums that are written and read by a description: what a user's own type has to state, so that it keeps the
+//! Structs and enums by a description: what to state for a type of your own, so that it keeps the
 //! promises of [`Shaped`](dynamo_types::Shaped) without a proof.
+//!
+//! | Type | Trait | Functions for its impls |
+//! |---|---|---|
+//! | struct with named fields | [`Record`] | [`write_record`], [`read_record`], [`record_conforms`] |
+//! | tuple struct | [`TupleStruct`] | [`write_tuple_struct`], [`read_tuple_struct`], [`tuple_struct_conforms`] |
+//! | newtype struct | | [`write_newtype`], [`read_newtype`] |
+//! | unit struct | | [`read_unit_struct`] |
+//! | enum | [`Enumeration`] | [`write_unit`] and the like, [`read_enum`], [`unit_conforms`] and the like |
+//! | enum of unit variants | [`UnitEnum`] | [`write_unit_enum`], [`read_unit_enum`], [`conform_unit_enum`] |
+//!
+//! `dynamo_derive` prints these implementations for a declaration.
 #![tactic(auto)]
 
 mod content;

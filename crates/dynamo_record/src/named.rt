@@ -14,7 +14,7 @@ use crate::{FieldList, Record, VariantList};
 use dynamo_de::VariantAccess;
 use std::alloc::Global;
 
-/// The fields of a struct variant, described by their list.
+/// The fields of a struct variant, by their description.
 pub trait NamedFields {
     /// The types of the fields, as `(Field<String>, Field<u8>)`.
     type Fields: FieldList + Drop;
@@ -22,15 +22,15 @@ pub trait NamedFields {
     // The names of the fields.
     ghost names: { Names };
 
-    /// The names of the fields, as they are stored.
+    /// Returns the names of the fields, as they are stored.
     fn names() -> &'static [&'static str]
         ensures { map (λ n. n.now) result.now ≡ names };
 
-    // No two fields have one name, and each has one.
+    // No two fields have the same name, and each has one.
     ghost named: { (differ names ≡ true) × (length names ≡ length (Self.Fields.about.shapes [])) };
 }
 
-/// The content of a struct variant.
+/// The content of a struct variant: its fields.
 #[derive(Drop)]
 pub struct Named<N: NamedFields>(pub N::Fields);
 

@@ -1,7 +1,7 @@
 ghost use Rattle.std.specs.Prelude.{◌≡◌, map};
 ghost use Rattle.dynamo_record.specs.Names.{first_name, other_names, place_of};
 
-/// The first of some names and the others. Behind the last there is no name: it is empty.
+/// The first of some names and the others. Without names it is empty.
 pub(crate) fn first_of(names: &'static [&'static str]) -> (&'static str, &'static [&'static str])
     ensures first { result.0.now ≡ first_name (map (λ n. n.now) names.now) }
     ensures others { map (λ n. n.now) result.1.now ≡ other_names (map (λ n. n.now) names.now) }
@@ -12,7 +12,7 @@ pub(crate) fn first_of(names: &'static [&'static str]) -> (&'static str, &'stati
     }
 }
 
-/// The place of a name among some names; of another text their number.
+/// The index of a name among some names, or their number if it isn't one of them.
 pub(crate) fn place_of(names: &'static [&'static str], key: &str) -> usize
     ensures { result ≡ place_of 0 (map (λ n. n.now) names.now) key.now }
 {

@@ -10,7 +10,7 @@ use dynamo_ser::Serializer;
 use dynamo_types::Shaped;
 use std::alloc::Global;
 
-/// Reads the field of a newtype.
+/// Reads the field of a newtype struct.
 fn read_content<T: Deserialize, R: Reader>(alloc: Global, reader: R) -> Result<T, R::Error>
     ensures { Meets R.Error.fault (After (reading.read_newtype (R.source reader)) T.reads) result }
 {
@@ -20,7 +20,12 @@ fn read_content<T: Deserialize, R: Reader>(alloc: Global, reader: R) -> Result<T
     }
 }
 
-/// Reads the field of a newtype of this name: `Ok(Count(read_newtype(alloc, deserializer, "Count")?))`.
+/// Reads the field of a newtype struct with this name, for `Ok(Count(read_newtype(alloc,
+/// deserializer, "Count")?))`.
+///
+/// # Errors
+///
+/// Returns the error of reading the field.
 pub fn read_newtype<T: Shaped, D: Deserializer>(
     alloc: Global,
     deserializer: D,
@@ -31,7 +36,12 @@ pub fn read_newtype<T: Shaped, D: Deserializer>(
     read_content(alloc, deserializer)
 }
 
-/// Writes the field of a newtype of this name: `write_newtype("Count", &self.0, serializer)`.
+/// Writes the field of a newtype struct with this name, as in `write_newtype("Count", &self.0,
+/// serializer)`.
+///
+/// # Errors
+///
+/// Returns the error of writing the field, or the serializer's error.
 pub fn write_newtype<T: Shaped, S: Serializer>(
     name: &'static str,
     field: &T,

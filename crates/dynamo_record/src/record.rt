@@ -22,36 +22,122 @@ use dynamo_de::{
 use dynamo_ser::{SerializeStruct, Serializer};
 use std::alloc::Global;
 
-/// A struct, described by the list of its fields.
+/// A struct with named fields, by its description.
+///
+/// # Examples
+///
+/// ```rust
+/// ghost use Rattle.dynamo_record.specs.Records.{record_of, record_tells};
+/// ghost use Rattle.dynamo_record.specs.Records.{record_reads, about_record};
+/// ghost use Rattle.std.specs.Prelude.{[], ◌∷◌, codes, refl};
+///
+/// use dynamo_record::{Field, FieldList, Record, read_record, record_conforms, write_record};
+/// use serde_dynamo::de::{Deserialize, Deserializer, Error};
+/// use serde_dynamo::ser::{Serialize, Serializer};
+/// use serde_dynamo::{Shaped, from_item, to_item};
+/// use std::alloc::Global;
+///
+/// #[derive(Debug, Drop, PartialEq, Eq)]
+/// struct City {
+///     name: String,
+///     people: u32,
+/// }
+///
+/// type CityFields = (Field<String>, Field<u32>);
+///
+/// impl Record for City {
+///     type Fields = CityFields;
+///
+///     ghost about = { record_of (codes "City") (codes "name" ∷ codes "people" ∷ [])
+///         (λ s. (record { 0 = s.name }, record { 0 = s.people }))
+///         ⟦<CityFields as FieldList>⟧.about };
+///
+///     ghost named = { (refl, refl) };
+///
+///     fn name() -> &'static str {
+///         "City"
+///     }
+///
+///     fn expecting() -> &'static str {
+///         "struct City"
+///     }
+///
+///     fn names() -> &'static [&'static str] {
+///         &["name", "people"]
+///     }
+///
+///     fn make(fields: CityFields) -> City {
+///         let (Field(name), Field(people)) = fields;
+///         City { name, people }
+///     }
+/// }
+///
+/// impl Serialize for City {
+///     ghost tells = { record_tells ⟦<City as Record>⟧.about };
+///
+///     fn serialize<S: Serializer>(&self, serializer: S) -> Result<S::Ok, S::Error> {
+///         write_record::<City, _, S>(serializer, &(&self.name, &self.people))
+///     }
+/// }
+///
+/// impl Deserialize for City {
+///     ghost reads = { record_reads ⟦<City as Record>⟧.about };
+///
+///     fn deserialize<D: Deserializer>(alloc: Global, deserializer: D) -> Result<City, D::Error> {
+///         read_record(alloc, deserializer)
+///     }
+/// }
+///
+/// impl Shaped for City {
+///     ghost about = { about_record ⟦<City as Record>⟧.about };
+///
+///     ghost as_told = { refl };
+///
+///     ghost reads_by_shape = { λ _ _ h. h };
+///
+///     fn absent<E: Error>(_alloc: Global) -> Result<Option<City>, E> {
+///         Ok(None)
+///     }
+///
+///     fn conforms(&self) {
+///         record_conforms::<City, _>(&(&self.name, &self.people))
+///     }
+/// }
+///
+/// let name = String::from_str(alloc, "Ulm")?;
+/// let item = to_item(alloc, &City { name, people: 129_942 })?;
+/// let city: City = from_item(alloc, item)?;
+/// assert_eq!(city.people, 129_942);
+/// ```
 pub trait Record: Sized + Drop {
-    /// The types of the fields, as `(Field<String>, Field<u8>)`: a [`FieldList`]. That is asked for where the struct is read
-    /// alone, so that all else is checked without the fields' own traits.
+    /// The types of the fields, as `(Field<String>, Field<u8>)`: a [`FieldList`]. Only reading asks
+    /// for that bound, so that all else is checked without the traits of the fields.
     type Fields;
 
     // The name of the struct, those of its fields, and the fields of a value.
     ghost about: { AboutRecord Self Self.Fields };
 
-    /// The name of the struct.
+    /// Returns the name of the struct.
     fn name() -> &'static str
         ensures { result.now ≡ about.name };
 
-    /// What reading it expects, as `struct User`.
+    /// Returns what reading expects, as `struct User`.
     fn expecting() -> &'static str
         ensures { result.now ≡ codes "struct " ++ about.name };
 
-    /// The names of the fields, as they are stored.
+    /// Returns the names of the fields, as they are stored.
     fn names() -> &'static [&'static str]
         ensures { map (λ n. n.now) result.now ≡ about.names };
 
-    /// The struct of these fields.
+    /// Returns the struct of these fields.
     fn make(fields: Self::Fields) -> Self
         ensures { about.parts result ≡ fields };
 
-    // No two fields have one name, and each has one.
+    // No two fields have the same name, and each has one.
     ghost named: { AreNamed about };
 }
 
-/// Reads an entry as the field that its key names; under any other key its value is ignored.
+/// Reads an entry as the field with the name of its key. The value of any other key is ignored.
 fn read_entry<R: Record, D: Reader>(
     slots: &mut <R::Fields as FieldList>::Slots,
     key: D,
@@ -134,11 +220,16 @@ where
     }
 }
 
-/// Reads a struct by its description: the body of `deserialize`.
+/// Reads a struct by its description. It is the body of `deserialize`.
 ///
 /// # Errors
 ///
-/// What its fields refuse, and by a message a field that is missed, or a list that is too short.
+/// Returns the first error of a field.
+///
+/// Returns an error with a message for a missing field, for a list that is too short, and for data
+/// that are neither a map nor a list.
+///
+/// Returns the error for out of memory if memory runs out.
 pub fn read_record<R: Record, D: Deserializer>(
     alloc: Global,
     deserializer: D,
@@ -151,11 +242,11 @@ where
     read_shown::<R, D>(alloc, deserializer)
 }
 
-/// Writes a struct by its fields: the body of `serialize`.
+/// Writes a struct by its description. It is the body of `serialize`.
 ///
 /// # Errors
 ///
-/// The first field that is at fault is the fault.
+/// Returns the first error of a field, or the serializer's error.
 pub fn write_record<R: Record, W: RefList, S: Serializer>(
     serializer: S,
     fields: &W,
@@ -168,7 +259,7 @@ pub fn write_record<R: Record, W: RefList, S: Serializer>(
     builder.end()
 }
 
-/// What a struct tells conforms to its shape: the body of `conforms`.
+/// Promises that the datum of a struct conforms to its shape. It is the body of `conforms`.
 pub fn record_conforms<R: Record, W: RefList>(fields: &W)
     ensures { conforms (struct R.about.name (field_shapes R.about.names (W.shapes []) (R.about.list.defaults []))) (datum.struct R.about.name (named_fields R.about.names (W.told fields.now []))) }
 {

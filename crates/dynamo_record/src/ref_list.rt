@@ -9,19 +9,20 @@ use crate::names::first_of;
 use dynamo_ser::{BinarySet, ListBuilder, NumberSet, Serializer, StringSet, StructBuilder};
 use dynamo_types::Shaped;
 
-/// The fields of a value by reference, in the order of its [`FieldList`](crate::FieldList): one reference, or a pair of lists.
+/// The fields of a value by reference, in the order of its [`FieldList`](crate::FieldList): one
+/// reference, or a tuple of two, four or eight lists.
 pub trait RefList: Sized {
-    // The shapes of the fields, in front of others.
+    // The shapes of the fields, before others.
     ghost shapes: { Shapes → Shapes };
 
-    // The data that they tell, in front of others.
+    // The data of the fields, before others.
     ghost told: { Self → Data → Data };
 
-    /// Writes the fields under the first of these names, and gives the other names.
+    /// Writes the fields with the first of these names, and returns the other names.
     ///
     /// # Errors
     ///
-    /// The first field that is at fault is the fault.
+    /// Returns the first error of a field, or the serializer's error.
     fn write_fields<S: Serializer, B: StructBuilder<S, Ok = S::Ok, Error = S::Error>>(
         &self,
         names: &'static [&'static str],
@@ -29,18 +30,18 @@ pub trait RefList: Sized {
     ) -> Result<&'static [&'static str], S::Error>
         ensures { PutsFields B.gives (λ ns. map (λ n. n.now) ns.now) builder.old builder.new (map (λ n. n.now) names.now) (told self.now) result };
 
-    /// Writes the fields one after another.
+    /// Writes the fields in order.
     ///
     /// # Errors
     ///
-    /// The first field that is at fault is the fault.
+    /// Returns the first error of a field, or the serializer's error.
     fn write_elements<S: Serializer, B: ListBuilder<S, Ok = S::Ok, Error = S::Error>>(
         &self,
         builder: &mut B,
     ) -> Result<(), S::Error>
         ensures { PutsElements B.gives builder.old builder.new (told self.now) result };
 
-    /// Each field conforms to its shape.
+    /// Promises that each field conforms to its shape.
     fn conform(&self)
         ensures { ConformFront shapes (told self.now) };
 }

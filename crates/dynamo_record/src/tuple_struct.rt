@@ -13,37 +13,41 @@ use dynamo_de::{Deserializer, Request};
 use dynamo_ser::{SerializeTupleStruct, Serializer};
 use std::alloc::Global;
 
-/// A struct of several fields in order, which have no names: it is described by the list of their types.
+/// A tuple struct of several fields, by its description: the list of their types.
 pub trait TupleStruct: Sized + Drop {
-    /// The types of the fields, as `(Field<u64>, Field<String>)`: a [`FieldList`]. That is asked for where the struct is read
-    /// alone, so that all else is checked without the fields' own traits.
+    /// The types of the fields, as `(Field<u64>, Field<String>)`: a [`FieldList`]. Only reading
+    /// asks for that bound, so that all else is checked without the traits of the fields.
     type Fields;
 
     // The name of the struct, and the fields of a value.
     ghost about: { AboutTupleStruct Self Self.Fields };
 
-    /// The name of the struct.
+    /// Returns the name of the struct.
     fn name() -> &'static str
         ensures { result.now ≡ about.name };
 
-    /// What reading it expects, as `tuple struct Point`.
+    /// Returns what reading expects, as `tuple struct Point`.
     fn expecting() -> &'static str
         ensures { result.now ≡ codes "tuple struct " ++ about.name };
 
-    /// The number of the fields.
+    /// Returns the number of fields.
     fn count() -> usize
         ensures { result ≡ about.list.count };
 
-    /// The struct of these fields.
+    /// Returns the struct of these fields.
     fn make(fields: Self::Fields) -> Self
         ensures { about.parts result ≡ fields };
 }
 
-/// Reads a tuple struct by its description: the body of `deserialize`.
+/// Reads a tuple struct by its description. It is the body of `deserialize`.
 ///
 /// # Errors
 ///
-/// What its fields refuse, and by a message a list that is too short.
+/// Returns the first error of a field.
+///
+/// Returns an error with a message for a list that is too short, and for data that aren't a list.
+///
+/// Returns the error for out of memory if memory runs out.
 pub fn read_tuple_struct<R: TupleStruct, D: Deserializer>(
     alloc: Global,
     deserializer: D,
@@ -58,11 +62,11 @@ where
     }
 }
 
-/// Writes a tuple struct by its fields: the body of `serialize`.
+/// Writes a tuple struct by its description. It is the body of `serialize`.
 ///
 /// # Errors
 ///
-/// The first field that is at fault is the fault.
+/// Returns the first error of a field, or the serializer's error.
 pub fn write_tuple_struct<R: TupleStruct, W: RefList, S: Serializer>(
     serializer: S,
     fields: &W,
@@ -74,7 +78,7 @@ pub fn write_tuple_struct<R: TupleStruct, W: RefList, S: Serializer>(
     builder.end()
 }
 
-/// What a tuple struct tells conforms to its shape: the body of `conforms`.
+/// Promises that the datum of a tuple struct conforms to its shape. It is the body of `conforms`.
 pub fn tuple_struct_conforms<R: TupleStruct, W: RefList>(fields: &W)
     ensures { conforms (tuple_struct R.about.name (shapes_of (W.shapes []))) (datum.tuple_struct R.about.name (datum.elements_of (W.told fields.now []))) }
 {

@@ -17,33 +17,33 @@ use dynamo_ser::Serializer;
 use std::alloc::Global;
 use std::marker::PhantomData;
 
-/// An enum whose variants are all without content, described by their names.
+/// An enum of unit variants, by its description: their names.
 pub trait UnitEnum: Copy {
-    // The names, and the number of a value's variant.
+    // The names, and the index of a value's variant.
     ghost about: { AboutUnits Self };
 
-    /// The name of the enum.
+    /// Returns the name of the enum.
     fn name() -> &'static str
         ensures { result.now ≡ about.name };
 
-    /// What reading it expects, as `enum Side`.
+    /// Returns what reading expects, as `enum Side`.
     fn expecting() -> &'static str
         ensures { result.now ≡ codes "enum " ++ about.name };
 
-    /// The names of the variants.
+    /// Returns the names of the variants, as they are stored.
     fn names() -> &'static [&'static str]
         ensures { map (λ n. n.now) result.now ≡ about.names };
 
-    /// The number of the variant: `*self as u32`.
+    /// Returns the index of the variant: `*self as u32`.
     fn number(&self) -> u32
         ensures { result ≡ about.number self.now };
 
-    /// The variant of this number, where there is one: [`variant_at`] of all of them.
+    /// Returns the variant with this index, or `None`: [`variant_at`] of all variants.
     fn variant(number: usize) -> Option<Self>
         ensures { IsNumber about.number (length about.names) number result };
 }
 
-/// The variant of this number, where these are all of them, in order.
+/// Returns the variant with this index, or `None`. The slice has to be all variants, in order.
 pub fn variant_at<T: Copy>(variants: &[T], number: usize) -> Option<T>
     ensures { (numbers : T → ℕ) (count : ℕ) → map numbers variants.now ≡ range_with_len 0 count → IsNumber numbers count number result }
 {
@@ -54,7 +54,7 @@ pub fn variant_at<T: Copy>(variants: &[T], number: usize) -> Option<T>
     }
 }
 
-/// The variant of this name.
+/// The variant with this name.
 fn named<T: UnitEnum, E: Error>(alloc: Global, name: &str) -> Result<T, E>
     ensures { Meets E.fault (FromName T.about name.now) result }
 {
@@ -65,7 +65,7 @@ fn named<T: UnitEnum, E: Error>(alloc: Global, name: &str) -> Result<T, E>
     }
 }
 
-/// The variant that a name names.
+/// Reads the name of a variant as the variant.
 #[derive(Drop)]
 struct NameSeed<T> {
     alloc: Global,
@@ -83,7 +83,7 @@ impl<T: UnitEnum> DeserializeSeed for NameSeed<T> {
     }
 }
 
-/// Reads the variant that is chosen, whatever its content is.
+/// Reads a variant, whatever its content is.
 fn read_chosen<T: UnitEnum, A: EnumAccess>(alloc: Global, variant: A) -> Result<T, A::Error>
     ensures { Meets A.Error.fault (After (or_its_fault (A.chosen variant)) (FromVariant T.about)) result }
 {
@@ -95,7 +95,7 @@ fn read_chosen<T: UnitEnum, A: EnumAccess>(alloc: Global, variant: A) -> Result<
     Ok(value)
 }
 
-/// Reads the variant of an enum that is asked for.
+/// Asks for an enum, and reads it.
 fn read_shown<T: UnitEnum, R: Reader>(alloc: Global, reader: R) -> Result<T, R::Error>
     ensures { Meets R.Error.fault (After (read_variant (R.source reader)) (FromVariant T.about)) result }
 {
@@ -107,11 +107,15 @@ fn read_shown<T: UnitEnum, R: Reader>(alloc: Global, reader: R) -> Result<T, R::
     }
 }
 
-/// Reads an enum by its description: from a text, or from a map of one key.
+/// Reads an enum by its description, from a string or from a map of one entry. It is the body of
+/// `deserialize`.
 ///
 /// # Errors
 ///
-/// A text that names no variant is refused by a message that names the variants.
+/// Returns an error with a message that lists the variants for a name that isn't one of them, and
+/// an error with a message for data that aren't an enum.
+///
+/// Returns the error for out of memory if memory runs out.
 pub fn read_unit_enum<T: UnitEnum, D: Deserializer>(
     alloc: Global,
     deserializer: D,
@@ -121,7 +125,11 @@ pub fn read_unit_enum<T: UnitEnum, D: Deserializer>(
     read_shown(alloc, deserializer)
 }
 
-/// Writes an enum by its description: the unit variant of its number.
+/// Writes an enum by its description: the unit variant of its index. It is the body of `serialize`.
+///
+/// # Errors
+///
+/// Returns the serializer's error.
 pub fn write_unit_enum<T: UnitEnum, S: Serializer>(
     value: &T,
     serializer: S,
@@ -132,7 +140,7 @@ pub fn write_unit_enum<T: UnitEnum, S: Serializer>(
     serializer.serialize_unit_variant(T::name(), number, name_at(T::names(), number as usize))
 }
 
-/// What is told of a value conforms to the shape of its enum. It has no other effect.
+/// Promises that the datum of a value conforms to the shape of its enum. It has no other effect.
 pub fn conform_unit_enum<T: UnitEnum>(value: &T)
     ensures { shapes.conforms (unit_enum_shape T.about) (unit_enum_tells T.about value.now) }
 {

@@ -7,7 +7,7 @@ ghost use Rattle.dynamo_record.specs.Newtypes.{ReadsUnitStruct};
 use dynamo_de::{Deserializer, Reader, Request, Showing};
 use std::alloc::Global;
 
-/// Reads what has one value alone.
+/// Reads a unit struct.
 fn read_unit<R: Reader>(alloc: Global, reader: R) -> Result<(), R::Error>
     ensures { Meets R.Error.fault (Gives (λ u. u) (reading.read_unit_struct (R.source reader))) result }
 {
@@ -17,7 +17,11 @@ fn read_unit<R: Reader>(alloc: Global, reader: R) -> Result<(), R::Error>
     }
 }
 
-/// Reads a unit struct of this name, which has one value alone.
+/// Reads a unit struct with this name.
+///
+/// # Errors
+///
+/// Returns an error if the data aren't a unit struct, or if memory runs out.
 pub fn read_unit_struct<D: Deserializer>(
     alloc: Global,
     deserializer: D,

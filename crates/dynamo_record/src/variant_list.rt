@@ -7,27 +7,34 @@ ghost use Rattle.dynamo_record.specs.Variants.{AboutVariants, Contents, ReadsAt,
 use dynamo_de::VariantAccess;
 use std::alloc::Global;
 
-/// The variants of an enum, by what they hold: one content, or a [`Choice`] of two lists. A value is one of the variants.
+/// The variants of an enum, by their contents: one content, or a [`Choice`] of two lists. A value
+/// is one of the variants.
 ///
-/// Lists of many variants are choices of choices, as `Choice<Choice<A, B>, Choice<C, D>>`: the flatter they are, the faster
-/// they are checked and read.
+/// Nest the choices of many variants evenly, as `Choice<Choice<A, B>, Choice<C, D>>`: the flatter
+/// they are, the faster they are checked and read.
 pub trait VariantList: Sized {
-    // The contents of the variants, what a value tells, and when two values are the same.
+    // The contents of the variants, the data of values, and when two values are the same.
     ghost about: { AboutVariants Self };
 
-    /// How many they are, so far as that can be told.
+    /// Returns the number of variants, or at least a lower bound if it is larger than any `usize`.
     fn count() -> usize
         ensures at_most { result ≤ about.count }
         ensures exact { result + 1 < 2 ^ 64 → result ≡ about.count };
 
-    /// Reads the content of the variant at this place.
+    /// Reads the content of the variant with this index.
+    ///
+    /// # Errors
+    ///
+    /// Returns the error of reading the content.
     fn read<A: VariantAccess>(place: usize, content: A, alloc: Global) -> Result<Self, A::Error>
         ensures { place < about.count → place + 1 < 2 ^ 64 → (name : Text) (ns : Names) (i : ℕ) (cs : Contents) → Meets A.Error.fault (ReadsAt about.contents about.told name ns i cs place (A.content content)) result };
 }
 
-/// One of the variants of the first list, or one of the second.
+/// A variant of the first list, or one of the second.
 pub enum Choice<L, R> {
+    /// A variant of the first list.
     Left(L),
+    /// A variant of the second list.
     Right(R),
 }
 

@@ -5,7 +5,7 @@ ghost use Rattle.dynamo_record.specs.UnitEnums.{name_at};
 use dynamo_de::Error;
 use std::alloc::{AllocError, Global};
 
-/// The name at a place; behind the last there is no name: it is empty.
+/// The name with this index, or an empty one behind the last.
 pub(crate) fn name_at(names: &'static [&'static str], place: usize) -> &'static str
     ensures { result.now ≡ name_at (map (λ n. n.now) names.now) place }
 {
@@ -15,7 +15,7 @@ pub(crate) fn name_at(names: &'static [&'static str], place: usize) -> &'static 
     }
 }
 
-/// The refusal of a text that is the name of no variant.
+/// The error of a string that isn't the name of a variant.
 pub(crate) fn unknown_variant<E: Error>(
     alloc: Global,
     text: &str,
@@ -29,7 +29,7 @@ pub(crate) fn unknown_variant<E: Error>(
     }
 }
 
-// The text of that refusal, as serde has it.
+// The message of that error, as serde has it.
 fn no_such_variant(
     alloc: Global,
     text: &str,

@@ -12,7 +12,7 @@ use crate::{Enumeration, NamedFields, RefList};
 use dynamo_ser::{Serialize, SerializeStructVariant, SerializeTupleVariant, Serializer};
 use dynamo_types::Shaped;
 
-/// The name at a place; behind the last it is empty.
+/// The name with this index, or an empty one behind the last.
 fn name_at(names: &'static [&'static str], place: usize) -> &'static str
     ensures { result.now ≡ first_name (names_from place (map (λ n. n.now) names.now)) }
 {
@@ -22,11 +22,11 @@ fn name_at(names: &'static [&'static str], place: usize) -> &'static str
     }
 }
 
-/// Writes the unit variant of this number.
+/// Writes the unit variant with this index.
 ///
 /// # Errors
 ///
-/// Want of memory.
+/// Returns the serializer's error.
 pub fn write_unit<T: Enumeration, S: Serializer>(
     serializer: S,
     index: u32,
@@ -37,11 +37,11 @@ pub fn write_unit<T: Enumeration, S: Serializer>(
     serializer.serialize_unit_variant(T::name(), index, variant)
 }
 
-/// Writes the newtype variant of this number.
+/// Writes the newtype variant with this index.
 ///
 /// # Errors
 ///
-/// The fault of the value.
+/// Returns the error of the value, or the serializer's error.
 pub fn write_one<T: Enumeration, V: Serialize, S: Serializer>(
     serializer: S,
     index: u32,
@@ -53,11 +53,11 @@ pub fn write_one<T: Enumeration, V: Serialize, S: Serializer>(
     serializer.serialize_newtype_variant(T::name(), index, variant, value)
 }
 
-/// Writes the tuple variant of this number.
+/// Writes the tuple variant with this index.
 ///
 /// # Errors
 ///
-/// The first field that is at fault is the fault.
+/// Returns the first error of a field, or the serializer's error.
 pub fn write_several<T: Enumeration, W: RefList, S: Serializer>(
     serializer: S,
     index: u32,
@@ -71,11 +71,11 @@ pub fn write_several<T: Enumeration, W: RefList, S: Serializer>(
     builder.end()
 }
 
-/// Writes the struct variant of this number.
+/// Writes the struct variant with this index.
 ///
 /// # Errors
 ///
-/// The first field that is at fault is the fault.
+/// Returns the first error of a field, or the serializer's error.
 pub fn write_struct<T: Enumeration, N: NamedFields, W: RefList, S: Serializer>(
     serializer: S,
     index: u32,
@@ -90,13 +90,13 @@ pub fn write_struct<T: Enumeration, N: NamedFields, W: RefList, S: Serializer>(
     builder.end()
 }
 
-/// The unit variant of this number conforms to the enum's shape.
+/// Promises that the unit variant with this index conforms to the enum's shape.
 pub fn unit_conforms<T: Enumeration>(index: u32)
     requires { content_at index (T.about.list.contents []) ≡ Some shape.nothing }
     ensures { conforms (enum_shape T.about) (datum.unit_variant (tag T.about.name T.about.names index)) }
 {}
 
-/// The newtype variant of this number conforms to the enum's shape.
+/// Promises that the newtype variant with this index conforms to the enum's shape.
 pub fn one_conforms<T: Enumeration, V: Shaped>(index: u32, value: &V)
     requires { content_at index (T.about.list.contents []) ≡ Some (shape.one V.about.shape) }
     ensures { conforms (enum_shape T.about) (datum.newtype_variant (tag T.about.name T.about.names index) (V.about.tells value.now)) }
@@ -104,7 +104,7 @@ pub fn one_conforms<T: Enumeration, V: Shaped>(index: u32, value: &V)
     value.conforms();
 }
 
-/// The tuple variant of this number conforms to the enum's shape.
+/// Promises that the tuple variant with this index conforms to the enum's shape.
 pub fn several_conform<T: Enumeration, W: RefList>(index: u32, fields: &W)
     requires { content_at index (T.about.list.contents []) ≡ Some (shape.several (shapes_of (W.shapes []))) }
     ensures { conforms (enum_shape T.about) (datum.tuple_variant (tag T.about.name T.about.names index) (datum.elements_of (W.told fields.now []))) }
@@ -112,7 +112,7 @@ pub fn several_conform<T: Enumeration, W: RefList>(index: u32, fields: &W)
     fields.conform();
 }
 
-/// The struct variant of this number conforms to the enum's shape.
+/// Promises that the struct variant with this index conforms to the enum's shape.
 pub fn named_conform<T: Enumeration, N: NamedFields, W: RefList>(index: u32, fields: &W)
     requires { content_at index (T.about.list.contents []) ≡ Some (shape.named (field_shapes N.names (W.shapes []) (N.Fields.about.defaults []))) }
     ensures { conforms (enum_shape T.about) (datum.struct_variant (tag T.about.name T.about.names index) (named_fields N.names (W.told fields.now []))) }

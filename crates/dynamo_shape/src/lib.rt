@@ -1,5 +1,5 @@
-//! Shapes: what the data look like that the values of a type tell, how such data are read, and the laws that what was
-//! written reads back.
+//! Shapes: a shape describes the data that a type's values serialize to. The laws say that written
+//! data read back.
 #![tactic(auto)]
 
 pub mod laws;

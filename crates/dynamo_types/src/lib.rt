@@ -1,4 +1,4 @@
-//! Types that state their shape: [`Shaped`], and the types of the library and of std that are shaped.
+//! Types with a shape: [`Shaped`], and its implementations for the types of the library and of std.
 #![tactic(auto)]
 
 mod maps;

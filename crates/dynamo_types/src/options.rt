@@ -25,7 +25,7 @@ impl<T: Shaped> Shaped for Option<T> {
     }
 }
 
-/// Its content's shape.
+/// The shape of its content.
 impl<T: Shaped> Shaped for Box<T> {
     ghost about = { about_part (λ b. b.value) T.about };
 

@@ -9,48 +9,51 @@ use dynamo_ser::Serialize;
 use std::alloc::Global;
 use std::hash::Hash;
 
-/// A type that states its shape: what the data look like that its values tell, and by which it reads.
+/// A type with a shape, which describes the data that its values serialize to.
 ///
-/// What is written of its values reads back, where the shape is clear.
+/// If the shape is clear, every value that was written reads back: `serde_dynamo::reread` promises
+/// it.
+///
+/// Don't implement it by hand for a struct or an enum: `dynamo_derive` prints the implementation,
+/// by the traits of `dynamo_record`.
 pub trait Shaped: Serialize + Deserialize {
-    // The shape; the datum that a value tells; when two values are the same by value: hashed maps as finite maps, all else
-    // part by part; and that they are so exactly where they tell the same data.
+    // The shape; the datum of a value; when two values are the same, where hashed maps count as
+    // finite maps and all else part by part; and that they are the same exactly if their data are.
     ghost about: { About Self };
 
-    /// The value of a field of this type that is missing: none of an option, also where it is boxed. Any other type has no
-    /// such value, and its field is missed.
+    /// Returns the value of a missing field of this type: `None` for an option, also for a boxed
+    /// one. Any other type has no such value, so the field is reported as missing.
     ///
     /// # Errors
     ///
-    /// The error of want of memory alone, where the value takes memory.
+    /// Returns the error for out of memory if memory runs out for the value.
     fn absent<E: Error>(alloc: Global) -> Result<Option<Self>, E>
         ensures { IsAbsent E.fault about.shape None about.tells result };
 
-    /// The promise that what the value tells conforms to the shape. It has no other effect: an implementation makes this
-    /// call on each part of the value.
+    /// Promises that the value's datum conforms to the shape. It has no other effect. An
+    /// implementation calls it for each part of the value.
     fn conforms(&self)
         ensures { shapes.conforms about.shape (about.tells self.now) };
 
-    // That is the datum which is written.
+    // It is the datum that is written.
     ghost as_told: { about.tells ≡ Self.Serialize.tells };
 
-    // What is read is permitted by reading at the shape.
+    // Reading permits what reading by the shape permits.
     ghost reads_by_shape: { ReadsByShape about.shape about.tells Self.Deserialize.reads };
 }
 
-/// A shaped type whose values can be the keys of maps.
+/// A type with a shape whose values can be the keys of maps.
 pub trait ShapedKey: Shaped + Eq + Hash + Ord {
-    // What is known of the keys: two are equal exactly where they tell the same datum, and equal in the type's order exactly
-    // there, too.
+    // Two keys are equal exactly if they have the same datum, and so they are in the type's order.
     ghost about_key: { AboutKey Self };
 
-    /// What a key tells conforms to the shape, as by [`Shaped::conforms`].
+    /// Promises that the key's datum conforms to the shape, as [`Shaped::conforms`].
     final fn key_conforms(&self)
         ensures { shapes.conforms about_key.about.shape (about_key.about.tells self.now) }
     {
         self.conforms()
     }
 
-    // That is the type's own shape, equality and order.
+    // These are the type's own shape, equality and order.
     ghost is_key: { IsKeyOf about_key Self.Shaped.about.shape Self.Shaped.about.tells Self.PartialEq.eq Self.Ord.cmp };
 }

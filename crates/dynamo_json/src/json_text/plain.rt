@@ -1,4 +1,4 @@
-//! Writing attribute values as the text of plain JSON, with no JSON value between.
+//! Writes attribute values as plain JSON text, without a JSON value in between.
 
 ghost use Rattle.std.specs.Prelude.{◌≡◌, map, None, Ok, false, is_ok, IfOk, IfSome, option_map, pos, string_bytes};
 ghost use Rattle.serde_json.specs.Data.{Data};
@@ -15,16 +15,30 @@ use dynamo_value::AttributeValue;
 use std::alloc::{AllocError, Global};
 use std::collections::HashMap;
 
-/// The text of the plain JSON value that an attribute value is read as. It is the text that
-/// `from_attribute_value::<serde_json::Value>` and then `to_string` give, and no JSON value is made for it:
-/// `{"L": [{"N": "1"}, {"S": "a"}]}` gives `[1,"a"]`.
+/// Returns the plain JSON text of an attribute value. It is the string that
+/// `from_attribute_value::<serde_json::Value>` and then `to_string` return, but no JSON value is
+/// made.
 ///
-/// Returns `None` if the attribute value isn't read as a JSON value: it holds a byte string, a number that neither an `i64` nor
-/// a `u64` holds, or `NULL` that is false.
+/// Returns `None` if the attribute value isn't read as a JSON value: it holds a byte string, a
+/// number that neither an `i64` nor a `u64` holds, or `NULL` that is false.
 ///
 /// # Errors
 ///
-/// `AllocError` if memory can't be allocated: for the text, or for the order of the members of a map.
+/// Returns [`AllocError`] if memory runs out: for the text, or for the order of the members of a
+/// map.
+///
+/// # Examples
+///
+/// ```rust
+/// use dynamo_json::plain_text;
+/// use serde_dynamo::{AttributeValue, DynamoJson};
+///
+/// let value = AttributeValue::from_json_text(alloc, r#"{"L": [{"N": "1"}, {"S": "a"}]}"#)?;
+/// let Some(text) = plain_text(alloc, &value)? else {
+///     anyhow::bail!("the list has plain JSON");
+/// };
+/// assert_eq!(text.as_str(), r#"[1,"a"]"#);
+/// ```
 pub fn plain_text(alloc: Global, value: &AttributeValue) -> Result<Option<String>, AllocError>
     ensures text { IfOk result (λ found. IfSome found (λ text. (json : Data)
         × (read_value (view value.now) ≡ Ok json) × (string_bytes text ≡ compact_text json))) }
@@ -115,7 +129,7 @@ impl Printer {
         Ok(self.out.end_array()?)
     }
 
-    // The number that a text is read as: an i64, or else a u64.
+    // The number that a string is read as: an i64, or else a u64.
     #[inline(never)]
     #[tactic(auto, using(crate::proofs::Unstored::signed_read, crate::proofs::Unstored::unsigned_read, crate::proofs::Unstored::no_number))]
     fn plain_number(&mut self, text: &str) -> Result<(), Stop>
@@ -132,7 +146,7 @@ impl Printer {
     }
 }
 
-// The i64 of a text.
+// The i64 of a string.
 #[inline]
 #[tactic(auto, using(dynamo_leaf::proofs::Numbers::reads_i64))]
 fn signed(text: &str) -> Option<i64>
@@ -141,7 +155,7 @@ fn signed(text: &str) -> Option<i64>
     text.parse::<i64>().ok()
 }
 
-// The u64 of a text.
+// The u64 of a string.
 #[inline]
 #[tactic(auto, using(dynamo_leaf::proofs::Numbers::reads_u64))]
 fn unsigned(text: &str) -> Option<u64>

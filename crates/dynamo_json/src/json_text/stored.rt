@@ -1,4 +1,4 @@
-//! Writing JSON values as the text of DynamoDB JSON, with no attribute value between.
+//! Writes JSON values as the text of DynamoDB JSON, without an attribute value in between.
 
 ghost use Rattle.std.specs.Prelude.{◌≡◌, None, IfOk, is_ok, false, IfSome, Ok, string_bytes};
 ghost use Rattle.serde_json.specs.View.{view, items_view, members_view, number_view};
@@ -15,16 +15,28 @@ use dynamo_value::Prefix;
 use serde_json::{Map, Number, Value};
 use std::alloc::{AllocError, Global};
 
-/// The text of the DynamoDB JSON of the attribute value that a JSON value is written as. It is the text that
-/// [`to_attribute_value`](dynamo_write::to_attribute_value) and then
-/// [`to_json_text`](crate::DynamoJson::to_json_text) give, and no attribute value is made for it: `[1, "a"]` gives
-/// `{"L":[{"N":"1"},{"S":"a"}]}`.
+/// Returns the DynamoDB JSON text of the attribute value that a JSON value is written as. It is the
+/// string that [`to_attribute_value`](dynamo_write::to_attribute_value) and then
+/// [`to_json_text`](crate::DynamoJson::to_json_text) return, but no attribute value is made.
 ///
 /// Returns `None` if there is a float in the JSON value, which isn't written as an attribute value.
 ///
 /// # Errors
 ///
-/// `AllocError` if memory for the text can't be allocated.
+/// Returns [`AllocError`] if memory runs out.
+///
+/// # Examples
+///
+/// ```rust
+/// use dynamo_json::stored_text;
+/// use serde_json::Value;
+///
+/// let json = Value::from_str(alloc, r#"[1, "a"]"#)?;
+/// let Some(text) = stored_text(alloc, &json)? else {
+///     anyhow::bail!("there is no float in it");
+/// };
+/// assert_eq!(text.as_str(), r#"{"L":[{"N":"1"},{"S":"a"}]}"#);
+/// ```
 pub fn stored_text(alloc: Global, json: &Value) -> Result<Option<String>, AllocError>
     ensures text { IfOk result (λ found. IfSome found (λ text. (a : Av)
         × (written (json_datum (view json.now)) ≡ Ok a) × (string_bytes text ≡ compact_text (json_of a)))) }
@@ -40,7 +52,8 @@ pub fn stored_text(alloc: Global, json: &Value) -> Result<Option<String>, AllocE
 }
 
 impl Printer {
-    // The object of one member for a JSON value: its key says which kind of attribute value it is written as.
+    // The object of one member for a JSON value: its key says which kind of attribute value it is
+    // written as.
     #[cycle(stored)]
     fn stored(&mut self, json: &Value) -> Result<(), Stop>
         ensures tokens { Prints result (stored self.old.out.tokens (view json.now)) self.new.out.tokens }
@@ -91,7 +104,7 @@ impl Printer {
         Ok(self.out.end_object()?)
     }
 
-    // A whole number of 64 bits: its decimal text.
+    // A whole number of 64 bits: its decimal string.
     #[inline(never)]
     fn stored_number(&mut self, number: &Number) -> Result<(), Stop>
         ensures tokens { Prints result (stored_number self.old.out.tokens (number_view number.now)) self.new.out.tokens }

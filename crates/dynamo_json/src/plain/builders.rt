@@ -12,19 +12,20 @@ use dynamo_write::{ListOf, MapOf, StructOf, StructVariantOf, Target, TupleVarian
 use serde_json::{Map, Value};
 use std::alloc::Global;
 
-// The builder of an array, for sequences, tuples and tuple structs.
+/// The builder of an array, for sequences, tuples and tuple structs.
 pub type SerializerSeq = ListOf<Serializer>;
 
-// The builder of a map's object.
+/// The builder of a map's object.
 pub type SerializerMap = MapOf<Serializer>;
 
-// The builder of a struct's object.
+/// The builder of a struct's object.
 pub type SerializerStruct = StructOf<Serializer>;
 
-// The builder of a tuple variant: an object of one member, the variant's name, over an array.
+/// The builder of a tuple variant: an object of one member, from the variant's name to an array.
 pub type SerializerTupleVariant<'a> = TupleVariantOf<'a, Serializer>;
 
-// The builder of a struct variant: an object of one member, the variant's name, over the object of its fields.
+/// The builder of a struct variant: an object of one member, from the variant's name to the object
+/// of its fields.
 pub type SerializerStructVariant<'a> = StructVariantOf<'a, Serializer>;
 
 impl Target for Serializer {

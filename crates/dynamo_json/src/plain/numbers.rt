@@ -9,21 +9,26 @@ use dynamo_value::{Error, Result};
 use serde_json::Value;
 use std::alloc::Global;
 
-// An integer that an i64 holds.
+/// The number of an `i64`.
 pub fn signed(v: i64) -> Value
     ensures { number v ≡ Ok (view result) }
 {
     Value::from(v)
 }
 
-// An integer that a u64 holds.
+/// The number of a `u64`.
 pub fn unsigned(v: u64) -> Value
     ensures { number (pos v) ≡ Ok (view result) }
 {
     Value::from(v)
 }
 
-// A wide integer, where an i64 or a u64 holds it.
+/// The number of an `i128` if an `i64` or a `u64` holds it.
+///
+/// # Errors
+///
+/// Returns an `ErrorImpl::Message` `number out of range` if neither does, or
+/// `ErrorImpl::OutOfMemory` if memory runs out.
 pub fn wide_signed(alloc: Global, v: i128) -> Result<Value>
     ensures { Answers view (in_64_bits v ≡ false) (number v) result }
 {
@@ -36,7 +41,12 @@ pub fn wide_signed(alloc: Global, v: i128) -> Result<Value>
     }
 }
 
-// A wide integer without a sign, where a u64 holds it.
+/// The number of a `u128` if a `u64` holds it.
+///
+/// # Errors
+///
+/// Returns an `ErrorImpl::Message` `number out of range` if it doesn't, or `ErrorImpl::OutOfMemory`
+/// if memory runs out.
 pub fn wide_unsigned(alloc: Global, v: u128) -> Result<Value>
     ensures { Answers view (in_64_bits (pos v) ≡ false) (number (pos v)) result }
 {
@@ -46,7 +56,7 @@ pub fn wide_unsigned(alloc: Global, v: u128) -> Result<Value>
     }
 }
 
-// JSON has no number for it.
+/// JSON has no number for it.
 fn out_of_range(alloc: Global) -> Error
     ensures { (fault_of result ≡ message (codes "number out of range")) ⊎ (fault_of result ≡ out_of_memory) }
 {

@@ -16,13 +16,14 @@ use dynamo_write::Target;
 use serde_json::Value;
 use std::alloc::Global;
 
-// The serializer of plain JSON.
+/// The serializer of plain JSON.
 #[derive(Clone, Copy)]
 pub struct Serializer {
     alloc: Global,
 }
 
 impl Serializer {
+    /// Returns the serializer whose JSON values are allocated in `alloc`.
     pub fn new(alloc: Global) -> Serializer
         ensures { result.alloc ≡ alloc }
     {
