@@ -3,14 +3,15 @@
 //!
 //! | Type | Trait | Functions for its impls |
 //! |---|---|---|
-//! | struct with named fields | [`Record`] | [`write_record`], [`read_record`], [`record_conforms`] |
-//! | tuple struct | [`TupleStruct`] | [`write_tuple_struct`], [`read_tuple_struct`], [`tuple_struct_conforms`] |
+//! | struct with named fields | [`Record`] | [`write_record`], [`read_record`] |
+//! | tuple struct | [`TupleStruct`] | [`write_tuple_struct`], [`read_tuple_struct`] |
 //! | newtype struct | | [`write_newtype`], [`read_newtype`] |
 //! | unit struct | | [`read_unit_struct`] |
-//! | enum | [`Enumeration`] | [`write_unit`] and the like, [`read_enum`], [`unit_conforms`] and the like |
-//! | enum of unit variants | [`UnitEnum`] | [`write_unit_enum`], [`read_unit_enum`], [`conform_unit_enum`] |
+//! | enum | [`Enumeration`] | [`write_unit`], [`write_one`] and others, [`read_enum`] |
+//! | enum of unit variants | [`UnitEnum`] | [`write_unit_enum`], [`read_unit_enum`] |
 //!
-//! `dynamo_derive` prints these implementations for a declaration.
+//! A function with `conform` in its name is for `Shaped::conforms`. `dynamo_derive` prints these
+//! implementations for a declaration. [`Record`] has a complete example.
 #![tactic(auto)]
 
 mod content;

@@ -1,5 +1,5 @@
-//! The traits of the reading side, as serde's `de`. They stand in a module of their own, since `Deserializer` and `Error`
-//! are also the names of types.
+//! The traits of reading, as serde's `de`. They have a module of their own, since `Deserializer`
+//! and `Error` are also the names of types.
 
 pub use dynamo_de::{
     Deserialize, DeserializeSeed, Deserializer, EnumAccess, Error, IgnoredAny, Inside, Kind,

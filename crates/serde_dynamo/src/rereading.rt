@@ -20,28 +20,43 @@ use dynamo_write::to_attribute_value;
 use serde_json::Value;
 use std::alloc::Global;
 
-/// Writes a value, passes it through its DynamoDB JSON, and reads it back: the attribute value that was written, the JSON
-/// value of that, and the value that was read.
+/// Writes a value, passes it through its DynamoDB JSON, and reads it back. It returns the attribute
+/// value that was written, the JSON value of it, and the value that was read.
 ///
-/// **What was stored reads back**: where the shape of the type is clear, the value that was read is the same by value as
-/// the argument, and there is no refusal but for want of memory. This holds for every type that states its shape and keeps
-/// the promises of [`Shaped`], and in whatever order its hashed maps are walked.
+/// **What was stored reads back**: if the shape of the type is clear, the value that was read is
+/// the same as the argument, and the call fails only if memory runs out. This holds for every type
+/// that keeps the promises of [`Shaped`], and in whatever order its hashed maps are walked.
 ///
-/// Where the shape is but nearly clear, some of what is written as null is read as none, and all else reads back.
+/// If the shape is only nearly clear, some of what is written as null is read as `None`, and all
+/// else reads back.
 ///
 /// # Errors
 ///
-/// Where the shape isn't nearly clear, the fault of writing the value, or one that reading what was written permits.
-/// [`OutOfMemory`](dynamo_value::ErrorImpl::OutOfMemory), where memory is refused.
+/// Returns [`ErrorImpl::OutOfMemory`](dynamo_value::ErrorImpl::OutOfMemory) if memory runs out.
+///
+/// If the shape isn't nearly clear, returns the error of writing the value, or an error that
+/// reading permits.
+///
+/// # Examples
+///
+/// ```rust
+/// use serde_dynamo::{AttributeValue, reread};
+///
+/// let (written, json, back) = reread(alloc, &42u8)?;
+/// assert!(matches!(written, AttributeValue::N(_)));
+/// assert_eq!(json.to_string(alloc)?.as_str(), r#"{"N":"42"}"#);
+/// assert_eq!(back, 42);
+/// ```
 pub fn reread<T: Shaped>(alloc: Global, value: &T) -> Result<(AttributeValue, Value, T)>
-    // The first part is the attribute value of the datum that the value tells, the second its DynamoDB JSON, the third tells
-    // a datum that reading by the shape permits.
+    // The first part is the attribute value of the value's datum, the second its DynamoDB JSON, and
+    // reading by the shape permits the datum of the third.
     ensures written { IfOk result (λ parts. write.written (T.tells value.now) ≡ Ok (av.view parts.0)) }
     ensures json { IfOk result (λ parts. sj.view parts.1 ≡ json_of (av.view parts.0)) }
     ensures read { IfOk result (λ parts. Permitted T.about.shape (attribute (av.view parts.0)) (Ok (T.tells parts.2))) }
     ensures err { IfErr result (λ e. (fault_of e ≡ out_of_memory) ⊎ IsFaultOf T.about.shape (T.tells value.now) (fault_of e)) }
 
-    // At a nearly clear shape the third part tells what is kept of the datum.
+    // If the shape is nearly clear, the datum of the third part is what is kept of the value's
+    // datum.
     ensures nearly { NearlyClear T.about.shape → MatchResult result (λ parts. Same (kept (T.tells value.now)) (T.tells parts.2)) (λ e. fault_of e ≡ out_of_memory) }
 
     // What was stored reads back.

@@ -1,4 +1,4 @@
-//! Types that write and read by hand, as a user of the library would write them.
+//! Types that are described, as `dynamo_derive` prints it, for examples and tests.
 
 mod event;
 mod fields;

@@ -1,5 +1,5 @@
-//! The traits of the writing side, as serde's `ser`. They stand in a module of their own, since `Serializer` and `Error`
-//! are also the names of types.
+//! The traits of writing, as serde's `ser`. They have a module of their own, since `Serializer` and
+//! `Error` are also the names of types.
 
 pub use dynamo_ser::{
     Error, ListBuilder, Outcomes, Serialize, SerializeMap, SerializeSeq, SerializeStruct,

@@ -1,4 +1,4 @@
-//! What [`reread`] and `==` promise of the samples, in the words of their fields.
+//! What [`reread`] and `==` promise of the samples, field by field.
 ghost use Rattle.std.specs.Prelude.{◌≡◌, ◌↔◌, Ok, IfOk, MatchResult, IsTrue};
 ghost use Rattle.serde_json.specs.View as sj;
 ghost use Rattle.dynamo_value.specs.Fault.{out_of_memory};
@@ -21,7 +21,7 @@ use std::alloc::Global;
 ///
 /// # Errors
 ///
-/// [`OutOfMemory`](dynamo_value::ErrorImpl::OutOfMemory) alone.
+/// Returns [`ErrorImpl::OutOfMemory`](dynamo_value::ErrorImpl::OutOfMemory) if memory runs out.
 pub fn reread_user(alloc: Global, user: &User) -> Result<(AttributeValue, Value, User)>
     ensures written { IfOk result (λ parts. written (user_told user.now) ≡ Ok (view parts.0)) }
     ensures json { IfOk result (λ parts. sj.view parts.1 ≡ json_of (view parts.0)) }
@@ -31,7 +31,7 @@ pub fn reread_user(alloc: Global, user: &User) -> Result<(AttributeValue, Value,
     reread(alloc, user)
 }
 
-/// Whether two users have equal fields: `==`.
+/// Returns whether two users have equal fields: `==`.
 pub fn users_are_equal(user: &User, other: &User) -> bool
     ensures { IsTrue result ↔ same_user user.now other.now }
 {
@@ -42,7 +42,7 @@ pub fn users_are_equal(user: &User, other: &User) -> bool
 ///
 /// # Errors
 ///
-/// [`OutOfMemory`](dynamo_value::ErrorImpl::OutOfMemory) alone.
+/// Returns [`ErrorImpl::OutOfMemory`](dynamo_value::ErrorImpl::OutOfMemory) if memory runs out.
 pub fn reread_event(alloc: Global, event: &Event) -> Result<(AttributeValue, Value, Event)>
     ensures written { IfOk result (λ parts. written (event_told event.now) ≡ Ok (view parts.0)) }
     ensures json { IfOk result (λ parts. sj.view parts.1 ≡ json_of (view parts.0)) }
@@ -52,18 +52,19 @@ pub fn reread_event(alloc: Global, event: &Event) -> Result<(AttributeValue, Val
     reread(alloc, event)
 }
 
-/// Whether two events are the same variant with equal contents: `==`.
+/// Returns whether two events are the same variant with equal contents: `==`.
 pub fn events_are_equal(event: &Event, other: &Event) -> bool
     ensures { IsTrue result ↔ (event.now ≡ other.now) }
 {
     event == other
 }
 
-/// [`reread`] of three sets: the struct of the sets is written, and each set reads back with its elements in order.
+/// [`reread`] of three sets: the struct of the sets is written, and each set reads back with its
+/// elements in order.
 ///
 /// # Errors
 ///
-/// [`OutOfMemory`](dynamo_value::ErrorImpl::OutOfMemory) alone.
+/// Returns [`ErrorImpl::OutOfMemory`](dynamo_value::ErrorImpl::OutOfMemory) if memory runs out.
 pub fn reread_sets(alloc: Global, sets: &Sets) -> Result<(AttributeValue, Value, Sets)>
     ensures written { IfOk result (λ parts. written (sets_told sets.now) ≡ Ok (view parts.0)) }
     ensures json { IfOk result (λ parts. sj.view parts.1 ≡ json_of (view parts.0)) }
@@ -73,7 +74,7 @@ pub fn reread_sets(alloc: Global, sets: &Sets) -> Result<(AttributeValue, Value,
     reread(alloc, sets)
 }
 
-/// Whether two structs of sets have equal elements, in order: `==`.
+/// Returns whether two structs of sets have equal elements, in order: `==`.
 pub fn sets_are_equal(sets: &Sets, other: &Sets) -> bool
     ensures { IsTrue result ↔ same_sets sets.now other.now }
 {
