@@ -29,7 +29,8 @@ pub(crate) struct Builder {
     flattens: bool,
 }
 
-// How many members a map has room for at first: as many as are foretold, and no more than a struct has.
+// How many members a map has room for at first: as many as are foretold, and no more than a struct
+// has.
 fn room(len: Option<usize>) -> usize {
     len.unwrap_or(0).min(64)
 }
@@ -107,7 +108,7 @@ impl Builder {
         self.top.set_key(key)
     }
 
-    // Whether so many lists and maps are open, those left out that a symbol stands for.
+    // Whether so many lists and maps are open, not counting those of a symbol.
     fn reaches(&self, levels: usize) -> bool {
         if self.below.len() < levels {
             return false;

@@ -15,7 +15,8 @@ impl Model for Events {
     ghost also_owns = { λ _. ftrue };
 }
 
-// One call of a `Serializer`, or `Unknown` where a call failed, and so nothing is known of the events from there on.
+// One call of a `Serializer`, or `Unknown` where a call failed, and so nothing is known of the
+// events from there on.
 #[derive(Clone, Copy, Drop)]
 pub(crate) enum Call<'a> {
     Bool(bool),

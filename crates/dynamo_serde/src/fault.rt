@@ -13,12 +13,12 @@ pub(crate) fn no_memory() -> Error {
     Error::from(ErrorImpl::OutOfMemory)
 }
 
-// A fault told by a text.
+// An error with a message.
 pub(crate) fn message(alloc: Global, text: &str) -> Error {
     told(String::from_str(alloc, text))
 }
 
-// A fault about a name, in serde's words: the name stands in backquotes.
+// An error about a name, as serde has it: the name is in backquotes.
 pub(crate) fn about(alloc: Global, what: &str, name: &str) -> Error {
     told(format!(in alloc; "{what} `{name}`"))
 }

@@ -37,7 +37,7 @@ impl<'v> Tape<'v> {
         }
     }
 
-    // A fault about the text before.
+    // An error about the string before.
     fn about_last(&self, what: &str) -> Error {
         match self.look_back() {
             Some(Token::Text(text) | Token::Key(text)) => about(self.alloc, what, text),
@@ -140,7 +140,7 @@ impl<'v> Format for Tape<'v> {
         }
     }
 
-    // No text stands in the input, so none can be lent.
+    // The input has no strings, so none can be borrowed.
     fn plain_str(&mut self, _input: &[u8]) -> Result<(usize, usize)> {
         Err(message(self.alloc, "a text is not lent: read a String"))
     }

@@ -1,5 +1,5 @@
-// The kinds of attribute values. serde's `Kind` has fewer, so whoever reads any attribute value asks which of these names the
-// value has that comes, as if it were a variant's.
+// The kinds of attribute values. serde's `Kind` has fewer, so whoever reads any attribute value
+// asks which of these names the value has that comes, as if it were a variant's.
 ghost use Rattle.std.specs.Prelude.{◌≡◌};
 ghost use Rattle.dynamo_serde.specs.Laid.{kind_name};
 ghost use Rattle.dynamo_serde.specs.Tape.{token_of};

@@ -12,7 +12,7 @@ use dynamo_value::{AttributeValue, Error, ErrorImpl, Result};
 use std::alloc::Global;
 use std::collections::HashMap;
 
-// What is being built: the whole, a list, a map, or what stands under a symbol in the place of a map.
+// What is being built: the whole, a list, a map, or the content of a symbol in the place of a map.
 #[derive(Drop)]
 pub(crate) enum Open {
     Whole(Option<AttributeValue>),
@@ -67,7 +67,8 @@ impl Open {
         }
     }
 
-    // How many lists and maps are open with this one, of which a symbol stands for one map and what is in it.
+    // How many lists and maps are open with this one, where a symbol counts for one map and its
+    // content.
     pub(crate) fn levels_after(&self, levels: usize) -> usize {
         match self {
             Open::Whole(_) => levels,

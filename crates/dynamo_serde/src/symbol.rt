@@ -1,4 +1,5 @@
-// What stands under a symbol: a word between two characters U+037E, as the one key of a map that is sent.
+// The content of a symbol: a word between two characters U+037E, as the one key of a map that is
+// sent.
 ghost use Rattle.std.specs.Prelude.{◌≡◌, Some, IfOk, option_map};
 ghost use Rattle.dynamo_value.specs.View.{view};
 ghost use Rattle.dynamo_serde.specs.Symbol.{named, converted as converted_to};
@@ -16,7 +17,7 @@ pub(crate) const NUMBER_SET: &str = "\u{37e}NUMBERSET\u{37e}";
 
 pub(crate) const BINARY_SET: &str = "\u{37e}BYTESSET\u{37e}";
 
-// A text under it is a number.
+// A string under it is a number.
 pub(crate) const NUMBER: &str = "\u{37e}NUMBER\u{37e}";
 
 // A boolean under it is that NULL.

@@ -38,13 +38,13 @@ pub(crate) enum Doubt {
     Unit,
     // A value was looked at, without being read.
     Looked,
-    // Its kind was told, so that a number may be read as its text, and NULL as a boolean.
+    // Its kind was asked for, so that a number may be read as its string, and NULL as a boolean.
     Told,
     // It is the map of an enum, with no variant in it or with more than one.
     Variant,
 }
 
-/// What is left to read of an attribute value: a `Format` of serde's, whose steps say what they read (`specs/Laid.antt`).
+/// The part of an attribute value that isn't read yet. It is a `Format` of serde's.
 #[derive(Drop)]
 pub struct Tape<'v> {
     pub(crate) alloc: Global,
@@ -167,8 +167,12 @@ fn lay_map<'v>(
 }
 
 impl<'v> Tape<'v> {
-    /// The tape of an attribute value, at its start. What nests more than 127 levels deep is refused by a message, and
-    /// `OutOfMemory` comes where no memory is found.
+    /// Returns the tape of an attribute value, at its start.
+    ///
+    /// # Errors
+    ///
+    /// Returns [`ErrorImpl::Message`] for more than 127 levels of lists and maps, and
+    /// [`ErrorImpl::OutOfMemory`] if memory runs out.
     pub fn new(alloc: Global, value: &'v AttributeValue) -> Result<Tape<'v>>
         ensures { IfOk result (λ t. IsLaid (view value.now) (ahead t) × ((place t).told ≡ false)) }
     {
@@ -182,7 +186,12 @@ impl<'v> Tape<'v> {
         })
     }
 
-    /// The tape of a map, as [`Tape::new`].
+    /// Returns the tape of a map, at its start.
+    ///
+    /// # Errors
+    ///
+    /// Returns [`ErrorImpl::Message`] for more than 127 levels of lists and maps, and
+    /// [`ErrorImpl::OutOfMemory`] if memory runs out.
     pub fn of_map(alloc: Global, map: &'v HashMap<String, AttributeValue>) -> Result<Tape<'v>>
         ensures { IfOk result (λ t. IsLaid (av.M (members_view map.now.entries)) (ahead t) × ((place t).told ≡ false)) }
     {
@@ -207,7 +216,7 @@ impl<'v> Tape<'v> {
         }
     }
 
-    // Whether the kind of what comes was told just before.
+    // Whether the kind of the next value was asked for just before.
     pub(crate) fn is_told(&self) -> bool
         ensures { result ≡ (place self.now).told }
     {
@@ -268,7 +277,7 @@ impl<'v> Tape<'v> {
         }
     }
 
-    // A text, of a value or of a key.
+    // A string, of a value or of a key.
     #[inline(always)]
     pub(crate) fn text(&mut self, otherwise: ErrorImpl) -> Result<&'v str>
         ensures { IfOk result (λ s. TakesText (place self.old) s.now (place self.new)) }

@@ -16,9 +16,28 @@ use std::collections::HashMap;
 
 /// Writes a value as an attribute value.
 ///
-/// The answer is what the events stand for that the value sends. A key that is no scalar is refused by `KeyMustBeAString`,
-/// NaN, an infinite number and what nests more than 127 levels deep by a message, a list that is to be a set as the set's
-/// module says, and a value's own refusal by its message. `OutOfMemory` comes where no memory is found.
+/// # Errors
+///
+/// Returns the first error in the order in which the value is written:
+///
+/// - [`ErrorImpl::KeyMustBeAString`] for a map key that isn't a scalar;
+/// - [`ErrorImpl::NotSetlike`], [`ErrorImpl::StringSetExpectedType`],
+///   [`ErrorImpl::NumberSetExpectedType`] or [`ErrorImpl::BinarySetExpectedType`] for a set of
+///   something else than a list, or of elements of another kind;
+/// - [`ErrorImpl::Message`] for NaN, an infinite number, more than 127 levels of lists and maps, or
+///   an error of the value's own `Serialize` implementation.
+///
+/// Returns [`ErrorImpl::OutOfMemory`] if memory runs out.
+///
+/// # Examples
+///
+/// ```rust
+/// use serde_dynamo::AttributeValue;
+///
+/// let value = dynamo_serde::to_attribute_value(alloc, &1.5f64)?;
+/// assert_eq!(value, AttributeValue::N(String::from_str(alloc, "1.5")?));
+/// assert!(dynamo_serde::to_attribute_value(alloc, &f64::NAN).is_err());
+/// ```
 pub fn to_attribute_value<T: Serialize>(alloc: Global, value: &T) -> Result<AttributeValue>
     ensures { IfOk result (λ v. (log : Log) × T.writes value.now (Some []) log × IsValueOf log (view v)) }
 {
@@ -29,8 +48,12 @@ pub fn to_attribute_value<T: Serialize>(alloc: Global, value: &T) -> Result<Attr
 
 /// Writes a value as an item.
 ///
-/// The answer is the map where the value writes as an `M`. Where it writes as another kind it is refused by `NotMaplike`,
-/// and where writing is refused by that fault.
+/// # Errors
+///
+/// Returns [`ErrorImpl::NotMaplike`] if the value isn't written as a map. Otherwise returns the
+/// error of [`to_attribute_value`].
+///
+/// Returns [`ErrorImpl::OutOfMemory`] if memory runs out.
 pub fn to_item<T: Serialize>(alloc: Global, value: &T) -> Result<Item>
     ensures { IfOk result (λ item. (log : Log) × T.writes value.now (Some []) log × IsValueOf log (av.M (item_view item))) }
 {
@@ -40,11 +63,16 @@ pub fn to_item<T: Serialize>(alloc: Global, value: &T) -> Result<Item>
     }
 }
 
-/// Reads a value from an attribute value, which is left as it is.
+/// Reads a value from a borrowed attribute value.
 ///
-/// Where the attribute value is none of the type's, the fault of the first that doesn't fit is answered, maps being read in
-/// the order of the bytes of their keys. What nests more than 127 levels deep is refused by a message. `OutOfMemory` comes
-/// where no memory is found.
+/// # Errors
+///
+/// Returns the error of the first part that isn't what the type expects, where maps are read in the
+/// order of the bytes of their keys: one of the `Expected` kinds of [`ErrorImpl`],
+/// [`ErrorImpl::FailedToParseInt`] or [`ErrorImpl::FailedToParseFloat`] for a number, or
+/// [`ErrorImpl::Message`], as for a missing field or more than 127 levels of lists and maps.
+///
+/// Returns [`ErrorImpl::OutOfMemory`] if memory runs out.
 pub fn read_attribute_value<T: DeserializeOwned>(
     alloc: Global,
     value: &AttributeValue,
@@ -52,7 +80,11 @@ pub fn read_attribute_value<T: DeserializeOwned>(
     read_tape(alloc, Tape::new(alloc, value)?)
 }
 
-/// Reads a value from an attribute value, as [`read_attribute_value`].
+/// Reads a value from an attribute value.
+///
+/// # Errors
+///
+/// Returns the error of [`read_attribute_value`].
 pub fn from_attribute_value<T: DeserializeOwned>(
     alloc: Global,
     value: AttributeValue,
@@ -65,17 +97,46 @@ fn read_tape<T: DeserializeOwned>(alloc: Global, mut tape: Tape<'_>) -> Result<T
     T::deserialize_owned(alloc, &mut Deserializer::new(&[], &mut tape))
 }
 
-/// Reads a value from an item, which is left as it is, as [`read_attribute_value`] from the map of its attributes.
+/// Reads a value from a borrowed item, as [`read_attribute_value`] does from the map of its
+/// attributes.
+///
+/// # Errors
+///
+/// Returns the error of [`read_attribute_value`].
 pub fn read_item<T: DeserializeOwned>(alloc: Global, item: &Item) -> Result<T> {
     read_tape(alloc, Tape::of_map(alloc, item.inner())?)
 }
 
-/// Reads a value from an item, as [`read_item`].
+/// Reads a value from an item, as [`read_item`] does.
+///
+/// # Errors
+///
+/// Returns the error of [`read_attribute_value`].
+///
+/// # Examples
+///
+/// ```rust
+/// use serde::{Deserialize, Serialize};
+///
+/// #[derive(Drop, Serialize, Deserialize)]
+/// struct Point {
+///     x: i32,
+///     y: i32,
+/// }
+///
+/// let item = dynamo_serde::to_item(alloc, &Point { x: 3, y: -4 })?;
+/// let point: Point = dynamo_serde::from_item(alloc, item)?;
+/// assert_eq!(point.x + point.y, -1);
+/// ```
 pub fn from_item<T: DeserializeOwned>(alloc: Global, item: Item) -> Result<T> {
     read_item(alloc, &item)
 }
 
-/// Reads the values of items, in order: the first item's fault is the fault.
+/// Reads a list of values from a list of items, one from each, in order.
+///
+/// # Errors
+///
+/// Returns the first error of reading an item, as [`read_item`] does.
 pub fn from_items<T: DeserializeOwned>(alloc: Global, items: Items) -> Result<Vec<T>> {
     let maps: Vec<HashMap<String, AttributeValue>> = items.into();
     let mut values = Vec::with_capacity(alloc, maps.len())?;

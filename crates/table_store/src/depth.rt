@@ -1,10 +1,10 @@
-//! How deep an item nests.
+//! How many levels of lists and maps an item has.
 use dynamo_value::{AttributeValue, Item};
 
-/// DynamoDB keeps lists and maps of at most so many levels in each other.
+/// DynamoDB keeps items of at most so many levels (DynamoDB's developer guide, "Quotas").
 const LEVELS: u8 = 32;
 
-/// Whether DynamoDB keeps an item so deep.
+/// Whether DynamoDB keeps an item of so many levels.
 pub(crate) fn is_kept(item: &Item) -> bool {
     for (_, value) in item.inner().iter() {
         if !nests_within(value, LEVELS) {
@@ -14,7 +14,7 @@ pub(crate) fn is_kept(item: &Item) -> bool {
     true
 }
 
-// Whether lists and maps nest in the value to so many levels at most.
+// Whether a value has so many levels of lists and maps at most.
 fn nests_within(value: &AttributeValue, levels: u8) -> bool {
     match value {
         AttributeValue::L(values) => {

@@ -1,4 +1,4 @@
-//! A DynamoDB table in a SQLite database: the calls of the table in memory, on a file that stays.
+//! A DynamoDB table in a SQLite database: the calls of the table in memory, for a file.
 #![tactic(auto)]
 
 mod depth;

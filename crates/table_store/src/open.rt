@@ -9,23 +9,29 @@ use std::alloc::Global;
 use table_key::KeySchema;
 use table_rows::StoreError;
 
-/// Returns a table without items in a database in memory.
+/// Returns an empty table in a database in memory.
 ///
-/// The database is the paged one that [`create_at`] has, over files in memory. A put, an update or
-/// a delete visits as many rows as the logarithm of the number of items. It then copies the log of
+/// The database is the paged one of [`create_at`], over files in memory. A put, an update or a
+/// delete visits as many rows as the logarithm of the number of items. It then copies the log of
 /// the latest changes, which has at most a hundred pages of 4 KB, or a few more. About once in a
-/// hundred pages that are written, the log goes into the database, and that is copied whole.
+/// hundred written pages the log goes into the database, which is copied whole.
 /// [`TableStore::write_all`] copies once for all its items.
 ///
 /// # Errors
 ///
-/// `Database` if the database can't be opened, and `OutOfMemory`.
+/// Returns [`StoreError::Database`] if the database can't be opened, and
+/// [`StoreError::OutOfMemory`] if memory runs out.
 ///
 /// # Examples
 ///
-///     let schema = KeySchema::parse(alloc, &["customer:S", "placed_at:N"])?;
-///     let mut orders = create_in_memory_file(alloc, "orders", schema)?;
-///     orders.put(&order)?;
+/// ```rust
+/// use table_key::KeySchema;
+/// use table_store::create_in_memory_file;
+///
+/// let schema = KeySchema::parse(alloc, &["customer:S", "placed_at:N"])?;
+/// let mut orders = create_in_memory_file(alloc, "orders", schema)?;
+/// assert_eq!(orders.count()?, 0);
+/// ```
 pub fn create_in_memory_file(
     alloc: Global,
     name: &str,
@@ -40,11 +46,11 @@ pub fn create_in_memory_file(
 // the only one.
 const SALT_SEED: u64 = 0;
 
-// How many pages that were read are kept, which takes their memory at once.
+// How many pages that were read are kept. They are allocated at once.
 const CACHE_PAGES: usize = 200;
 
-// How many pages the log has before it goes into the database. Each change copies the log in memory,
-// and each log that goes into the database copies that.
+// How many pages the log has before it goes into the database. Each change copies the log in
+// memory, and each log that goes into the database copies that.
 const LOG_PAGES: usize = 100;
 
 // A database over two files in memory, that of its pages and that of its log.
@@ -64,14 +70,14 @@ fn connect_in_memory(alloc: Global) -> Result<Connection<FileStore<Memory>>, Sto
     }
 }
 
-/// Returns a table without items in a database in memory that keeps its rows in one list.
+/// Returns an empty table in a database in memory that keeps its rows in one list.
 ///
-/// A put that replaces an item, an update and a delete walk all rows of the database. Prefer
-/// [`create_in_memory_file`], or `memory_table` where no database is needed.
+/// A put that replaces an item, an update and a delete visit all rows of the database. Prefer
+/// [`create_in_memory_file`], or `memory_table` if no database is needed.
 ///
 /// # Errors
 ///
-/// `OutOfMemory`.
+/// Returns [`StoreError::OutOfMemory`] if memory runs out.
 pub fn create_in_memory(
     alloc: Global,
     name: &str,
@@ -83,12 +89,15 @@ pub fn create_in_memory(
     TableStore::create(alloc, conn, name, schema)
 }
 
-/// The table of this name in a file. The file is made where there is none, and the table where the file has none of the name.
+/// Returns the table with this name in a file. The file and the table are created if there are
+/// none.
 ///
 /// # Errors
 ///
-/// `OtherSchema` where the table is there with other keys, `Database` where the file is no database or can't be opened or
-/// written, and `OutOfMemory`.
+/// Returns [`StoreError::OtherSchema`] if there is a table of this name with other keys.
+///
+/// Returns [`StoreError::Database`] if the file isn't a database, or can't be opened or written,
+/// and [`StoreError::OutOfMemory`] if memory runs out.
 pub fn create_at(
     rt: &HostRuntime,
     path: &str,
@@ -100,12 +109,14 @@ pub fn create_at(
     TableStore::create(rt.alloc(), connect(rt, path)?, name, schema)
 }
 
-/// The table of this name that a file has, with its keys. The file is made where there is none.
+/// Returns the table with this name in a file, with its keys. The file is created if there is none.
 ///
 /// # Errors
 ///
-/// `NoTable` where the file has no table of this name, `Database` where the file is no database or can't be opened or written,
-/// and `OutOfMemory`.
+/// Returns [`StoreError::NoTable`] if the file has no such table.
+///
+/// Returns [`StoreError::Database`] if the file isn't a database, or can't be opened or written,
+/// and [`StoreError::OutOfMemory`] if memory runs out.
 pub fn open_at(
     rt: &HostRuntime,
     path: &str,
@@ -128,11 +139,12 @@ fn close_files(conn: Connection<FileStore<File>>) -> Result<(), StoreError> {
 }
 
 impl TableStore<FileStore<File>> {
-    /// Copies what was written into the file alone, and closes it. Without this call the log beside the file is to stay with it.
+    /// Copies the log into the database file, and closes it. Without this call the log beside the
+    /// file has to stay with it.
     ///
     /// # Errors
     ///
-    /// `Database` where the file can't be written.
+    /// Returns [`StoreError::Database`] if the file can't be written.
     pub fn close(self) -> Result<(), StoreError> {
         close_files(self.into_connection())
     }

@@ -13,7 +13,28 @@ use table_key::{Key, KeySchema, TableError};
 use table_query::{Condition, Query};
 use table_rows::{Definition, StoreError, make_tables};
 
-/// A DynamoDB table in a SQLite database: items by their keys, in the keys' order.
+/// A DynamoDB table in a SQLite database: items by their keys, in the order of the keys.
+///
+/// # Examples
+///
+/// ```rust
+/// use serde_dynamo::{DynamoJson, Item};
+/// use table_key::KeySchema;
+/// use table_query::Query;
+/// use table_store::create_in_memory_file;
+///
+/// let schema = KeySchema::parse(alloc, &["customer:S", "placed_at:N"])?;
+/// let mut orders = create_in_memory_file(alloc, "orders", schema)?;
+/// let text = r#"{"customer": {"S": "Arthur"}, "placed_at": {"N": "2024"}}"#;
+/// let order = Item::from_json_text(alloc, text)?;
+/// assert!(orders.put(&order)?.is_none());
+///
+/// let key = orders.key_of(&order)?;
+/// assert!(orders.get(&key)? == Some(order.clone()?));
+/// assert_eq!(orders.query(&Query::of(&key.partition))?.len(), 1);
+/// assert!(orders.delete(&key)?.is_some());
+/// assert_eq!(orders.count()?, 0);
+/// ```
 #[derive(Drop)]
 pub struct TableStore<S: Alter + Drop> {
     alloc: Global,
@@ -22,11 +43,15 @@ pub struct TableStore<S: Alter + Drop> {
 }
 
 impl<S: Alter + Drop> TableStore<S> {
-    /// The table of this name in a database, with these keys, made where there is none.
+    /// Returns the table with this name and these keys in a database. It is created if there is
+    /// none.
     ///
     /// # Errors
     ///
-    /// `OtherSchema` where the table is there with other keys, `Database` and `OutOfMemory`.
+    /// Returns [`StoreError::OtherSchema`] if there is a table of this name with other keys.
+    ///
+    /// Returns [`StoreError::Database`] if the database fails, and [`StoreError::OutOfMemory`] if
+    /// memory runs out.
     pub fn create(
         alloc: Global,
         mut conn: Connection<S>,
@@ -47,11 +72,14 @@ impl<S: Alter + Drop> TableStore<S> {
         }
     }
 
-    /// The table of this name that a database has, with its keys.
+    /// Returns the table with this name in a database, with its keys.
     ///
     /// # Errors
     ///
-    /// `NoTable` where there is none of this name, `Database` and `OutOfMemory`.
+    /// Returns [`StoreError::NoTable`] if there is none.
+    ///
+    /// Returns [`StoreError::Database`] if the database fails, and [`StoreError::OutOfMemory`] if
+    /// memory runs out.
     pub fn open(
         alloc: Global,
         mut conn: Connection<S>,
@@ -64,31 +92,38 @@ impl<S: Alter + Drop> TableStore<S> {
         }
     }
 
-    /// The connection, taken out.
+    /// Returns the connection and consumes the table.
     pub fn into_connection(self) -> Connection<S> {
         let TableStore { conn, .. } = self;
         conn
     }
 
-    /// What the table's keys are.
+    /// Returns the attributes that are the keys of the table.
     pub fn schema(&self) -> &KeySchema
         ensures { result.now ≡ schema_of self.now }
     {
         &self.table.schema
     }
 
-    /// The key of an item of this table, and errors as [`KeySchema::key_of`] has them.
+    /// Returns the key of an item of this table.
+    ///
+    /// # Errors
+    ///
+    /// Returns the error of [`KeySchema::key_of`].
     pub fn key_of(&self, item: &Item) -> Result<Key, TableError>
         ensures { ReadsKey (schema_of self.now) item.now result }
     {
         self.table.schema.key_of(item)
     }
 
-    /// Looks at an item as [`TableStore::put`] does before it asks the database.
+    /// Checks an item as [`TableStore::put`] does before it asks the database.
     ///
     /// # Errors
     ///
-    /// `Key` with the errors of [`KeySchema::key_of`], and `TooDeep` where lists and maps nest in the item to more than 32 levels.
+    /// Returns [`StoreError::Key`] with the error of [`KeySchema::key_of`].
+    ///
+    /// Returns [`StoreError::TooDeep`] if the item has more than 32 levels of lists and maps, which
+    /// DynamoDB doesn't keep.
     pub fn check(&self, item: &Item) -> Result<(), StoreError>
         ensures needs { NeedsKey (schema_of self.now) item.now result }
     {
@@ -100,22 +135,26 @@ impl<S: Alter + Drop> TableStore<S> {
         }
     }
 
-    /// How many items there are.
+    /// Returns the number of items.
     ///
     /// # Errors
     ///
-    /// `Database` and `OutOfMemory`.
+    /// Returns [`StoreError::Database`] if the database fails, and [`StoreError::OutOfMemory`] if
+    /// memory runs out.
     pub fn count(&mut self) -> Result<u64, StoreError>
         ensures schema { schema_of self.new ≡ schema_of self.old }
     {
         table_rows::count(&mut self.conn, self.table.id)
     }
 
-    /// The item under a key, where there is one.
+    /// Returns the item under a key, or `None`.
     ///
     /// # Errors
     ///
-    /// `Unreadable` where its text doesn't read, `Database` and `OutOfMemory`.
+    /// Returns [`StoreError::Unreadable`] if the text of the item can't be read.
+    ///
+    /// Returns [`StoreError::Database`] if the database fails, and [`StoreError::OutOfMemory`] if
+    /// memory runs out.
     pub fn get(&mut self, key: &Key) -> Result<Option<Item>, StoreError>
         ensures schema { schema_of self.new ≡ schema_of self.old }
     {
@@ -123,12 +162,15 @@ impl<S: Alter + Drop> TableStore<S> {
         table_rows::get(self.alloc, &mut self.conn, self.table.id, &key)
     }
 
-    /// Puts an item under its key, and answers the item that was there.
+    /// Puts an item under its key, and returns the item that was there.
     ///
     /// # Errors
     ///
-    /// `Key` with the errors of [`KeySchema::key_of`], `TooDeep` where lists and maps nest in the item to more than 32 levels, and
-    /// those of [`TableStore::get`].
+    /// Returns [`StoreError::Key`] with the error of [`KeySchema::key_of`].
+    ///
+    /// Returns [`StoreError::TooDeep`] if the item has more than 32 levels of lists and maps.
+    ///
+    /// Otherwise returns the error of [`TableStore::get`].
     pub fn put(&mut self, item: &Item) -> Result<Option<Item>, StoreError>
         ensures needs { NeedsKey (schema_of self.old) item.now result }
         ensures schema { schema_of self.new ≡ schema_of self.old }
@@ -136,11 +178,13 @@ impl<S: Alter + Drop> TableStore<S> {
         self.put_if(Condition::Always, item)
     }
 
-    /// Puts an item under its key where the condition holds there, and answers the item that was there.
+    /// Puts an item under its key if the condition holds there, and returns the item that was
+    /// there.
     ///
     /// # Errors
     ///
-    /// Those of [`TableStore::put`], and `Key` with `ConditionFailed` where the condition doesn't hold.
+    /// Returns [`StoreError::Key`] with `ConditionFailed` if the condition doesn't hold. Otherwise
+    /// returns the error of [`TableStore::put`].
     pub fn put_if(&mut self, condition: Condition, item: &Item) -> Result<Option<Item>, StoreError>
         ensures needs { NeedsKey (schema_of self.old) item.now result }
         ensures condition { IfOk result (λ before. holds condition (is_some before) ≡ true) }
@@ -151,11 +195,11 @@ impl<S: Alter + Drop> TableStore<S> {
         self.put_where(condition, &key, item)
     }
 
-    /// Puts an item under its key, and returns the key. It drops the item that was there.
+    /// Puts an item under its key, and returns the key. An item that was there is dropped.
     ///
     /// # Errors
     ///
-    /// Those of [`TableStore::put`].
+    /// Returns the error of [`TableStore::put`].
     pub fn put_returning_key(&mut self, item: &Item) -> Result<Key, StoreError>
         ensures needs { NeedsKey (schema_of self.old) item.now result }
         ensures key { IfOk result (λ key. ReadsKey (schema_of self.old) item.now (Ok key)) }
@@ -167,7 +211,7 @@ impl<S: Alter + Drop> TableStore<S> {
         Ok(key)
     }
 
-    // Puts an item under a key where the condition holds there, and returns the item that was there.
+    // Puts an item under a key if the condition holds there, and returns the item that was there.
     fn put_where(
         &mut self,
         condition: Condition,
@@ -185,22 +229,23 @@ impl<S: Alter + Drop> TableStore<S> {
         Ok(before)
     }
 
-    /// Takes out the item under a key, where there is one, and answers it.
+    /// Deletes the item under a key, and returns it.
     ///
     /// # Errors
     ///
-    /// Those of [`TableStore::get`].
+    /// Returns the error of [`TableStore::get`].
     pub fn delete(&mut self, key: &Key) -> Result<Option<Item>, StoreError>
         ensures schema { schema_of self.new ≡ schema_of self.old }
     {
         self.delete_if(Condition::Always, key)
     }
 
-    /// Takes out the item under a key where the condition holds there, and answers it.
+    /// Deletes the item under a key if the condition holds there, and returns it.
     ///
     /// # Errors
     ///
-    /// Those of [`TableStore::get`], and `Key` with `ConditionFailed` where the condition doesn't hold.
+    /// Returns [`StoreError::Key`] with `ConditionFailed` if the condition doesn't hold. Otherwise
+    /// returns the error of [`TableStore::get`].
     pub fn delete_if(&mut self, condition: Condition, key: &Key) -> Result<Option<Item>, StoreError>
         ensures condition { IfOk result (λ before. holds condition (is_some before) ≡ true) }
         ensures schema { schema_of self.new ≡ schema_of self.old }
@@ -214,14 +259,21 @@ impl<S: Alter + Drop> TableStore<S> {
         Ok(before)
     }
 
-    /// Puts what `change` makes of the item under a key in its place.
+    /// Replaces the item under a key with what `change` makes of it.
     ///
-    /// The errors are of any type that a [`StoreError`] converts to, such as one of the caller's own.
+    /// The error can be of any type that a [`StoreError`] converts to, as `anyhow::Error` or a type
+    /// of your own.
     ///
     /// # Errors
     ///
-    /// The error of `change`; `Key` with `NoItem` if the key has no item, with those of [`KeySchema::key_of`] of the changed item,
-    /// and with `KeyChanged` if that has another key; `TooDeep` as [`TableStore::put`]; and those of [`TableStore::get`].
+    /// Returns [`StoreError::Key`] with `NoItem` if there is no item under the key, and then the
+    /// error of `change`.
+    ///
+    /// Returns [`StoreError::Key`] with the error of [`KeySchema::key_of`] for the changed item, or
+    /// with `KeyChanged` if that has another key, and [`StoreError::TooDeep`] if it has more than
+    /// 32 levels of lists and maps.
+    ///
+    /// Otherwise returns the error of [`TableStore::get`].
     pub fn update<E: From<StoreError>, F: FnOnce(&Item) -> Result<Item, E>>(
         &mut self,
         key: &Key,
@@ -240,7 +292,7 @@ impl<S: Alter + Drop> TableStore<S> {
         Ok(())
     }
 
-    // Puts a changed item under its key, which is to be this one.
+    // Puts a changed item under its key, which has to be this one.
     fn put_changed(&mut self, key: &Key, item: &Item) -> Result<(), StoreError>
         ensures own { OnOk result (HasThisKey (schema_of self.old) key.now item.now) }
         ensures schema { schema_of self.new ≡ schema_of self.old }
@@ -253,11 +305,15 @@ impl<S: Alter + Drop> TableStore<S> {
         self.put_at(&key, item)
     }
 
-    /// The items that a query finds.
+    /// Returns the items that a query finds, in its order.
     ///
     /// # Errors
     ///
-    /// `Unreadable` where the text of an item doesn't read, `Key` where it lacks its key, `Database` and `OutOfMemory`.
+    /// Returns [`StoreError::Unreadable`] if the text of an item can't be read, and
+    /// [`StoreError::Key`] if an item doesn't have its key.
+    ///
+    /// Returns [`StoreError::Database`] if the database fails, and [`StoreError::OutOfMemory`] if
+    /// memory runs out.
     pub fn query(&mut self, query: &Query<'_>) -> Result<Vec<Item>, StoreError>
         ensures found { IfOk result (λ items. All (IsFound (schema_of self.old) query.now) items.items) }
         ensures limit { IfOk result (λ items. length items.items ≤ query.now.limit) }
@@ -277,12 +333,15 @@ impl<S: Alter + Drop> TableStore<S> {
         )
     }
 
-    /// A page of all items: those behind `start_after`, in the order of their keys, at most `limit`. The next page starts after
-    /// the last key of this one.
+    /// Returns a page of all items: those after `start_after` in the order of their keys, at most
+    /// `limit`. The next page starts after the last key of this one.
     ///
     /// # Errors
     ///
-    /// `Unreadable` where the text of an item doesn't read, `Database` and `OutOfMemory`.
+    /// Returns [`StoreError::Unreadable`] if the text of an item can't be read.
+    ///
+    /// Returns [`StoreError::Database`] if the database fails, and [`StoreError::OutOfMemory`] if
+    /// memory runs out.
     pub fn scan(&mut self, limit: usize, start_after: Option<&Key>) -> Result<Vec<Item>, StoreError>
         ensures schema { schema_of self.new ≡ schema_of self.old }
     {
@@ -293,11 +352,12 @@ impl<S: Alter + Drop> TableStore<S> {
         table_rows::page(self.alloc, &mut self.conn, self.table.id, &start, limit)
     }
 
-    /// Puts each of these items under its key: all, or none where one of them is refused.
+    /// Puts each of these items under its key: all of them, or none if one fails.
     ///
     /// # Errors
     ///
-    /// Those of [`TableStore::put`].
+    /// Returns the error of [`TableStore::put`] for the first item that fails, or
+    /// [`StoreError::Database`] if the database fails.
     pub fn write_all(&mut self, items: &[Item]) -> Result<(), StoreError>
         ensures keys { OnOk result (All (HasKey (schema_of self.old)) items.now) }
         ensures schema { schema_of self.new ≡ schema_of self.old }
@@ -312,7 +372,7 @@ impl<S: Alter + Drop> TableStore<S> {
         }
     }
 
-    // Puts an item under a key, where DynamoDB keeps it: its text reads again then.
+    // Puts an item under a key if DynamoDB keeps it, so that its text can be read again.
     fn put_at(&mut self, key: &KeyBytes, item: &Item) -> Result<(), StoreError>
         ensures schema { schema_of self.new ≡ schema_of self.old }
     {

@@ -10,10 +10,10 @@ use std::fmt;
 use table_key::TableError;
 use table_store::StoreError;
 
-/// Why a value could not be stored or got.
+/// The reason why a value could not be stored or read.
 #[derive(Debug, Drop)]
 pub enum TypedStoreError {
-    /// The value could not be written as an item, or the item that is there doesn't read as one.
+    /// The value could not be written as an item, or not be read from its item.
     Value(Error),
 
     /// The table refused the item, or the database failed.
@@ -52,7 +52,7 @@ impl From<AllocError> for TypedStoreError {
     }
 }
 
-/// What could not be stored is let go.
+/// The value that could not be stored is dropped.
 impl<T: Drop> From<AllocFailed<T>> for TypedStoreError {
     ghost from_gives = { λ _ e. e ≡ TypedStoreError.Store StoreError.OutOfMemory };
 

@@ -1,4 +1,7 @@
 //! A table in a SQLite database of the values of one type.
+//!
+//! [`TypedStore`] is the table. A type of its values implements `AsItem` and `Keyed` of
+//! `typed_table`.
 #![tactic(auto)]
 
 mod change;

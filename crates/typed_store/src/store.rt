@@ -17,6 +17,50 @@ use table_store::TableStore;
 use typed_table::{AsItem, Keyed};
 
 /// A table in a SQLite database of values of one type, each an item under its key.
+///
+/// # Examples
+///
+/// ```rust
+/// # use serde::{Deserialize, Serialize};
+/// # use serde_dynamo::{Item, Result};
+/// # use std::alloc::{AllocError, Global};
+/// # use table_key::{KeyAttribute, KeyKind, KeySchema};
+/// # use typed_table::{AsItem, Keyed};
+/// use sqlite::Connection;
+/// use typed_store::TypedStore;
+///
+/// #[derive(Drop, Serialize, Deserialize)]
+/// struct Room {
+///     number: u16,
+///     beds: u8,
+/// }
+///
+/// # impl AsItem for Room {
+/// #     fn to_item(&self, alloc: Global) -> Result<Item> {
+/// #         dynamo_serde::to_item(alloc, self)
+/// #     }
+/// #
+/// #     fn read_item(alloc: Global, item: &Item) -> Result<Room> {
+/// #         dynamo_serde::read_item(alloc, item)
+/// #     }
+/// # }
+/// #
+/// # impl Keyed for Room {
+/// #     fn key_schema(alloc: Global) -> std::result::Result<KeySchema, AllocError> {
+/// #         let name = String::from_str(alloc, "number")?;
+/// #         Ok(KeySchema { partition: KeyAttribute { name, kind: KeyKind::N }, sort: None })
+/// #     }
+/// # }
+/// #
+/// let mut rooms = TypedStore::create(alloc, Connection::open_in_memory(alloc)?, "rooms")?;
+/// let key = rooms.put(&Room { number: 101, beds: 2 })?;
+/// rooms.update::<anyhow::Error, _>(&key, |mut room| {
+///     room.beds = 3;
+///     Ok(room)
+/// })?;
+/// assert!(matches!(rooms.get(&key)?, Some(room) if room.beds == 3));
+/// assert_eq!(rooms.len()?, 1);
+/// ```
 #[derive(Drop)]
 pub struct TypedStore<T, S: Alter + Drop> {
     alloc: Global,
@@ -25,11 +69,12 @@ pub struct TypedStore<T, S: Alter + Drop> {
 }
 
 impl<T: AsItem + Keyed, S: Alter + Drop> TypedStore<T, S> {
-    /// Returns the table of this name in a database, which is made if there is none. What it returns takes its memory from `alloc`.
+    /// Returns the table with this name in a database. It is created if there is none. The values
+    /// that it returns are allocated in `alloc`.
     ///
     /// # Errors
     ///
-    /// `Store` with the errors of [`TableStore::create`].
+    /// Returns [`TypedStoreError::Store`] with the error of [`TableStore::create`].
     pub fn create(alloc: Global, conn: Connection<S>, name: &str) -> Result<Self, TypedStoreError> {
         let schema = T::key_schema(alloc)?;
         Ok(TypedStore {
@@ -46,22 +91,22 @@ impl<T: AsItem + Keyed, S: Alter + Drop> TypedStore<T, S> {
         self.store
     }
 
-    /// Returns how many values the table holds.
+    /// Returns the number of values.
     ///
     /// # Errors
     ///
-    /// `Store` with the errors of [`TableStore::count`].
+    /// Returns [`TypedStoreError::Store`] with the error of [`TableStore::count`].
     pub fn len(&mut self) -> Result<u64, TypedStoreError>
         ensures schema { schema_of self.new ≡ schema_of self.old }
     {
         Ok(self.store.count()?)
     }
 
-    /// Returns whether the table holds no values.
+    /// Returns whether the table is empty.
     ///
     /// # Errors
     ///
-    /// `Store` with the errors of [`TableStore::count`].
+    /// Returns [`TypedStoreError::Store`] with the error of [`TableStore::count`].
     pub fn is_empty(&mut self) -> Result<bool, TypedStoreError>
         ensures schema { schema_of self.new ≡ schema_of self.old }
     {
@@ -72,7 +117,11 @@ impl<T: AsItem + Keyed, S: Alter + Drop> TypedStore<T, S> {
     ///
     /// # Errors
     ///
-    /// `Value` if the value can't be written as an item, and `Store` if that item has no key of the table.
+    /// Returns [`TypedStoreError::Value`] if the value can't be written as an item.
+    ///
+    /// Returns [`TypedStoreError::Store`] if its item doesn't have the table's key.
+    ///
+    /// Returns either with `OutOfMemory` if memory runs out.
     pub fn key_of(&self, value: &T) -> Result<Key, TypedStoreError>
         ensures ok { IfOk result (IsKeyOf T.written (schema_of self.now) value.now) }
         ensures err { IfErr result (FailsToKey T.written T.unwritten (schema_of self.now) value.now) }
@@ -81,28 +130,28 @@ impl<T: AsItem + Keyed, S: Alter + Drop> TypedStore<T, S> {
         Ok(self.store.key_of(&item)?)
     }
 
-    /// Returns the key of these words: a string is itself, a number its text, and a byte string its base64 text.
+    /// Returns the key of these arguments: a string is itself, a number is its string, and a byte
+    /// string is its base64 string.
     ///
     /// # Errors
     ///
-    /// `Store` with the errors of [`KeySchema::key_from`](table_key::KeySchema::key_from): a word that is none of the attribute's
-    /// kind, a word for a sort key of a table that has none, and none for that of a table that has one.
-    ///
-    /// # Examples
-    ///
-    ///     let key = orders.key_from("Arthur", Some("2024"))?;
-    ///     let order = orders.get(&key)?;
+    /// Returns [`TypedStoreError::Store`] with the error of
+    /// [`KeySchema::key_from`](table_key::KeySchema::key_from): an argument isn't of the
+    /// attribute's kind; there is a sort key for a table that has none, or none for a table that
+    /// has one; memory runs out.
     pub fn key_from(&self, partition: &str, sort: Option<&str>) -> Result<Key, TypedStoreError>
         ensures { SaysKeyOf (schema_of self.now) partition.now sort.entry result }
     {
         Ok(self.store.schema().key_from(self.alloc, partition, sort)?)
     }
 
-    /// Puts a value under its key, and returns the key. It drops what was there.
+    /// Puts a value under its key and returns the key. A value that was there is dropped.
     ///
     /// # Errors
     ///
-    /// `Value` if the value can't be written as an item, and `Store` with the errors of [`TableStore::put`].
+    /// Returns [`TypedStoreError::Value`] if the value can't be written as an item.
+    ///
+    /// Returns [`TypedStoreError::Store`] with the error of [`TableStore::put`].
     pub fn put(&mut self, value: &T) -> Result<Key, TypedStoreError>
         ensures key { IfOk result (IsKeyOf T.written (schema_of self.old) value.now) }
         ensures needs { NeedsKey T.written T.unwritten (schema_of self.old) value.now result }
@@ -112,12 +161,13 @@ impl<T: AsItem + Keyed, S: Alter + Drop> TypedStore<T, S> {
         Ok(self.store.put_returning_key(&item)?)
     }
 
-    /// Puts a value under its key if the condition holds there, and returns the key and whether there was anything. It drops what
-    /// was there.
+    /// Puts a value under its key if the condition holds there, and returns the key and whether
+    /// there was a value. That value is dropped.
     ///
     /// # Errors
     ///
-    /// Those of [`put`](Self::put), and `Store` with `ConditionFailed` if the condition doesn't hold.
+    /// Returns [`TypedStoreError::Store`] with `ConditionFailed` if the condition doesn't hold.
+    /// Otherwise returns the error of [`put`](Self::put).
     pub fn put_if(
         &mut self,
         condition: Condition,
@@ -134,11 +184,13 @@ impl<T: AsItem + Keyed, S: Alter + Drop> TypedStore<T, S> {
         Ok((key, there))
     }
 
-    /// Returns the value under a key, if there is one: what the item that the database has there reads as.
+    /// Returns the value under a key, or `None`.
     ///
     /// # Errors
     ///
-    /// `Value` with the fault of reading the item, and `Store` with the errors of [`TableStore::get`].
+    /// Returns [`TypedStoreError::Value`] with the error of reading the item.
+    ///
+    /// Returns [`TypedStoreError::Store`] with the error of [`TableStore::get`].
     pub fn get(&mut self, key: &Key) -> Result<Option<T>, TypedStoreError>
         ensures read { IfOk result (λ found. IfSome found (WasRead T.reads_item)) }
         ensures schema { schema_of self.new ≡ schema_of self.old }
@@ -149,22 +201,24 @@ impl<T: AsItem + Keyed, S: Alter + Drop> TypedStore<T, S> {
         }
     }
 
-    /// Deletes what is under a key, and returns whether there was anything.
+    /// Deletes the value under a key, and returns whether there was one.
     ///
     /// # Errors
     ///
-    /// `Store` with the errors of [`TableStore::delete`].
+    /// Returns [`TypedStoreError::Store`] with the error of [`TableStore::delete`].
     pub fn delete(&mut self, key: &Key) -> Result<bool, TypedStoreError>
         ensures schema { schema_of self.new ≡ schema_of self.old }
     {
         Ok(self.store.delete(key)?.is_some())
     }
 
-    /// Deletes what is under a key if the condition holds there, and returns whether there was anything.
+    /// Deletes the value under a key if the condition holds there, and returns whether there was
+    /// one.
     ///
     /// # Errors
     ///
-    /// `Store` with the errors of [`TableStore::delete_if`], among them `ConditionFailed` if the condition doesn't hold.
+    /// Returns [`TypedStoreError::Store`] with the error of [`TableStore::delete_if`], as
+    /// `ConditionFailed` if the condition doesn't hold.
     pub fn delete_if(&mut self, condition: Condition, key: &Key) -> Result<bool, TypedStoreError>
         ensures condition { IfOk result (λ there. holds condition there ≡ true) }
         ensures schema { schema_of self.new ≡ schema_of self.old }
@@ -174,12 +228,19 @@ impl<T: AsItem + Keyed, S: Alter + Drop> TypedStore<T, S> {
 
     /// Replaces the value under a key with what `change` makes of it.
     ///
-    /// The errors are of any type that a [`TypedStoreError`] converts to, such as one of the caller's own.
+    /// The error can be of any type that a [`TypedStoreError`] converts to, as `anyhow::Error` or a
+    /// type of your own.
     ///
     /// # Errors
     ///
-    /// `Store` with `NoItem` if nothing is under the key. Else `Value` if what is there can't be read, the error of `change`, those
-    /// of [`put`](Self::put) for the changed value, and `Store` with `KeyChanged` if that has another key.
+    /// Returns [`TypedStoreError::Store`] with `NoItem` if there is no value under the key, or with
+    /// the error of the database.
+    ///
+    /// Returns [`TypedStoreError::Value`] if the value can't be read, and then the error of
+    /// `change`.
+    ///
+    /// Returns the error of [`put`](Self::put) for the changed value, and
+    /// [`TypedStoreError::Store`] with `KeyChanged` if the changed value has another key.
     pub fn update<E: From<TypedStoreError>, F: FnOnce(T) -> Result<T, E>>(
         &mut self,
         key: &Key,
@@ -200,11 +261,13 @@ impl<T: AsItem + Keyed, S: Alter + Drop> TypedStore<T, S> {
         }
     }
 
-    /// Returns the values that a query finds, in its order: what each item that the database gives for it reads as.
+    /// Returns the values that a query finds, in its order.
     ///
     /// # Errors
     ///
-    /// `Value` with the fault of reading one of the items, and `Store` with the errors of [`TableStore::query`].
+    /// Returns [`TypedStoreError::Value`] with the error of reading one of the items.
+    ///
+    /// Returns [`TypedStoreError::Store`] with the error of [`TableStore::query`].
     pub fn query(&mut self, query: &Query<'_>) -> Result<Vec<T>, TypedStoreError>
         ensures found { IfOk result (λ values. WereFound T.reads_item (schema_of self.old) query.now values.items) }
         ensures schema { schema_of self.new ≡ schema_of self.old }
@@ -213,12 +276,15 @@ impl<T: AsItem + Keyed, S: Alter + Drop> TypedStore<T, S> {
         self.values_from(found)
     }
 
-    /// Returns a page of all values: those behind `start_after`, in the order of their keys, at most `limit`. The next page
-    /// starts after the key of the last value of this one, which [`key_of`](Self::key_of) returns.
+    /// Returns a page of all values: those after `start_after` in the order of their keys, at most
+    /// `limit`. The next page starts after the key of the last value of this one, which
+    /// [`key_of`](Self::key_of) returns.
     ///
     /// # Errors
     ///
-    /// `Value` with the fault of reading one of the items, and `Store` with the errors of [`TableStore::scan`].
+    /// Returns [`TypedStoreError::Value`] with the error of reading one of the items.
+    ///
+    /// Returns [`TypedStoreError::Store`] with the error of [`TableStore::scan`].
     pub fn scan(
         &mut self,
         limit: usize,
@@ -231,11 +297,11 @@ impl<T: AsItem + Keyed, S: Alter + Drop> TypedStore<T, S> {
         self.values_from(found)
     }
 
-    /// Returns all values, each once, in the order of their keys.
+    /// Returns all values in the order of their keys.
     ///
     /// # Errors
     ///
-    /// Those of [`scan`](Self::scan).
+    /// Returns the error of [`scan`](Self::scan).
     pub fn scan_all(&mut self) -> Result<Vec<T>, TypedStoreError>
         ensures read { IfOk result (λ values. WereRead T.reads_item values.items) }
         ensures schema { schema_of self.new ≡ schema_of self.old }
@@ -243,7 +309,7 @@ impl<T: AsItem + Keyed, S: Alter + Drop> TypedStore<T, S> {
         self.scan(usize::MAX, None)
     }
 
-    // Returns what these items read as. It takes each of them apart for it.
+    // Reads a value from each of these items, whose parts it moves.
     fn values_from(&self, found: Vec<Item>) -> Result<Vec<T>, TypedStoreError>
         ensures { IfOk result (λ values. AllZip (ReadsAs T.reads_item) found.items values.items) }
     {

@@ -15,33 +15,49 @@ use dynamo_types::Shaped;
 use dynamo_value::{Item, Result};
 use std::alloc::Global;
 
-/// A type whose values are written as items and read from them.
+/// A type whose values are written as items and read from items.
 ///
-/// Every [`Shaped`] type is one, and where its shape is clear, what is written reads back the same. A type that derives serde's
-/// traits becomes one by two methods that call `dynamo_serde`, and nothing is promised of what they write and read.
+/// Every [`Shaped`] type is one. If its shape is clear, its values read back the same. A type that
+/// derives serde's traits becomes one by two methods that call `dynamo_serde`. Nothing is promised
+/// of what they write and read.
 ///
 /// # Examples
 ///
-///     impl AsItem for Order {
-///         fn to_item(&self, alloc: Global) -> Result<Item> {
-///             dynamo_serde::to_item(alloc, self)
-///         }
+/// ```rust
+/// use serde::{Deserialize, Serialize};
+/// use serde_dynamo::{Item, Result};
+/// use std::alloc::Global;
+/// use typed_table::AsItem;
 ///
-///         fn read_item(alloc: Global, item: &Item) -> Result<Order> {
-///             dynamo_serde::read_item(alloc, item)
-///         }
+/// #[derive(Drop, Serialize, Deserialize)]
+/// struct Order {
+///     id: u64,
+/// }
+///
+/// impl AsItem for Order {
+///     fn to_item(&self, alloc: Global) -> Result<Item> {
+///         dynamo_serde::to_item(alloc, self)
 ///     }
+///
+///     fn read_item(alloc: Global, item: &Item) -> Result<Order> {
+///         dynamo_serde::read_item(alloc, item)
+///     }
+/// }
+///
+/// let item = Order { id: 7 }.to_item(alloc)?;
+/// assert_eq!(Order::from_item(alloc, item)?.id, 7);
+/// ```
 pub trait AsItem: Sized + Drop {
-    // Whether a value may be written as an item.
+    // Whether an item is one that the value is written as.
     ghost written: { Self → Item → Type 0 } = { λ _ _. ⊤ };
 
-    // Which faults writing a value may have, but for memory.
+    // The faults that writing a value may have, apart from out of memory.
     ghost unwritten: { Self → Fault → Type 0 } = { λ _ _. ⊤ };
 
-    // What an item may read as: a value or a fault.
+    // The results that reading an item may have: values or faults.
     ghost reads_item: { Item → Result Self Fault → Type 0 } = { λ _ _. ⊤ };
 
-    // Whether it is promised that what is written reads back the same.
+    // Whether it is promised that a value that was written reads back the same.
     ghost reads_back: { Type 0 } = { ⊥ };
 
     // Whether two values are the same.
@@ -51,26 +67,31 @@ pub trait AsItem: Sized + Drop {
     ///
     /// # Errors
     ///
-    /// The fault of writing it as an item, or `OutOfMemory`.
+    /// Returns the error of writing the value as an item.
+    ///
+    /// Returns [`ErrorImpl::OutOfMemory`](dynamo_value::ErrorImpl::OutOfMemory) if memory runs out.
     fn to_item(&self, alloc: Global) -> Result<Item>
         ensures ok { IfOk result (written self.now) }
         ensures err { IfErr result (λ e. unwritten self.now (fault_of e) ⊎ (fault_of e ≡ out_of_memory)) };
 
-    /// Returns the value that an item reads as, and leaves the item as it is.
+    /// Reads a value from a borrowed item.
     ///
     /// # Errors
     ///
-    /// The fault of reading it, or `OutOfMemory`.
+    /// Returns the error of reading the item.
+    ///
+    /// Returns [`ErrorImpl::OutOfMemory`](dynamo_value::ErrorImpl::OutOfMemory) if memory runs out.
     fn read_item(alloc: Global, item: &Item) -> Result<Self>
         ensures read { Meets fault_of (reads_item item.now) result }
         ensures clear { reads_back → (value : Self) → written value item.now
             → MatchResult result (alike value) (λ e. fault_of e ≡ out_of_memory) };
 
-    /// Returns the value that an item reads as, as [`read_item`](Self::read_item). It may take the item apart for it.
+    /// Reads a value from an item, as [`read_item`](Self::read_item) does. It may move parts of the
+    /// item.
     ///
     /// # Errors
     ///
-    /// Those of [`read_item`](Self::read_item).
+    /// Returns the error of [`read_item`](Self::read_item).
     fn from_item(alloc: Global, item: Item) -> Result<Self>
         ensures read { Meets fault_of (reads_item item) result }
         ensures clear { reads_back → (value : Self) → written value item

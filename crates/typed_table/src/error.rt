@@ -6,7 +6,7 @@ use dynamo_value::Error;
 use std::fmt;
 use table_key::TableError;
 
-/// Why a value could not be stored. The table is then as it was.
+/// The reason why a value could not be stored. The table is unchanged.
 #[derive(Debug, Drop)]
 pub enum TypedTableError {
     /// The value could not be written as an item.

@@ -21,11 +21,13 @@ use dynamo_write::to_item;
 use std::alloc::Global;
 use table_key::Key;
 
-/// The item of a value.
+/// Returns the item of a value.
 ///
 /// # Errors
 ///
-/// The fault of writing it as an item, or want of memory.
+/// Returns the error of writing the value as an item.
+///
+/// Returns [`ErrorImpl::OutOfMemory`](dynamo_value::ErrorImpl::OutOfMemory) if memory runs out.
 pub fn item_of<T: Shaped>(alloc: Global, value: &T) -> Result<Item>
     ensures ok { IfOk result (λ item. IsItemOf T.about.shape T.tells value.now item) }
     ensures err { IfErr result (λ e. (item_written (T.tells value.now) ≡ Err (fault_of e)) ⊎ (fault_of e ≡ out_of_memory)) }
@@ -34,12 +36,14 @@ pub fn item_of<T: Shaped>(alloc: Global, value: &T) -> Result<Item>
     to_item(alloc, value)
 }
 
-/// The value that an item reads as. Of the item of a value it is the same by value, where the shape is clear. The item is read
-/// where it lies, and stays as it is.
+/// Reads a value from a borrowed item. From the item of a value it reads the same value, if the
+/// shape is clear.
 ///
 /// # Errors
 ///
-/// What reading permits, or want of memory.
+/// Returns the error of reading the item.
+///
+/// Returns [`ErrorImpl::OutOfMemory`](dynamo_value::ErrorImpl::OutOfMemory) if memory runs out.
 pub fn value_of<T: Shaped>(alloc: Global, item: &Item) -> Result<T>
     ensures read { Meets fault_of (T.reads (attribute (av.M (item_view item.now)))) result }
     ensures clear { Clear T.about.shape → (value : T) → IsItemOf T.about.shape T.tells value item.now → MatchResult result (λ w. T.about.same value w) (λ e. fault_of e ≡ out_of_memory) }
@@ -49,11 +53,13 @@ pub fn value_of<T: Shaped>(alloc: Global, item: &Item) -> Result<T>
     Ok(value)
 }
 
-/// The value that [`value_of`] gives, read from an item that is taken apart for it: nothing is copied.
+/// Reads a value from an item, as [`value_of`] does. It moves the parts of the item.
 ///
 /// # Errors
 ///
-/// The fault that reading the item permits, or `OutOfMemory`.
+/// Returns the error of reading the item.
+///
+/// Returns [`ErrorImpl::OutOfMemory`](dynamo_value::ErrorImpl::OutOfMemory) if memory runs out.
 pub fn value_from<T: Shaped>(alloc: Global, item: Item) -> Result<T>
     ensures read { Meets fault_of (T.reads (attribute (av.M (item_view item)))) result }
     ensures clear { Clear T.about.shape → (value : T) → IsItemOf T.about.shape T.tells value item
@@ -64,11 +70,11 @@ pub fn value_from<T: Shaped>(alloc: Global, item: Item) -> Result<T>
     Ok(value)
 }
 
-/// Returns the values that items read as, each in its place.
+/// Reads a value from each of these items.
 ///
 /// # Errors
 ///
-/// The fault of reading one of them, or `OutOfMemory`.
+/// Returns the error of reading one of them, or `OutOfMemory` if memory runs out.
 pub(crate) fn values_of<T: AsItem>(alloc: Global, found: &[(&Key, &Item)]) -> Result<Vec<T>>
     ensures read { IfOk result (λ values. ReadEach T.reads_item (seen found.now) values.items) }
     ensures err { IfErr result (λ e. (fault_of e ≡ out_of_memory) ⊎ RefusesOne T.reads_item (fault_of e) (seen found.now)) }

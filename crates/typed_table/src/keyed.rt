@@ -1,12 +1,32 @@
 use std::alloc::{AllocError, Global};
 use table_key::KeySchema;
 
-/// A type that names the key of its table. Its values are items by [`AsItem`](crate::AsItem).
+/// A type that names the key of its table. [`AsItem`](crate::AsItem) says how its values are items.
+///
+/// # Examples
+///
+/// ```rust
+/// use std::alloc::{AllocError, Global};
+/// use table_key::{KeyAttribute, KeyKind, KeySchema};
+/// use typed_table::Keyed;
+///
+/// struct Order;
+///
+/// impl Keyed for Order {
+///     fn key_schema(alloc: Global) -> Result<KeySchema, AllocError> {
+///         let name = String::from_str(alloc, "id")?;
+///         let partition = KeyAttribute { name, kind: KeyKind::S };
+///         Ok(KeySchema { partition, sort: None })
+///     }
+/// }
+///
+/// assert_eq!(Order::key_schema(alloc)?.partition.name.as_str(), "id");
+/// ```
 pub trait Keyed: Sized {
     /// Returns the attributes that are the key.
     ///
     /// # Errors
     ///
-    /// `AllocError` if memory for their names can't be allocated.
+    /// Returns [`AllocError`] if memory runs out for their names.
     fn key_schema(alloc: Global) -> Result<KeySchema, AllocError>;
 }

@@ -1,4 +1,4 @@
-//! The promise through a table, as a call that keeps it, and what it says of shaped types.
+//! The promise of a table: what was put under a key is got from it.
 ghost use Rattle.std.specs.Prelude.{◌≡◌, Result, Err, IfOk, MatchOption};
 ghost use Rattle.dynamo_value.specs.Av as av;
 ghost use Rattle.dynamo_value.specs.Fault.{Fault};
@@ -12,12 +12,15 @@ ghost use Rattle.typed_table.specs.Written.{IsItemOf};
 use crate::{AsItem, Keyed, TypedTable, TypedTableError};
 use dynamo_types::Shaped;
 
-/// Puts a value into a table, and gets what is under its key: if the type reads back what it writes, there is something, and it is
-/// the same value.
+/// Puts a value into a table, and gets the value under its key. If the type promises that its
+/// values read back, there is a value, and it is the same.
 ///
 /// # Errors
 ///
-/// Those of [`TypedTable::put`], and `OutOfMemory`.
+/// Returns the error of [`TypedTable::put`].
+///
+/// Returns [`TypedTableError::Value`] with the error of reading the item, or with `OutOfMemory` if
+/// memory runs out.
 pub fn put_then_get<T: AsItem + Keyed>(
     table: &mut TypedTable<T>,
     value: &T,
@@ -28,8 +31,8 @@ pub fn put_then_get<T: AsItem + Keyed>(
     Ok(table.get(&key)?)
 }
 
-/// What a shaped type promises as [`AsItem`] is its promise: where its shape is clear, what is written reads back, and two values are
-/// the same where they are so by value.
+/// The promise of [`AsItem`] for a type with a shape: if the shape is clear, its values read back,
+/// and two values are the same as the shape has it.
 pub fn of_shaped<T: Shaped>()
     ensures back { Clear T.about.shape → ⟦<T as AsItem>⟧.reads_back }
     ensures alike { (v w : T) → ⟦<T as AsItem>⟧.alike v w → T.about.same v w }

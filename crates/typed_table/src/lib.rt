@@ -1,4 +1,6 @@
-//! A table in memory of the values of one type, for the tests of a service.
+//! A table in memory of the values of one type, for a service and its tests.
+//!
+//! [`TypedTable`] is the table. A type of its values implements [`AsItem`] and [`Keyed`].
 #![tactic(auto)]
 
 mod as_item;

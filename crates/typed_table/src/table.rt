@@ -23,6 +23,65 @@ use table_key::{Key, TableError};
 use table_query::{Condition, Query};
 
 /// A table in memory of values of one type, each an item under its key.
+///
+/// # Examples
+///
+/// ```rust
+/// # use serde::{Deserialize, Serialize};
+/// # use serde_dynamo::{Item, Result};
+/// # use std::alloc::{AllocError, Global};
+/// # use table_key::{KeyAttribute, KeyKind, KeySchema};
+/// # use typed_table::{AsItem, Keyed};
+/// use table_query::{Condition, Query};
+/// use typed_table::TypedTable;
+///
+/// #[derive(Drop, Serialize, Deserialize)]
+/// struct Room {
+///     hotel: String,
+///     number: u16,
+///     beds: u8,
+/// }
+///
+/// # impl AsItem for Room {
+/// #     fn to_item(&self, alloc: Global) -> Result<Item> {
+/// #         dynamo_serde::to_item(alloc, self)
+/// #     }
+/// #
+/// #     fn read_item(alloc: Global, item: &Item) -> Result<Room> {
+/// #         dynamo_serde::read_item(alloc, item)
+/// #     }
+/// # }
+/// #
+/// # impl Keyed for Room {
+/// #     fn key_schema(alloc: Global) -> std::result::Result<KeySchema, AllocError> {
+/// #         let name = String::from_str(alloc, "hotel")?;
+/// #         let partition = KeyAttribute { name, kind: KeyKind::S };
+/// #         let name = String::from_str(alloc, "number")?;
+/// #         let sort = Some(KeyAttribute { name, kind: KeyKind::N });
+/// #         Ok(KeySchema { partition, sort })
+/// #     }
+/// # }
+/// #
+/// let mut rooms = TypedTable::new(alloc)?;
+/// for number in [101, 102] {
+///     rooms.put(&Room { hotel: String::from_str(alloc, "Sea")?, number, beds: 2 })?;
+/// }
+///
+/// // `number` is a sort key, so a key has two parts.
+/// let key = rooms.key_from("Sea", Some("101"))?;
+/// rooms.update::<anyhow::Error, _>(&key, |mut room| {
+///     room.beds = 3;
+///     Ok(room)
+/// })?;
+/// assert!(matches!(rooms.get(&key)?, Some(room) if room.beds == 3));
+///
+/// let found = rooms.query(&Query::of(&key.partition))?;
+/// assert!(matches!(found.as_slice(), [first, second] if first.number == 101 && second.beds == 2));
+///
+/// let again = Room { hotel: String::from_str(alloc, "Sea")?, number: 101, beds: 1 };
+/// assert!(rooms.put_if(Condition::NotExists, &again).is_err());
+/// assert!(rooms.delete(&key));
+/// ```
 #[derive(Drop)]
 pub struct TypedTable<T> {
     alloc: Global,
@@ -31,11 +90,11 @@ pub struct TypedTable<T> {
 }
 
 impl<T: AsItem + Keyed> TypedTable<T> {
-    /// Returns the table without values. What it holds and returns takes its memory from `alloc`.
+    /// Returns an empty table. Its items, and the values that it returns, are allocated in `alloc`.
     ///
     /// # Errors
     ///
-    /// `AllocError` if memory for the names of the key can't be allocated.
+    /// Returns [`AllocError`] if memory runs out for the names of the key.
     pub fn new(alloc: Global) -> std::result::Result<Self, AllocError>
         ensures empty { IfOk result (λ t. entries_of (table_of t) ≡ []) }
     {
@@ -54,14 +113,14 @@ impl<T: AsItem + Keyed> TypedTable<T> {
         &self.table
     }
 
-    /// Returns how many values the table holds.
+    /// Returns the number of values.
     pub fn len(&self) -> usize
         ensures { result ≡ length (entries_of (table_of self.now)) }
     {
         self.table.len()
     }
 
-    /// Returns whether the table holds no values.
+    /// Returns whether the table is empty.
     pub fn is_empty(&self) -> bool
         ensures { IsTrue result ↔ (length (entries_of (table_of self.now)) ≡ 0) }
     {
@@ -72,8 +131,11 @@ impl<T: AsItem + Keyed> TypedTable<T> {
     ///
     /// # Errors
     ///
-    /// `Value` if the value can't be written as an item, `Table` if that item has no key of the table, and either if memory
-    /// can't be allocated.
+    /// Returns [`TypedTableError::Value`] if the value can't be written as an item.
+    ///
+    /// Returns [`TypedTableError::Table`] if its item doesn't have the table's key.
+    ///
+    /// Returns either with `OutOfMemory` if memory runs out.
     pub fn key_of(&self, value: &T) -> std::result::Result<Key, TypedTableError>
         ensures ok { IfOk result (IsKeyOf T.written (schema_of (table_of self.now)) value.now) }
         ensures err { IfErr result (FailsToPut T.written T.unwritten (schema_of (table_of self.now)) value.now) }
@@ -82,17 +144,14 @@ impl<T: AsItem + Keyed> TypedTable<T> {
         Ok(self.table.key_of(&item)?)
     }
 
-    /// Returns the key of these words: a string is itself, a number its text, and a byte string its base64 text.
+    /// Returns the key of these arguments: a string is itself, a number is its string, and a byte
+    /// string is its base64 string.
     ///
     /// # Errors
     ///
-    /// Those of [`KeySchema::key_from`](table_key::KeySchema::key_from): of a word that is none of the attribute's kind, `NoSortKey`
-    /// for a word for a sort key of a table that has none, and `Missing` without one for that of a table that has one.
-    ///
-    /// # Examples
-    ///
-    ///     let key = orders.key_from("Arthur", Some("2024"))?;
-    ///     let order = orders.get(&key)?;
+    /// Returns the error of [`KeySchema::key_from`](table_key::KeySchema::key_from): an argument
+    /// isn't of the attribute's kind; `NoSortKey` for a sort key in a table that has none;
+    /// `Missing` without one in a table that has one; `OutOfMemory` if memory runs out.
     pub fn key_from(
         &self,
         partition: &str,
@@ -103,12 +162,15 @@ impl<T: AsItem + Keyed> TypedTable<T> {
         self.table.schema().key_from(self.alloc, partition, sort)
     }
 
-    /// Puts a value under its key, and returns the key. It drops what was there.
+    /// Puts a value under its key and returns the key. A value that was there is dropped.
     ///
     /// # Errors
     ///
-    /// `Value` if the value can't be written as an item, `Table` if that item has no key of the table, and either if memory can't
-    /// be allocated. The table is then as it was.
+    /// Returns [`TypedTableError::Value`] if the value can't be written as an item.
+    ///
+    /// Returns [`TypedTableError::Table`] if its item doesn't have the table's key.
+    ///
+    /// Returns either with `OutOfMemory` if memory runs out. The table is unchanged after an error.
     pub fn put(&mut self, value: &T) -> std::result::Result<Key, TypedTableError>
         ensures holds { IfOk result (λ key. Holds T.written (table_of self.new) key value.now) }
         ensures others { IfOk result (λ key. OthersStay key (table_of self.old) (table_of self.new)) }
@@ -120,11 +182,13 @@ impl<T: AsItem + Keyed> TypedTable<T> {
         Ok(self.table.put_returning_key(item)?)
     }
 
-    /// Puts a value under its key if the condition holds there, and returns the key. It drops what was there.
+    /// Puts a value under its key if the condition holds there, and returns the key. A value that
+    /// was there is dropped.
     ///
     /// # Errors
     ///
-    /// Those of [`put`](Self::put), and `Table` with `ConditionFailed` if the condition doesn't hold.
+    /// Returns [`TypedTableError::Table`] with `ConditionFailed` if the condition doesn't hold.
+    /// Otherwise returns the error of [`put`](Self::put). The table is unchanged after an error.
     pub fn put_if(
         &mut self,
         condition: Condition,
@@ -143,14 +207,17 @@ impl<T: AsItem + Keyed> TypedTable<T> {
         Ok(self.table.put_if_returning_key(condition, item)?)
     }
 
-    /// Returns the value under a key, if there is one.
+    /// Returns the value under a key, or `None`.
     ///
-    /// **What was put under a key is got from it**: while the table holds a value under the key, and the type promises that what is
-    /// written reads back, the value is the same, and the call fails only if memory can't be allocated.
+    /// **What was put under a key is got from it**: if the type promises that its values read back,
+    /// the value is the same as the one that was put, and the call fails only if memory runs out.
     ///
     /// # Errors
     ///
-    /// The fault of reading the item, or `OutOfMemory`.
+    /// Returns the error of reading the item, as [`from_item_ref`](dynamo_read::from_item_ref)
+    /// does.
+    ///
+    /// Returns [`ErrorImpl::OutOfMemory`](dynamo_value::ErrorImpl::OutOfMemory) if memory runs out.
     pub fn get(&self, key: &Key) -> Result<Option<T>>
         ensures read { ReadsAt T.reads_item (get key_cmp (items_of (table_of self.now)) key.now) result }
         ensures clear { T.reads_back → (value : T) → Holds T.written (table_of self.now) key.now value
@@ -162,7 +229,7 @@ impl<T: AsItem + Keyed> TypedTable<T> {
         }
     }
 
-    /// Deletes what is under a key, and returns whether there was anything.
+    /// Deletes the value under a key, and returns whether there was one.
     pub fn delete(&mut self, key: &Key) -> bool
         ensures answer { result ≡ is_some (get key_cmp (items_of (table_of self.old)) key.now) }
         ensures updates { Updates key_cmp (items_of (table_of self.old)) (items_of (table_of self.new)) key.now None }
@@ -171,11 +238,12 @@ impl<T: AsItem + Keyed> TypedTable<T> {
         self.table.delete(key).is_some()
     }
 
-    /// Deletes what is under a key if the condition holds there, and returns whether there was anything.
+    /// Deletes the value under a key if the condition holds there, and returns whether there was
+    /// one.
     ///
     /// # Errors
     ///
-    /// `ConditionFailed` if the condition doesn't hold.
+    /// Returns `ConditionFailed` if the condition doesn't hold. The table is unchanged then.
     pub fn delete_if(
         &mut self,
         condition: Condition,
@@ -189,12 +257,19 @@ impl<T: AsItem + Keyed> TypedTable<T> {
 
     /// Replaces the value under a key with what `change` makes of it.
     ///
-    /// The errors are of any type that a [`TypedTableError`] converts to, such as one of the caller's own.
+    /// The error can be of any type that a [`TypedTableError`] converts to, as `anyhow::Error` or a
+    /// type of your own.
     ///
     /// # Errors
     ///
-    /// `Table` with `NoItem` if nothing is under the key. Else `Value` if what is there can't be read, then the error of `change`,
-    /// then those of [`put`](Self::put) for the changed value, and `Table` with `KeyChanged` if that has another key.
+    /// Returns [`TypedTableError::Table`] with `NoItem` if there is no value under the key.
+    ///
+    /// Returns [`TypedTableError::Value`] if the value can't be read, and then the error of
+    /// `change`.
+    ///
+    /// Returns the error of [`put`](Self::put) for the changed value, and
+    /// [`TypedTableError::Table`] with `KeyChanged` if the changed value has another key. The table
+    /// is unchanged after an error.
     pub fn update<E: From<TypedTableError>, F: FnOnce(T) -> std::result::Result<T, E>>(
         &mut self,
         key: &Key,
@@ -219,11 +294,13 @@ impl<T: AsItem + Keyed> TypedTable<T> {
         }
     }
 
-    /// Returns the values that a query finds, in its order: what each of the items reads as.
+    /// Returns the values that a query finds, in its order.
     ///
     /// # Errors
     ///
-    /// The fault of reading one of the items, or `OutOfMemory`.
+    /// Returns the error of reading one of the items.
+    ///
+    /// Returns [`ErrorImpl::OutOfMemory`](dynamo_value::ErrorImpl::OutOfMemory) if memory runs out.
     pub fn query(&self, query: &Query<'_>) -> Result<Vec<T>>
         ensures read { IfOk result (λ values. ReadEach T.reads_item (answer query.now (entries_of (table_of self.now))) values.items) }
         ensures err { IfErr result (FailsToRead T.reads_item (answer query.now (entries_of (table_of self.now)))) }
@@ -232,12 +309,15 @@ impl<T: AsItem + Keyed> TypedTable<T> {
         values_of(self.alloc, found.as_slice())
     }
 
-    /// Returns a page of all values: those behind `start_after`, in the order of their keys, at most `limit`. The next page
-    /// starts after the key of the last value of this one, which [`key_of`](Self::key_of) returns.
+    /// Returns a page of all values: those after `start_after` in the order of their keys, at most
+    /// `limit`. The next page starts after the key of the last value of this one, which
+    /// [`key_of`](Self::key_of) returns.
     ///
     /// # Errors
     ///
-    /// The error of reading one of the items, or `OutOfMemory`.
+    /// Returns the error of reading one of the items.
+    ///
+    /// Returns [`ErrorImpl::OutOfMemory`](dynamo_value::ErrorImpl::OutOfMemory) if memory runs out.
     pub fn scan(&self, limit: usize, start_after: Option<&Key>) -> Result<Vec<T>>
         ensures read { IfOk result (λ values. ReadEach T.reads_item (page limit start_after.entry (table_of self.now)) values.items) }
         ensures err { IfErr result (FailsToRead T.reads_item (page limit start_after.entry (table_of self.now))) }
@@ -246,11 +326,13 @@ impl<T: AsItem + Keyed> TypedTable<T> {
         values_of(self.alloc, found.as_slice())
     }
 
-    /// Returns all values, each once, in the order of their keys.
+    /// Returns all values in the order of their keys.
     ///
     /// # Errors
     ///
-    /// The error of reading one of the items, or `OutOfMemory`.
+    /// Returns the error of reading one of the items.
+    ///
+    /// Returns [`ErrorImpl::OutOfMemory`](dynamo_value::ErrorImpl::OutOfMemory) if memory runs out.
     pub fn scan_all(&self) -> Result<Vec<T>>
         ensures read { IfOk result (λ values. ReadEach T.reads_item (entries_of (table_of self.now)) values.items) }
         ensures err { IfErr result (FailsToRead T.reads_item (entries_of (table_of self.now))) }

@@ -1,6 +1,8 @@
-//! An `AttributeValue` as the attribute value that it is: `#[serde(with = "dynamo_serde::attribute_value")]`.
+//! A field that is an `AttributeValue` of any kind: `#[serde(with =
+//! "dynamo_serde::attribute_value")]`.
 //!
-//! One that may be missing, or several, stand in a newtype whose field says so: `Option<Any>`, `Vec<Any>`.
+//! For an optional one or for several, put the attribute in a newtype struct: `Option<Any>` or
+//! `Vec<Any>`.
 ghost use Rattle.std.specs.Prelude.{map, string_bytes, OnOk};
 ghost use Rattle.dynamo_value.specs.Av as av;
 ghost use Rattle.dynamo_value.specs.View.{view, elements_view, members_view};
@@ -14,16 +16,23 @@ use serde::{Case, Deserializer, Format, Serializer};
 use std::alloc::Global;
 use std::collections::HashMap;
 
-/// Writes this very attribute value, of any kind, to a writer of this crate.
+/// Writes this attribute value, of any kind, to a writer of this crate.
 ///
-/// What nests too deep is refused as by [`to_attribute_value`](crate::to_attribute_value).
+/// # Errors
+///
+/// Returns an error if the value has more than 127 levels of lists and maps, or if memory runs out.
 pub fn serialize<S: Serializer>(value: &AttributeValue, out: &mut S) -> Result<(), S::Error>
     ensures { OnOk result (SendsValue (view value.now) (S.written out.old) (S.written out.new)) }
 {
     send(value, out)
 }
 
-/// Reads the attribute value that comes, of any kind, from a reader of this crate.
+/// Reads an attribute value, of any kind, from a reader of this crate.
+///
+/// # Errors
+///
+/// Returns an error if there is none, if it has more than 127 levels of lists and maps, or if
+/// memory runs out.
 pub fn deserialize<F: Format>(
     alloc: Global,
     from: &mut Deserializer<'_, '_, F>,
@@ -132,7 +141,7 @@ fn send_blobs<S: Serializer>(blobs: &Vec<Vec<u8>>, out: &mut S) -> Result<(), S:
     out.end_map()
 }
 
-// Lists and maps may still nest `levels` deep.
+// Lists and maps may have `levels` more levels.
 #[cycle(fetch)]
 fn fetch<F: Format>(
     alloc: Global,
@@ -200,7 +209,7 @@ pub(crate) fn fetch_map<F: Format>(
     Ok(members)
 }
 
-// Texts of this kind, strings or numbers.
+// Strings of this kind, which are strings or numbers.
 fn fetch_texts<F: Format>(
     alloc: Global,
     from: &mut Deserializer<'_, '_, F>,

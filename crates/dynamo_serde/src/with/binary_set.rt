@@ -1,8 +1,12 @@
-//! Byte strings as a set of them, `BS`: `#[serde(with = "dynamo_serde::binary_set")]`.
+//! A field that is a set of byte strings, `BS`: `#[serde(with = "dynamo_serde::binary_set")]`.
 use serde::{Case, Deserializer, Format, Serializer};
 use std::alloc::Global;
 
 /// Writes the byte strings as a set.
+///
+/// # Errors
+///
+/// Returns the serializer's error, as that for out of memory.
 pub fn serialize<S: Serializer>(blobs: &Vec<Vec<u8>>, out: &mut S) -> Result<(), S::Error> {
     out.begin_map(Some(1))?;
     out.variant_key("\u{37e}BYTESSET\u{37e}", Case::AsIs)?;
@@ -14,7 +18,12 @@ pub fn serialize<S: Serializer>(blobs: &Vec<Vec<u8>>, out: &mut S) -> Result<(),
     out.end_map()
 }
 
-/// Reads a set of byte strings, or a list of them. An element of another kind is refused by `ExpectedBytes`.
+/// Reads a set of byte strings, or a list of them.
+///
+/// # Errors
+///
+/// Returns `ExpectedSeq` for anything else, and `ExpectedBytes` for an element of another kind.
+/// Returns `OutOfMemory` if memory runs out.
 pub fn deserialize<F: Format>(
     alloc: Global,
     from: &mut Deserializer<'_, '_, F>,

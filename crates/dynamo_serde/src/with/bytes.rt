@@ -1,13 +1,21 @@
-//! A `Vec<u8>` as a byte string, `B`: `#[serde(with = "dynamo_serde::bytes")]`.
+//! A field of type `Vec<u8>` that is a byte string, `B`: `#[serde(with = "dynamo_serde::bytes")]`.
 use serde::{Deserializer, Format, Serializer};
 use std::alloc::Global;
 
-/// Writes the bytes as a byte string, where the derive would write a list of numbers.
+/// Writes the bytes as a byte string. Without the attribute they are a list of numbers.
+///
+/// # Errors
+///
+/// Returns the serializer's error, as that for out of memory.
 pub fn serialize<S: Serializer>(bytes: &Vec<u8>, out: &mut S) -> Result<(), S::Error> {
     out.bytes(bytes.as_slice())
 }
 
-/// Reads a byte string. Anything else is refused by `ExpectedBytes`.
+/// Reads a byte string.
+///
+/// # Errors
+///
+/// Returns `ExpectedBytes` for anything else, and `OutOfMemory` if memory runs out.
 pub fn deserialize<F: Format>(
     alloc: Global,
     from: &mut Deserializer<'_, '_, F>,
