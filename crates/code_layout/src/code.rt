@@ -3,19 +3,19 @@ use crate::layout::{each_on_a_line, filled, fits};
 use std::alloc::{AllocError, Global};
 use std::convert::AsStr;
 
-// The width past which arguments, tuples and arrays stand on several lines.
+// The width from which on arguments, tuples and arrays take several lines.
 const LIST_WIDTH: usize = 60;
 
 // That past which the fields of a struct do, with the spaces around them.
 const STRUCT_WIDTH: usize = 20;
 
-// Arguments and elements that are no wider stand side by side.
+// Arguments and elements up to this width share a line.
 const SHORT: usize = 10;
 
 /// A piece of code.
 #[derive(Drop)]
 pub enum Code {
-    /// What stands on one line, however wide it is.
+    /// Code on one line, however wide it is.
     Text(String),
 
     /// Items behind what opens their list, as `&(` or `Choice<`.
@@ -26,6 +26,7 @@ pub enum Code {
     },
 }
 
+/// The kinds of lists, by their brackets and their place.
 #[derive(Clone, Copy, PartialEq, Eq)]
 pub enum ListKind {
     /// The parameters of a function.
@@ -33,10 +34,15 @@ pub enum ListKind {
 
     /// The arguments of a call.
     Arguments,
+    /// Type arguments: `<A, B>`.
     TypeArguments,
+    /// A tuple: `(a, b)`.
     Tuple,
+    /// The type of a tuple: `(A, B)`.
     TupleType,
+    /// The pattern of a tuple: `(a, b)`.
     TuplePattern,
+    /// An array: `[a, b]`.
     Array,
 
     /// The fields of a struct, in a value or in a pattern.
@@ -53,12 +59,12 @@ impl ListKind {
         }
     }
 
-    // What stands around the items on one line.
+    // The brackets around the items on one line.
     fn padding(self) -> &'static str {
         if self == ListKind::Fields { " " } else { "" }
     }
 
-    // Whether so many items may stand on one line, where they take so many columns.
+    // Whether so many items of so many columns may share one line.
     fn allows(self, items: usize, columns: usize) -> bool {
         match self {
             ListKind::Arguments => items == 1 || columns <= LIST_WIDTH,
@@ -68,7 +74,7 @@ impl ListKind {
         }
     }
 
-    // Whether short items stand side by side where they need several lines.
+    // Whether short items share lines if they need several.
     fn fills(self) -> bool {
         matches!(
             self,
@@ -93,11 +99,20 @@ impl ListKind {
 }
 
 impl Code {
+    /// Returns code on one line.
+    ///
+    /// # Errors
+    ///
+    /// Returns [`AllocError`] if memory runs out.
     pub fn text(alloc: Global, text: &str) -> Result<Code, AllocError> {
         Ok(Code::Text(String::from_str(alloc, text)?))
     }
 
     /// The list of these items.
+    ///
+    /// # Errors
+    ///
+    /// Returns [`AllocError`] if memory runs out.
     pub fn list(
         alloc: Global,
         kind: ListKind,
@@ -109,6 +124,10 @@ impl Code {
     }
 
     /// The list of these texts.
+    ///
+    /// # Errors
+    ///
+    /// Returns [`AllocError`] if memory runs out.
     pub fn list_of_texts<S: AsStr>(
         alloc: Global,
         kind: ListKind,
@@ -123,6 +142,10 @@ impl Code {
     }
 
     /// A reference to it.
+    ///
+    /// # Errors
+    ///
+    /// Returns [`AllocError`] if memory runs out.
     pub fn borrowed(self, alloc: Global) -> Result<Code, AllocError> {
         match self {
             Code::Text(text) => Ok(Code::Text(format!(in alloc; "&{text}")?)),
@@ -133,6 +156,7 @@ impl Code {
         }
     }
 
+    /// Returns whether it is a list of a struct's fields.
     pub fn is_fields(&self) -> bool {
         matches!(self, Code::List { kind, .. } if *kind == ListKind::Fields)
     }
@@ -142,6 +166,10 @@ impl Code {
     }
 
     /// The code on one line.
+    ///
+    /// # Errors
+    ///
+    /// Returns [`AllocError`] if memory runs out.
     pub fn line(&self, alloc: Global) -> Result<String, AllocError> {
         match self {
             Code::Text(text) => text.clone(),
@@ -157,7 +185,7 @@ impl Code {
         }
     }
 
-    // Whether its lists allow it to stand on one line, where that is wide enough.
+    // Whether its lists allow it on one line, if that is wide enough.
     fn is_narrow(&self, alloc: Global) -> Result<bool, AllocError> {
         let Code::List { kind, open, items } = self else {
             return Ok(true);
@@ -172,7 +200,7 @@ impl Code {
         Ok(kind.allows(items.len(), columns))
     }
 
-    // Whether it may stand on one line, as this, between those.
+    // Whether it may be on one line, as this, between those.
     fn fits_between(
         &self,
         alloc: Global,
@@ -184,8 +212,12 @@ impl Code {
         Ok(self.is_narrow(alloc)? && fits(whole.as_str()))
     }
 
-    /// The code on as many lines as it needs, the last of which is indented by this. Before the code this stands on the first
-    /// line, and behind it that on the last.
+    /// The code on as many lines as it needs, the last of which is indented by this. Before the
+    /// code this is on the first line, and behind it that on the last.
+    ///
+    /// # Errors
+    ///
+    /// Returns [`AllocError`] if memory runs out.
     pub fn laid_out(
         &self,
         alloc: Global,

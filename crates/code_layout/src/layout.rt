@@ -5,7 +5,7 @@ use std::fmt::Write;
 
 const WIDTH: usize = 100;
 
-// The indents of the arms of a match in a function's body, of what stands in their braces, and of the body.
+// Indentation of match arms, of their blocks, and of the function body.
 const ARM: &str = "            ";
 
 const INSIDE_ARM: &str = "                ";
@@ -19,6 +19,10 @@ pub fn fits(line: &str) -> bool {
 }
 
 /// The texts in quotes.
+///
+/// # Errors
+///
+/// Returns [`AllocError`] if memory runs out.
 pub fn quoted(alloc: Global, texts: &[String]) -> Result<Vec<String>, AllocError> {
     let mut found = Vec::new(alloc);
     for text in texts {
@@ -28,6 +32,10 @@ pub fn quoted(alloc: Global, texts: &[String]) -> Result<Vec<String>, AllocError
 }
 
 /// The signature of a function of an impl, up to the brace of its body.
+///
+/// # Errors
+///
+/// Returns [`AllocError`] if memory runs out.
 pub fn signature(
     alloc: Global,
     open: &str,
@@ -41,12 +49,20 @@ pub fn signature(
 }
 
 /// The code as the statement of a function's body, with this behind it.
+///
+/// # Errors
+///
+/// Returns [`AllocError`] if memory runs out.
 pub fn statement(alloc: Global, code: &Code, behind: &str) -> Result<String, AllocError> {
     let text = code.laid_out(alloc, BODY, BODY, behind)?;
     format!(in alloc; "{text}{behind}")
 }
 
 /// The statement that binds the names of a pattern to the fields.
+///
+/// # Errors
+///
+/// Returns [`AllocError`] if memory runs out.
 pub fn binding(alloc: Global, pattern: &Code) -> Result<String, AllocError> {
     let before = format!(in alloc; "{BODY}let ")?;
     let pattern = pattern.laid_out(alloc, BODY, before.as_str(), " =")?;
@@ -58,7 +74,11 @@ pub fn binding(alloc: Global, pattern: &Code) -> Result<String, AllocError> {
     }
 }
 
-/// An arm of a match. Its body stands beside the pattern, or else between braces.
+/// An arm of a match. Its body is on the line of the pattern, or else between braces.
+///
+/// # Errors
+///
+/// Returns [`AllocError`] if memory runs out.
 pub fn arm(alloc: Global, pattern: &Code, body: &Code) -> Result<String, AllocError> {
     let pattern = pattern.laid_out(alloc, ARM, ARM, " =>")?;
     let start = last_line(alloc, pattern.as_str())?;
@@ -74,7 +94,7 @@ fn last_line(alloc: Global, pattern: &str) -> Result<String, AllocError> {
     }
 }
 
-// What stands behind the arrow of an arm, whose line begins so.
+// The code after the arrow of an arm, whose line begins so.
 fn behind_arrow(alloc: Global, start: &str, body: &Code) -> Result<String, AllocError> {
     if let Some(beside) = beside(alloc, start, body)? {
         return format!(in alloc; " {beside},\n");
@@ -88,8 +108,8 @@ fn behind_arrow(alloc: Global, start: &str, body: &Code) -> Result<String, Alloc
     format!(in alloc; "\n{INSIDE_ARM}{body},\n")
 }
 
-// The body of an arm that begins so, where it stands on that line. Of the fields of a struct, which may need several lines wherever
-// they stand, the brace does.
+// The body of an arm that begins so, if it is on that line. Of the fields of a struct, which may
+// need several lines wherever they are, only the brace is.
 fn beside(alloc: Global, start: &str, body: &Code) -> Result<Option<String>, AllocError> {
     let before = format!(in alloc; "{start} ")?;
     let text = body.laid_out(alloc, ARM, before.as_str(), ",")?;
@@ -109,6 +129,10 @@ fn beside(alloc: Global, start: &str, body: &Code) -> Result<Option<String>, All
 }
 
 /// Each item on a line.
+///
+/// # Errors
+///
+/// Returns [`AllocError`] if memory runs out.
 pub fn each_on_a_line(alloc: Global, indent: &str, items: &[String]) -> Result<String, AllocError> {
     let mut lines = String::new(alloc);
     for item in items {
@@ -118,6 +142,10 @@ pub fn each_on_a_line(alloc: Global, indent: &str, items: &[String]) -> Result<S
 }
 
 /// The items side by side, on as many lines as they need.
+///
+/// # Errors
+///
+/// Returns [`AllocError`] if memory runs out.
 pub fn filled(alloc: Global, indent: &str, items: &[String]) -> Result<String, AllocError> {
     let all = items.join(alloc, ", ")?;
     let line = format!(in alloc; "{indent}{all},")?;
@@ -133,7 +161,7 @@ fn in_lines(alloc: Global, indent: &str, items: &[String]) -> Result<String, All
     let mut lines = String::new(alloc);
     let mut line = String::from_str(alloc, indent)?;
     for item in items {
-        // A space stands behind each item, also at the end of a line.
+        // A space follows each item, also at the end of a line.
         let longer = format!(in alloc; "{line}{item}, ")?;
         if fits(longer.as_str()) || line.as_str() == indent {
             line = longer;

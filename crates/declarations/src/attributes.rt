@@ -20,7 +20,11 @@ pub struct Attributes {
 }
 
 impl Attributes {
-    /// Refuses the attributes that have a place at fields alone.
+    /// Checks that no attribute is one for fields alone.
+    ///
+    /// # Errors
+    ///
+    /// Returns [`Failure::Refused`] with the line if one is.
     pub fn refuse_field_forms(&self) -> Result<(), Failure> {
         if self.is_default {
             return Err(Failure::Refused(self.line, Reason::Misplaced("default")));
@@ -31,7 +35,12 @@ impl Attributes {
         Ok(())
     }
 
-    /// Refuses a rule for the names of what stands inside, where nothing does.
+    /// Checks that there is no rule for the names of fields or variants, for a declaration that has
+    /// none.
+    ///
+    /// # Errors
+    ///
+    /// Returns [`Failure::Refused`] with the line if there is one.
     pub fn refuse_rename_all(&self) -> Result<(), Failure> {
         match self.rename_all {
             Some(_) => Err(Failure::Refused(self.line, Reason::Misplaced("rename_all"))),
@@ -50,11 +59,14 @@ impl Attributes {
     }
 }
 
-/// Reads the attributes at one place. Those that are neither serde's nor derives are passed over.
+/// Reads the attributes at one place. Those that are neither serde's nor derives are skipped.
 ///
 /// # Errors
 ///
-/// Refuses what serde has and the description doesn't, and `cfg`.
+/// Returns [`Failure::Refused`] with the line for an attribute of serde that the description
+/// doesn't have, and for `cfg`.
+///
+/// Returns [`Failure::Memory`] if memory runs out.
 pub fn read_attributes(alloc: Global, tokens: &[Token]) -> Result<Attributes, Failure> {
     let mut found = Attributes {
         is_key: false,

@@ -1,4 +1,4 @@
-//! The text of a file without what Rattle's own compiler refuses.
+//! The text of a file without the parts that Rattle's own compiler refuses.
 use std::alloc::{AllocError, Global};
 
 /// A part of a text that is taken out, and what comes in its place. The places count characters.
@@ -18,12 +18,13 @@ struct Editor {
     line: String,
     is_cut: bool,
 
-    // Whether blanks are passed over: something was taken out behind a blank, or at the head of the line.
+    // Whether blanks are passed over: something was taken out behind a blank, or at the head of the
+    // line.
     skips_blanks: bool,
 }
 
-/// The text with these cuts, which are in order. A line of which nothing is left goes, as do blank lines at both ends and all but one of
-/// several blank lines.
+/// The text with these cuts, which are in order. A line of which nothing is left goes, as do blank
+/// lines at both ends and all but one of several blank lines.
 ///
 /// # Errors
 ///

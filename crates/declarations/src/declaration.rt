@@ -3,25 +3,32 @@ use std::alloc::{AllocError, Global};
 /// A struct or an enum, by what its description needs.
 #[derive(Drop)]
 pub struct Declaration {
+    /// The name of the type.
     pub name: String,
 
     /// The name that it is written under.
     pub shown: String,
+    /// The line of the declaration.
     pub line: u32,
+    /// The type parameters.
     pub parameters: Vec<Parameter>,
 
     /// Whether it derives what a map's key needs.
     pub is_key: bool,
+    /// The fields or the variants.
     pub body: Body,
 }
 
-/// A type parameter, and the text of its bounds, which is empty where it has none.
+/// A type parameter.
 #[derive(Drop)]
 pub struct Parameter {
+    /// The name of the parameter.
     pub name: String,
+    /// The bounds as they are written, or an empty string if there are none.
     pub bounds: String,
 }
 
+/// The fields of a struct, or the variants of an enum.
 #[derive(Drop)]
 pub enum Body {
     /// A struct of named fields.
@@ -44,7 +51,12 @@ pub enum Body {
 }
 
 impl Declaration {
-    /// What the lists of its fields are called by: the struct, or the variants whose fields have names.
+    /// Returns the names of its lists of fields: the struct's, or those of the variants whose
+    /// fields have names.
+    ///
+    /// # Errors
+    ///
+    /// Returns [`AllocError`] if memory runs out.
     pub fn lists(&self, alloc: Global) -> Result<Vec<&str>, AllocError> {
         let mut names = Vec::new(alloc);
         match &self.body {
@@ -63,10 +75,12 @@ impl Declaration {
 }
 
 impl Body {
+    /// Returns whether it is that of an enum.
     pub fn is_enum(&self) -> bool {
         matches!(self, Body::Units(_) | Body::Choices(_))
     }
 
+    /// Returns whether it is that of an enum of unit variants.
     pub fn are_units(&self) -> bool {
         matches!(self, Body::Units(_))
     }
@@ -75,6 +89,7 @@ impl Body {
 /// A named field.
 #[derive(Drop)]
 pub struct Field {
+    /// The name of the field.
     pub name: String,
 
     /// The name that it is written under.
@@ -82,12 +97,14 @@ pub struct Field {
 
     /// The text of its type.
     pub of: String,
+    /// How the field is stored.
     pub form: Form,
 }
 
 /// How a field is stored.
 #[derive(Clone, Copy, PartialEq, Eq)]
 pub enum Form {
+    /// A field that is stored as its type is.
     Plain,
 
     /// A field that may be absent, and then has its type's default.
@@ -100,24 +117,33 @@ pub enum Form {
     DefaultedSet(SetKind),
 }
 
+/// The kinds of sets.
 #[derive(Clone, Copy, PartialEq, Eq)]
 pub enum SetKind {
+    /// A set of strings.
     Strings,
+    /// A set of numbers.
     Numbers,
+    /// A set of byte strings.
     Binaries,
 }
 
+/// A variant of an enum.
 #[derive(Drop)]
 pub struct Variant {
+    /// The name of the variant.
     pub name: String,
 
     /// The name that it is written under.
     pub shown: String,
+    /// The fields of the variant.
     pub contents: Contents,
 }
 
+/// The fields of a variant.
 #[derive(Drop)]
 pub enum Contents {
+    /// No fields.
     Nothing,
 
     /// One field without a name, by the text of its type.
@@ -126,5 +152,6 @@ pub enum Contents {
     /// Several fields without names, by the texts of their types.
     Several(Vec<String>),
 
+    /// Fields with names.
     Named(Vec<Field>),
 }

@@ -1,45 +1,79 @@
 use std::alloc::{AllocError, AllocFailed};
 use std::fmt;
 
-/// Why a declaration is not described.
+/// The reason why a declaration is not described. It prints its message.
 #[derive(Drop)]
 pub enum Reason {
+    /// A character that no declaration has.
     Character(char),
+    /// A block comment.
     BlockComment,
+    /// A type with a lifetime.
     Lifetime,
+    /// A bracket that isn't closed.
     Unclosed,
+    /// A closing bracket without an opening one.
     Unopened,
+    /// A string that isn't ended.
     OpenText,
+    /// A declaration that isn't ended.
     NoEnd,
+    /// An item that is neither a struct nor an enum.
     Item,
+    /// A missing name.
     Name,
+    /// A const parameter.
     ConstParameter,
+    /// A default of a type parameter.
     ParameterDefault,
+    /// A `where` clause.
     Where,
+    /// A struct or an enum with another body.
     Body,
+    /// A struct with empty braces or brackets.
     NoFields,
+    /// A unit struct with type parameters.
     GenericUnit,
+    /// A generic newtype struct whose field isn't a parameter.
     WrappedType,
+    /// An enum without variants.
     NoVariants,
+    /// An enum with type parameters.
     GenericEnum,
+    /// A variant with a number.
     Discriminant,
+    /// A variant with empty braces or brackets.
     NoContents,
+    /// More than 26 fields without names.
     ManyUnnamed,
+    /// An attribute of serde at a field without a name.
     UnnamedAttribute,
+    /// A field of another form than `name: Type`.
     Field,
+    /// A missing type.
     Type,
+    /// An attribute `cfg`.
     Conditional,
+    /// An attribute of serde that isn't described.
     Attribute(String),
+    /// An attribute of serde that has no place there.
     Misplaced(&'static str),
+    /// An attribute of serde that is there twice.
     Twice(&'static str),
+    /// A rule for names that isn't one of serde's.
     Rule(String),
+    /// A name that isn't plain ASCII, or has quotes or backslashes.
     Text,
+    /// A path of `with` that isn't described.
     With(String),
+    /// Two lists of fields that would have the same name.
     SameList(String),
+    /// A set in a field that isn't a `Vec<T>`.
     NoSet,
+    /// An import of another form.
     Import,
 
-    /// A word or a mark of a type that no field has.
+    /// A type, or a part of one, that no field has.
     FieldType(String),
 
     /// A name that the printed impls need for something else.
@@ -50,13 +84,13 @@ const FIELD_TYPES: &str = "a field is `bool`, `char`, `String`, `ByteBuf`, an in
 bits, an `Option`, `Box`, `Vec`, `BTreeMap` or `HashMap` of such types, two to four of them in \
 brackets, or a type that is described";
 
-/// Why nothing is printed.
+/// The reason why nothing is printed.
 #[derive(Drop)]
 pub enum Failure {
-    /// What stands on the line is not described.
+    /// The declaration on this line is not described.
     Refused(u32, Reason),
 
-    /// There is no memory.
+    /// Memory ran out.
     Memory,
 }
 
@@ -105,7 +139,7 @@ impl fmt::Display for Reason {
 }
 
 impl Reason {
-    // The text of a reason that names nothing of what is refused.
+    // The message of a reason that has no name in it.
     fn text(&self) -> &'static str {
         match self {
             Reason::BlockComment => "block comments are not read, write `//`",

@@ -5,9 +5,10 @@ use std::alloc::{AllocError, Global};
 /// A name that a `use` declaration brings in, and the path that leads to it.
 #[derive(Drop, PartialEq, Eq, PartialOrd, Ord)]
 pub struct Import {
+    /// The path of the name.
     pub path: String,
 
-    /// The name, and behind it ` as ` and another, if it has one here.
+    /// The name, with ` as ` and another name if it has one here.
     pub name: String,
 }
 
@@ -46,11 +47,14 @@ struct Reader {
     found: Vec<Import>,
 }
 
-/// The names that a `use` declaration brings in, without those of serde. The tokens are those behind the word `use`.
+/// Reads the names that a `use` declaration brings in, without those of serde, from the tokens
+/// after the word `use`.
 ///
 /// # Errors
 ///
-/// Refuses what no such declaration has; out of memory.
+/// Returns [`Failure::Refused`] with the line for anything else than such a declaration.
+///
+/// Returns [`Failure::Memory`] if memory runs out.
 pub fn read_imports(alloc: Global, tokens: &[Token]) -> Result<Vec<Import>, Failure> {
     let mut reader = Reader {
         alloc,

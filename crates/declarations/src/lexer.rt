@@ -14,7 +14,7 @@ enum Place {
     Comment,
 }
 
-// A bracket that is open, and the line that it stands on.
+// An open bracket, and its line.
 #[derive(Clone, Copy)]
 struct Open {
     closing: char,
@@ -38,11 +38,14 @@ struct Lexer {
     start: usize,
 }
 
-/// The tokens of the declarations, without their comments.
+/// Returns the tokens of the declarations, without their comments.
 ///
 /// # Errors
 ///
-/// Refuses what no declaration has, brackets that do not pair and a text that does not end; fails for want of memory.
+/// Returns [`Failure::Refused`] with the line for a character that no declaration has, for brackets
+/// that don't pair, and for a string that doesn't end.
+///
+/// Returns [`Failure::Memory`] if memory runs out.
 pub fn tokens(alloc: Global, declarations: &str) -> Result<Vec<Token>, Failure> {
     let mut lexer = Lexer {
         alloc,

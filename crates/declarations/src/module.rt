@@ -20,8 +20,8 @@ pub struct Module {
     /// The documentation of the module, at the head of the file.
     pub docs: String,
 
-    /// The rest of its text, without its imports, the attributes of serde, and derives that Rattle doesn't have. A type derives
-    /// `Drop` or `Copy`.
+    /// The rest of its text, without its imports, the attributes of serde, and derives that Rattle
+    /// doesn't have. A type derives `Drop` or `Copy`.
     pub text: String,
 }
 
@@ -29,7 +29,9 @@ pub struct Module {
 ///
 /// # Errors
 ///
-/// Refuses what is not described, with its line; out of memory.
+/// Returns [`Failure::Refused`] with the line for anything that is not described.
+///
+/// Returns [`Failure::Memory`] if memory runs out.
 pub fn read_module(alloc: Global, text: &str) -> Result<Module, Failure> {
     let tokens = tokens(alloc, text)?;
     let mut declarations = Vec::new(alloc);
@@ -96,7 +98,8 @@ fn whole(alloc: Global, tokens: &[Token]) -> Cut {
     }
 }
 
-// The cuts of a declaration, in order. The printed impls copy the values of an enum of unit variants, and drop those of others.
+// The cuts of a declaration, in order. The printed impls copy the values of an enum of unit
+// variants, and drop those of others.
 fn cuts_of(alloc: Global, item: &[Token], are_units: bool) -> Result<Vec<Cut>, AllocError> {
     let (above, rest) = attributed(item);
     let derived = derived(alloc, above)?;
@@ -124,7 +127,8 @@ fn cuts_of(alloc: Global, item: &[Token], are_units: bool) -> Result<Vec<Cut>, A
     Ok(cuts)
 }
 
-// The cuts of serde's attributes and of derives, of which the one at the first place derives these names too.
+// The cuts of serde's attributes and of derives, of which the one at the first place derives these
+// names too.
 fn attribute_cuts(
     alloc: Global,
     item: &[Token],
@@ -146,7 +150,8 @@ fn attribute_cuts(
     Ok(cuts)
 }
 
-// The tokens of the attribute of this name that begins at this place, and those behind the name inside of its brackets.
+// The tokens of the attribute of this name that begins at this place, and those behind the name
+// inside of its brackets.
 fn attribute_of<'a>(
     tokens: &'a [Token],
     at: usize,

@@ -13,11 +13,13 @@ use std::alloc::Global;
 // Fields that have no names are called by the letters.
 const LETTERS: usize = 26;
 
-/// The declarations of the structs and enums in a text, in its order.
+/// Reads the declarations of structs and enums in a text, in order.
 ///
 /// # Errors
 ///
-/// Refuses what is not described, with its line; fails for want of memory.
+/// Returns [`Failure::Refused`] with the line for anything that is not described.
+///
+/// Returns [`Failure::Memory`] if memory runs out.
 pub fn read_declarations(alloc: Global, text: &str) -> Result<Vec<Declaration>, Failure> {
     let tokens = tokens(alloc, text)?;
     let mut found = Vec::new(alloc);
@@ -30,11 +32,13 @@ pub fn read_declarations(alloc: Global, text: &str) -> Result<Vec<Declaration>, 
     Ok(found)
 }
 
-/// Refuses two lists of fields that would be declared by one name.
+/// Checks that no two lists of fields would be declared with the same name.
 ///
 /// # Errors
 ///
-/// `Refused` with the line of the second, and out of memory.
+/// Returns [`Failure::Refused`] with the line of the second if two would.
+///
+/// Returns [`Failure::Memory`] if memory runs out.
 pub fn refuse_equal_lists(alloc: Global, declarations: &[Declaration]) -> Result<(), Failure> {
     let mut names: Vec<&str> = Vec::new(alloc);
     for declaration in declarations {
@@ -49,7 +53,8 @@ pub fn refuse_equal_lists(alloc: Global, declarations: &[Declaration]) -> Result
     Ok(())
 }
 
-/// Whether an item ends with this token. Behind an import with braces the mark that ends it is an item of its own.
+/// Whether an item ends with this token. Behind an import with braces the mark that ends it is an
+/// item of its own.
 pub fn ends_item(token: &Token) -> bool {
     token.depth == 0 && (token.is(";") || token.is("}"))
 }
@@ -63,7 +68,9 @@ pub fn is_end(item: &[Token]) -> bool {
 ///
 /// # Errors
 ///
-/// Refuses what is not described, with its line; out of memory.
+/// Returns [`Failure::Refused`] with the line for anything that is not described.
+///
+/// Returns [`Failure::Memory`] if memory runs out.
 pub fn read_declaration(alloc: Global, item: &[Token]) -> Result<Declaration, Failure> {
     let start = line_of(item, 1);
     let (above, rest) = attributed(item);
@@ -200,6 +207,12 @@ fn unnamed_body(
 }
 
 /// The texts of the types of the fields between brackets, which have no names.
+///
+/// # Errors
+///
+/// Returns [`Failure::Refused`] with the line for anything that is not described.
+///
+/// Returns [`Failure::Memory`] if memory runs out.
 pub fn unnamed_fields(alloc: Global, inside: &[Token], line: u32) -> Result<Vec<String>, Failure> {
     let mut types = Vec::new(alloc);
     for part in parts(alloc, inside)? {
@@ -222,7 +235,14 @@ fn unnamed_field(alloc: Global, tokens: &[Token], line: u32) -> Result<String, F
     type_text(alloc, of, line_of(tokens, line))
 }
 
-/// The named fields between braces. Where they have no names of their own, those that they are written under go by the rule.
+/// The named fields between braces. Where they have no names of their own, those that they are
+/// written under go by the rule.
+///
+/// # Errors
+///
+/// Returns [`Failure::Refused`] with the line for anything that is not described.
+///
+/// Returns [`Failure::Memory`] if memory runs out.
 pub fn named_fields(
     alloc: Global,
     inside: &[Token],

@@ -6,6 +6,10 @@ use crate::token::{Kind, Token};
 use std::alloc::{AllocError, Global};
 
 /// The parts between commas outside brackets. A comma at the end has no part after it.
+///
+/// # Errors
+///
+/// Returns [`AllocError`] if memory runs out.
 pub fn parts(alloc: Global, tokens: &[Token]) -> Result<Vec<&[Token]>, AllocError> {
     let depth = tokens.first().map_or(0, |token| token.depth);
     let mut found = Vec::new(alloc);
@@ -17,8 +21,8 @@ pub fn parts(alloc: Global, tokens: &[Token]) -> Result<Vec<&[Token]>, AllocErro
     Ok(found)
 }
 
-/// The tokens between the bracket that the list begins with and the one that closes it, and those after it. None where it begins
-/// otherwise.
+/// The tokens between the bracket that the list begins with and the one that closes it, and those
+/// after it. None where it begins otherwise.
 pub fn bracketed<'a>(tokens: &'a [Token], bracket: &str) -> Option<(&'a [Token], &'a [Token])> {
     let (open, rest) = tokens.split_first()?;
     if !open.is(bracket) {
@@ -30,7 +34,7 @@ pub fn bracketed<'a>(tokens: &'a [Token], bracket: &str) -> Option<(&'a [Token],
     Some((inside, after))
 }
 
-/// The attributes that the list begins with, and what they stand at.
+/// Returns the attributes at the beginning of the list, and the tokens that they belong to.
 pub fn attributed(tokens: &[Token]) -> (&[Token], &[Token])
     ensures { result.0.now ++ result.1.now ≡ tokens.now }
 {
@@ -54,6 +58,12 @@ pub fn after_visibility(tokens: &[Token]) -> &[Token] {
 }
 
 /// The text of a type.
+///
+/// # Errors
+///
+/// Returns [`Failure::Refused`] with the line if the tokens are no type.
+///
+/// Returns [`Failure::Memory`] if memory runs out.
 pub fn type_text(alloc: Global, tokens: &[Token], line: u32) -> Result<String, Failure> {
     let mut text = String::new(alloc);
     let mut before: Option<&Token> = None;
@@ -73,7 +83,7 @@ pub fn type_text(alloc: Global, tokens: &[Token], line: u32) -> Result<String, F
     Ok(text)
 }
 
-// Whether a space stands between the two.
+// Whether there is a space between the two.
 fn are_spaced(before: &Token, after: &Token) -> bool {
     let is_wide = |token: &Token| token.is("+") || token.is("=");
     before.is(",")

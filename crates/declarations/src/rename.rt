@@ -1,20 +1,28 @@
 use std::alloc::{AllocError, Global};
 
-/// How serde writes the names of fields and of variants, after `rename_all`.
+/// The way in which serde writes the names of fields and variants, by `rename_all`.
 #[derive(Clone, Copy)]
 pub enum RenameRule {
+    /// `lowercase`.
     Lower,
+    /// `UPPERCASE`.
     Upper,
+    /// `PascalCase`.
     Pascal,
+    /// `camelCase`.
     Camel,
+    /// `snake_case`.
     Snake,
+    /// `SCREAMING_SNAKE_CASE`.
     ScreamingSnake,
+    /// `kebab-case`.
     Kebab,
+    /// `SCREAMING-KEBAB-CASE`.
     ScreamingKebab,
 }
 
 impl RenameRule {
-    /// The rule of this name, if it is one of the eight.
+    /// Returns the rule with this name, if it is one of the eight.
     pub fn of(name: &str) -> Option<RenameRule> {
         match name {
             "lowercase" => Some(RenameRule::Lower),
@@ -29,7 +37,11 @@ impl RenameRule {
         }
     }
 
-    /// The name of a field, which is written in `snake_case`, by this rule.
+    /// Returns the name of a field, which is in `snake_case`, by this rule.
+    ///
+    /// # Errors
+    ///
+    /// Returns [`AllocError`] if memory runs out.
     pub fn of_field(self, alloc: Global, field: &str) -> Result<String, AllocError> {
         match self {
             RenameRule::Lower | RenameRule::Snake => String::from_str(alloc, field),
@@ -41,7 +53,11 @@ impl RenameRule {
         }
     }
 
-    /// The name of a variant, which is written in `PascalCase`, by this rule.
+    /// Returns the name of a variant, which is in `PascalCase`, by this rule.
+    ///
+    /// # Errors
+    ///
+    /// Returns [`AllocError`] if memory runs out.
     pub fn of_variant(self, alloc: Global, variant: &str) -> Result<String, AllocError> {
         match self {
             RenameRule::Pascal => String::from_str(alloc, variant),

@@ -4,7 +4,7 @@ pub enum Kind {
     /// A name, a keyword or a number.
     Word,
 
-    /// What stands between the quotes of a text.
+    /// The characters between the quotes of a string.
     Text,
 
     /// A single mark, as a bracket or a comma.

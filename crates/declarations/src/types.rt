@@ -4,7 +4,8 @@ use crate::parts::{bracketed, parts};
 use crate::token::Token;
 use std::alloc::Global;
 
-// Types and words of types that no field has: those that DynamoDB's values don't hold, and those that a description doesn't read.
+// Types and parts of types that no field has: those that DynamoDB's values don't hold, and those
+// that a description doesn't read.
 const REFUSED: [&str; 27] = [
     "f32",
     "f64",
@@ -35,11 +36,13 @@ const REFUSED: [&str; 27] = [
     "fn",
 ];
 
-/// Refuses a type that no field of a described type has.
+/// Checks that a field of a described type can have this type.
 ///
 /// # Errors
 ///
-/// `Refused` with the line and the word of the type that is refused; out of memory.
+/// Returns [`Failure::Refused`] with the line and the part of the type that is refused.
+///
+/// Returns [`Failure::Memory`] if memory runs out.
 pub fn refuse_type(alloc: Global, tokens: &[Token]) -> Result<(), Failure> {
     for (at, token) in tokens.iter().enumerate() {
         let is_mark = token.is("&") || token.is("*") || token.is("!") || token.is("[");

@@ -7,7 +7,14 @@ use crate::rename::RenameRule;
 use crate::token::Token;
 use std::alloc::Global;
 
-/// The body of an enum. Where variants have no names of their own, those that they are written under go by the rule.
+/// The body of an enum. Where variants have no names of their own, those that they are written
+/// under go by the rule.
+///
+/// # Errors
+///
+/// Returns [`Failure::Refused`] with the line for anything that is not described.
+///
+/// Returns [`Failure::Memory`] if memory runs out.
 pub fn enum_body(
     alloc: Global,
     rest: &[Token],

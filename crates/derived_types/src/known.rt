@@ -1,5 +1,5 @@
-//! Calls of `to_attribute_value` at types whose events are stated: each says which attribute value it gives. That it gives one
-//! with ample memory is a test's; which error comes in its place is said of none.
+//! Calls of `to_attribute_value` for types whose events are stated: each says which attribute value
+//! it returns. That it succeeds is tested. No contract says which error is returned.
 ghost use Rattle.std.specs.Prelude.{◌≡◌, map, string_bytes, IfOk, MatchOption, decimal, true};
 ghost use Rattle.std.specs.Fmt.{signed_decimal};
 ghost use Rattle.dynamo_value.specs.Av as av;
@@ -12,7 +12,8 @@ use dynamo_value::{AttributeValue, Result};
 use serde::{Described, Serialize, Serializer};
 use std::alloc::Global;
 
-/// Any attribute value, which is written as it is: what `#[serde(with = "dynamo_serde::attribute_value")]` is to a field.
+/// Any attribute value, which is written as it is: `#[serde(with =
+/// "dynamo_serde::attribute_value")]` does the same for a field.
 #[derive(Drop)]
 pub struct Any(pub AttributeValue);
 
@@ -26,11 +27,11 @@ impl Serialize for Any {
     }
 }
 
-/// An attribute value.
+/// Writes an attribute value.
 ///
 /// # Errors
 ///
-/// As of [`to_attribute_value`].
+/// Returns the error of [`to_attribute_value`].
 pub fn attribute_value(alloc: Global, value: &Any) -> Result<AttributeValue>
     ensures { IfOk result (λ v. view v ≡ view value.now.0) }
 {
@@ -38,11 +39,11 @@ pub fn attribute_value(alloc: Global, value: &Any) -> Result<AttributeValue>
     Ok(written)
 }
 
-/// A boolean.
+/// Writes a boolean.
 ///
 /// # Errors
 ///
-/// As of [`to_attribute_value`].
+/// Returns the error of [`to_attribute_value`].
 pub fn boolean(alloc: Global, b: bool) -> Result<AttributeValue>
     ensures { IfOk result (λ v. view v ≡ av.Boolean b) }
 {
@@ -50,11 +51,11 @@ pub fn boolean(alloc: Global, b: bool) -> Result<AttributeValue>
     Ok(value)
 }
 
-/// An integer.
+/// Writes an integer.
 ///
 /// # Errors
 ///
-/// As of [`to_attribute_value`].
+/// Returns the error of [`to_attribute_value`].
 pub fn integer(alloc: Global, n: &i64) -> Result<AttributeValue>
     ensures { IfOk result (λ v. view v ≡ av.N (signed_decimal n.now)) }
 {
@@ -62,11 +63,11 @@ pub fn integer(alloc: Global, n: &i64) -> Result<AttributeValue>
     Ok(value)
 }
 
-/// A text.
+/// Writes a string.
 ///
 /// # Errors
 ///
-/// As of [`to_attribute_value`].
+/// Returns the error of [`to_attribute_value`].
 pub fn text(alloc: Global, text: &String) -> Result<AttributeValue>
     ensures { IfOk result (λ v. view v ≡ av.S (string_bytes text.now)) }
 {
@@ -74,11 +75,11 @@ pub fn text(alloc: Global, text: &String) -> Result<AttributeValue>
     Ok(value)
 }
 
-/// A boolean or none.
+/// Writes a boolean or none.
 ///
 /// # Errors
 ///
-/// As of [`to_attribute_value`].
+/// Returns the error of [`to_attribute_value`].
 pub fn optional(alloc: Global, b: Option<bool>) -> Result<AttributeValue>
     ensures { IfOk result (λ v. MatchOption b (view v ≡ av.Null true) (λ c. view v ≡ av.Boolean c)) }
 {
@@ -86,11 +87,11 @@ pub fn optional(alloc: Global, b: Option<bool>) -> Result<AttributeValue>
     Ok(value)
 }
 
-/// A list of integers.
+/// Writes a list of integers.
 ///
 /// # Errors
 ///
-/// As of [`to_attribute_value`].
+/// Returns the error of [`to_attribute_value`].
 pub fn numbers(alloc: Global, numbers: &Vec<u64>) -> Result<AttributeValue>
     ensures { IfOk result (λ v. view v ≡ av.L (elements_of (map (λ n. av.N (decimal n)) numbers.now.items))) }
 {

@@ -1,4 +1,5 @@
-//! Reads of scalars, whose impls serde states: where one gives a value, the attribute value is that value's.
+//! Reads of scalars, whose implementations serde states: if one returns a value, the attribute
+//! value is the one of that value.
 ghost use Rattle.std.specs.Prelude.{◌≡◌, ℕ, List, true, string_bytes, IfOk, IfNone};
 ghost use Rattle.dynamo_value.specs.Av as av;
 ghost use Rattle.dynamo_value.specs.View.{view};
@@ -9,11 +10,11 @@ use dynamo_value::{AttributeValue, Result};
 use serde::{DeserializeOwned, Deserializer};
 use std::alloc::Global;
 
-/// A boolean.
+/// Reads a boolean.
 ///
 /// # Errors
 ///
-/// As of [`read_attribute_value`](dynamo_serde::read_attribute_value).
+/// Returns the error of [`read_attribute_value`](dynamo_serde::read_attribute_value).
 pub fn boolean(alloc: Global, value: &AttributeValue) -> Result<bool>
     ensures { IfOk result (λ b. view value.now ≡ av.Boolean b) }
 {
@@ -21,11 +22,11 @@ pub fn boolean(alloc: Global, value: &AttributeValue) -> Result<bool>
     bool::deserialize_owned(alloc, &mut Deserializer::new(&[], &mut tape))
 }
 
-/// An integer: a number that is its text.
+/// Reads an integer, from a number that is its string.
 ///
 /// # Errors
 ///
-/// As of [`read_attribute_value`](dynamo_serde::read_attribute_value).
+/// Returns the error of [`read_attribute_value`](dynamo_serde::read_attribute_value).
 pub fn integer(alloc: Global, value: &AttributeValue) -> Result<i64>
     ensures { IfOk result (λ n. (s : List ℕ) × (view value.now ≡ av.N s) × IsSigned n s) }
 {
@@ -33,11 +34,11 @@ pub fn integer(alloc: Global, value: &AttributeValue) -> Result<i64>
     i64::deserialize_owned(alloc, &mut Deserializer::new(&[], &mut tape))
 }
 
-/// A small integer, which is none too large for its type.
+/// Reads a small integer, if its type holds it.
 ///
 /// # Errors
 ///
-/// As of [`read_attribute_value`](dynamo_serde::read_attribute_value).
+/// Returns the error of [`read_attribute_value`](dynamo_serde::read_attribute_value).
 pub fn small(alloc: Global, value: &AttributeValue) -> Result<u8>
     ensures { IfOk result (λ n. (s : List ℕ) × (view value.now ≡ av.N s) × IsUnsigned n s) }
 {
@@ -45,11 +46,11 @@ pub fn small(alloc: Global, value: &AttributeValue) -> Result<u8>
     u8::deserialize_owned(alloc, &mut Deserializer::new(&[], &mut tape))
 }
 
-/// A text.
+/// Reads a string.
 ///
 /// # Errors
 ///
-/// As of [`read_attribute_value`](dynamo_serde::read_attribute_value).
+/// Returns the error of [`read_attribute_value`](dynamo_serde::read_attribute_value).
 pub fn text(alloc: Global, value: &AttributeValue) -> Result<String>
     ensures { IfOk result (λ s. view value.now ≡ av.S (string_bytes s)) }
 {
@@ -57,11 +58,11 @@ pub fn text(alloc: Global, value: &AttributeValue) -> Result<String>
     String::deserialize_owned(alloc, &mut Deserializer::new(&[], &mut tape))
 }
 
-/// A boolean or none. serde says of an option only when it is none.
+/// Reads a boolean or none. Of an option serde states only when it is none.
 ///
 /// # Errors
 ///
-/// As of [`read_attribute_value`](dynamo_serde::read_attribute_value).
+/// Returns the error of [`read_attribute_value`](dynamo_serde::read_attribute_value).
 pub fn optional(alloc: Global, value: &AttributeValue) -> Result<Option<bool>>
     ensures { IfOk result (λ o. IfNone o (view value.now ≡ av.Null true)) }
 {

@@ -1,4 +1,5 @@
-//! An order that derives serde's traits, and calls through `dynamo_serde` that say what they write and what they read.
+//! An order that derives serde's traits, and calls through `dynamo_serde` that say what they write
+//! and what they read.
 #![tactic(auto)]
 
 pub mod known;

@@ -4,7 +4,7 @@ use serde::{Deserialize, Serialize};
 use std::alloc::{AllocError, Global};
 use std::collections::HashMap;
 
-/// How an order goes to who ordered.
+/// How an order is delivered.
 #[derive(Drop, Serialize, Deserialize)]
 pub enum Delivery {
     Pickup,
@@ -31,11 +31,11 @@ pub struct Order {
 }
 
 impl Order {
-    /// An order with something of each kind.
+    /// Returns an order with something of each kind.
     ///
     /// # Errors
     ///
-    /// [`AllocError`] where no memory is found.
+    /// Returns [`AllocError`] if memory runs out.
     pub fn new(alloc: Global) -> Result<Order, AllocError> {
         let mut stock = HashMap::new(alloc);
         stock.insert(String::from_str(alloc, "nut")?, 700)?;

@@ -1,5 +1,6 @@
-//! Types of several kinds that are described by the lists of their fields and variants, as a user describes them: with no proof.
-//! Of each a function states that what was stored reads back: of structs field by field, of an enum variant by variant.
+//! Types of several kinds that are described by the lists of their fields and variants, as a user
+//! describes them: with no proof. Of each a function states that what was stored reads back: of
+//! structs field by field, of an enum variant by variant.
 #![tactic(auto)]
 
 mod address;

@@ -124,7 +124,8 @@ impl Shaped for Settings {
     }
 }
 
-/// Settings that were stored read back, each by value: the maps as finite maps, and the lists in order.
+/// Settings that were stored read back, each by value: the maps as finite maps, and the lists in
+/// order.
 ///
 /// # Errors
 ///

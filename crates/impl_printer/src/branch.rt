@@ -1,4 +1,5 @@
-// The tree of an enum's variants: the halves of a list are the sides of a choice, the left the larger.
+// The tree of an enum's variants: the halves of a list are the sides of a choice, the left the
+// larger.
 use crate::case::Case;
 use code_layout::{Code, ListKind};
 use std::alloc::{AllocError, Global};
@@ -41,6 +42,10 @@ fn sides(alloc: Global, index: usize, count: usize) -> Result<Vec<Side>, AllocEr
 }
 
 /// The pattern of a variant, by its pattern in the list of variants.
+///
+/// # Errors
+///
+/// Returns [`AllocError`] if memory runs out.
 pub fn pattern_branch(
     alloc: Global,
     index: usize,
@@ -55,6 +60,10 @@ pub fn pattern_branch(
 }
 
 /// The value of a variant in a ghost member, by its fields.
+///
+/// # Errors
+///
+/// Returns [`AllocError`] if memory runs out.
 pub fn ghost_branch(
     alloc: Global,
     index: usize,
@@ -77,6 +86,10 @@ pub fn ghost_branch(
 }
 
 /// The type of the list of variants.
+///
+/// # Errors
+///
+/// Returns [`AllocError`] if memory runs out.
 pub fn choice_type(alloc: Global, cases: &[Case]) -> Result<Code, AllocError> {
     match cases {
         [] => Code::text(alloc, ""),

@@ -3,7 +3,7 @@ use code_layout::{Code, ListKind};
 use declarations::{Contents, Field, Variant};
 use std::alloc::{AllocError, Global};
 
-/// A variant, by what stands for it in the impls of its enum.
+/// A variant, by what describes it in the impls of its enum.
 #[derive(Drop)]
 pub struct Case {
     pub name: String,
@@ -17,7 +17,8 @@ pub struct Case {
     refs: Vec<String>,
 }
 
-// What a variant holds: one field or several without names, by the texts of their types, or fields with names.
+// What a variant holds: one field or several without names, by the texts of their types, or fields
+// with names.
 #[derive(Drop)]
 enum Kind {
     Nothing,
@@ -27,6 +28,10 @@ enum Kind {
 }
 
 /// The cases of an enum.
+///
+/// # Errors
+///
+/// Returns [`AllocError`] if memory runs out.
 pub fn cases(alloc: Global, of: &str, variants: &[Variant]) -> Result<Vec<Case>, AllocError> {
     let mut found = Vec::new(alloc);
     for variant in variants {
@@ -77,11 +82,19 @@ fn held(
 
 impl Case {
     /// Its pattern, as `Event::Tuple(a, b)`.
+    ///
+    /// # Errors
+    ///
+    /// Returns [`AllocError`] if memory runs out.
     pub fn pattern(&self, alloc: Global) -> Result<Code, AllocError> {
         self.with_fields(alloc, ListKind::TuplePattern)
     }
 
     /// The variant of its fields.
+    ///
+    /// # Errors
+    ///
+    /// Returns [`AllocError`] if memory runs out.
     pub fn value(&self, alloc: Global) -> Result<Code, AllocError> {
         self.with_fields(alloc, ListKind::Arguments)
     }
@@ -99,6 +112,10 @@ impl Case {
     }
 
     /// Its pattern in the list of variants, as `Several((Field(a), Field(b)))`.
+    ///
+    /// # Errors
+    ///
+    /// Returns [`AllocError`] if memory runs out.
     pub fn listed(&self, alloc: Global) -> Result<Code, AllocError> {
         let open = match self.kind {
             Kind::Nothing => return Code::text(alloc, "Nothing"),
@@ -112,6 +129,10 @@ impl Case {
     }
 
     /// Its type in the list of variants, as `Several<(Field<u8>, Field<u8>)>`.
+    ///
+    /// # Errors
+    ///
+    /// Returns [`AllocError`] if memory runs out.
     pub fn listed_type(&self, alloc: Global) -> Result<Code, AllocError> {
         match &self.kind {
             Kind::Nothing => Code::text(alloc, "Nothing"),
@@ -134,6 +155,10 @@ impl Case {
     }
 
     /// What its fields are called in a ghost member, each behind a space.
+    ///
+    /// # Errors
+    ///
+    /// Returns [`AllocError`] if memory runs out.
     pub fn ghost_binders(&self, alloc: Global) -> Result<String, AllocError> {
         let mut text = String::new(alloc);
         for name in ghost_names(alloc, self.names.as_slice())? {
@@ -144,6 +169,10 @@ impl Case {
     }
 
     /// Its fields in the list of variants, in a ghost member.
+    ///
+    /// # Errors
+    ///
+    /// Returns [`AllocError`] if memory runs out.
     pub fn ghost_parts(&self, alloc: Global) -> Result<String, AllocError> {
         let names = ghost_names(alloc, self.names.as_slice())?;
         let leaves = match self.kind {
@@ -156,6 +185,10 @@ impl Case {
     }
 
     /// The call that writes the variant at this index.
+    ///
+    /// # Errors
+    ///
+    /// Returns [`AllocError`] if memory runs out.
     pub fn write_call(&self, alloc: Global, index: usize) -> Result<Code, AllocError> {
         let Case { name, of, kind, .. } = self;
         let open = match kind {
@@ -169,6 +202,10 @@ impl Case {
     }
 
     /// The call by which the variant at this index conforms.
+    ///
+    /// # Errors
+    ///
+    /// Returns [`AllocError`] if memory runs out.
     pub fn conform_call(&self, alloc: Global, index: usize) -> Result<Code, AllocError> {
         let Case { name, of, kind, .. } = self;
         let open = match kind {

@@ -10,7 +10,12 @@ use declarations::{Contents, Field, Variant};
 use std::alloc::{AllocError, Global};
 use std::fmt::Write;
 
-/// Prints the impls of an enum of which some variant has contents. The imports name its variants by the alias.
+/// Prints the impls of an enum of which some variant has contents. The imports name its variants by
+/// the alias.
+///
+/// # Errors
+///
+/// Returns [`AllocError`] if memory runs out.
 pub fn print_choices(
     alloc: Global,
     out: &mut String,
@@ -155,7 +160,8 @@ fn print_description(
     print_make(alloc, out, name, cases)
 }
 
-// Prints the function that makes a value of a variant in the list, which is the last of the description.
+// Prints the function that makes a value of a variant in the list, which is the last of the
+// description.
 fn print_make(
     alloc: Global,
     out: &mut String,

@@ -6,6 +6,10 @@ use std::alloc::{AllocError, Global};
 use std::fmt::Write;
 
 /// Prints the type of the list of the fields, by the types of its leaves.
+///
+/// # Errors
+///
+/// Returns [`AllocError`] if memory runs out.
 pub fn print_field_list(
     alloc: Global,
     out: &mut String,
@@ -24,12 +28,20 @@ pub fn print_field_list(
 }
 
 /// The fields of the value `s` in a ghost member, by what they are called there.
+///
+/// # Errors
+///
+/// Returns [`AllocError`] if memory runs out.
 pub fn ghost_parts(alloc: Global, names: &[String]) -> Result<String, AllocError> {
     let parts = wrapped(alloc, names, "record { 0 = s.", " }")?;
     tree(alloc, ListKind::Tuple, parts.as_slice())?.line(alloc)
 }
 
 /// The call that writes a value of this type by its fields, by what is written of each.
+///
+/// # Errors
+///
+/// Returns [`AllocError`] if memory runs out.
 pub fn write_call(
     alloc: Global,
     function: &str,
@@ -45,6 +57,10 @@ pub fn write_call(
 }
 
 /// The body by which a value of this type conforms, by what is written of each field.
+///
+/// # Errors
+///
+/// Returns [`AllocError`] if memory runs out.
 pub fn conform_call(
     alloc: Global,
     function: &str,
@@ -63,7 +79,12 @@ pub fn conform_call(
     format!(in alloc; "\n        {call}\n    ")
 }
 
-/// The function that makes a value of the list, whose fields get these names. The value is what is listed behind this text.
+/// The function that makes a value of the list, whose fields get these names. The value is what is
+/// listed behind this text.
+///
+/// # Errors
+///
+/// Returns [`AllocError`] if memory runs out.
 pub fn make_function(
     alloc: Global,
     about: &Heading,

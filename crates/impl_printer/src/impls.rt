@@ -4,6 +4,10 @@ use declarations::{Body, Declaration};
 use std::alloc::{AllocError, Global};
 
 /// Prints the impls of a declaration. The imports name the variants of an enum by the alias.
+///
+/// # Errors
+///
+/// Returns [`AllocError`] if memory runs out.
 pub fn print_impls(
     alloc: Global,
     out: &mut String,

@@ -101,6 +101,10 @@ impl Mentions {
 }
 
 /// Prints the imports of definitions.
+///
+/// # Errors
+///
+/// Returns [`AllocError`] if memory runs out.
 pub fn print_ghost_imports(
     alloc: Global,
     out: &mut String,

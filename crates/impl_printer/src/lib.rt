@@ -1,4 +1,5 @@
-//! Prints the impls by which `dynamo_record` describes structs and enums, with their imports, laid out as by `rt fmt`.
+//! Prints the implementations by which `dynamo_record` describes structs and enums, with their
+//! imports, in the layout of `rt fmt`.
 #![tactic(auto)]
 
 mod branch;

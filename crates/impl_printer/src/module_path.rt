@@ -1,8 +1,9 @@
 use std::alloc::{AllocError, Global};
 
-/// The crate and the module that the declarations stand in, as antt names them.
+/// The crate and the module of the declarations, as antt names them.
 #[derive(Drop)]
 pub struct ModulePath {
+    /// The name of the crate.
     pub krate: String,
 
     /// The module inside the crate, with a dot behind each part.
@@ -13,7 +14,11 @@ pub struct ModulePath {
 }
 
 impl ModulePath {
-    /// The path that stands for a crate and a module that were not given.
+    /// Returns the path for a crate and a module that were not given.
+    ///
+    /// # Errors
+    ///
+    /// Returns [`AllocError`] if memory runs out.
     pub fn unknown(alloc: Global) -> Result<ModulePath, AllocError> {
         Ok(ModulePath {
             krate: String::from_str(alloc, "my_crate")?,
@@ -23,6 +28,10 @@ impl ModulePath {
     }
 
     /// Reads `crate::module`; none where that is no path.
+    ///
+    /// # Errors
+    ///
+    /// Returns [`AllocError`] if memory runs out.
     pub fn of(alloc: Global, text: &str) -> Result<Option<ModulePath>, AllocError> {
         let mut krate = None;
         let mut inside = String::new(alloc);

@@ -3,6 +3,10 @@ use code_layout::fits;
 use std::alloc::{AllocError, Global};
 
 /// Prints the impls of a newtype, by the text of its field's type.
+///
+/// # Errors
+///
+/// Returns [`AllocError`] if memory runs out.
 pub fn print_newtype(
     alloc: Global,
     out: &mut String,
@@ -51,7 +55,7 @@ fn known(alloc: Global, about: &Heading, of: &str) -> Result<String, AllocError>
     }
 }
 
-// Where writing takes memory of its own: where that of what a generic newtype holds does.
+// Whether writing allocates by itself: if writing the field of a generic newtype does.
 fn wants(alloc: Global, about: &Heading, of: &str, letter: &str) -> Result<String, AllocError> {
     if about.arguments.is_empty() {
         return Ok(String::new(alloc));

@@ -10,6 +10,10 @@ use std::alloc::{AllocError, Global};
 use std::fmt::Write;
 
 /// Prints the impls of a struct of named fields.
+///
+/// # Errors
+///
+/// Returns [`AllocError`] if memory runs out.
 pub fn print_record(
     alloc: Global,
     out: &mut String,
@@ -77,7 +81,8 @@ fn print_description(
     print_functions(alloc, out, about, stored.as_slice(), names.as_slice())
 }
 
-// Prints the functions of the description, by the names of the fields, where they are stored and in the struct, and the end of it.
+// Prints the functions of the description, by the names of the fields, where they are stored and in
+// the struct, and the end of it.
 fn print_functions(
     alloc: Global,
     out: &mut String,

@@ -24,6 +24,11 @@ pub struct Heading {
     pub is_key: bool,
 }
 
+/// Returns what the impls of a declaration begin with.
+///
+/// # Errors
+///
+/// Returns [`AllocError`] if memory runs out.
 pub fn heading_of(alloc: Global, declaration: &Declaration) -> Result<Heading, AllocError> {
     let name = declaration.name.clone()?;
     let arguments = type_arguments(alloc, declaration.parameters.as_slice())?;
@@ -67,6 +72,10 @@ fn in_angles(alloc: Global, texts: &[String]) -> Result<String, AllocError> {
 }
 
 /// The names in a ghost member, as `codes "id" ∷ codes "tags" ∷ []`.
+///
+/// # Errors
+///
+/// Returns [`AllocError`] if memory runs out.
 pub fn codes(alloc: Global, names: &[String]) -> Result<String, AllocError> {
     let mut text = String::new(alloc);
     for name in names {
@@ -77,6 +86,10 @@ pub fn codes(alloc: Global, names: &[String]) -> Result<String, AllocError> {
 }
 
 /// The names that the variants are written under.
+///
+/// # Errors
+///
+/// Returns [`AllocError`] if memory runs out.
 pub fn variant_names(alloc: Global, variants: &[Variant]) -> Result<Vec<String>, AllocError> {
     let mut found = Vec::new(alloc);
     for variant in variants {
@@ -85,7 +98,11 @@ pub fn variant_names(alloc: Global, variants: &[Variant]) -> Result<Vec<String>,
     Ok(found)
 }
 
-/// The letter that stands for a value in a ghost member: the first of its type's name.
+/// The letter of a value in a ghost member: the first of its type's name.
+///
+/// # Errors
+///
+/// Returns [`AllocError`] if memory runs out.
 pub fn letter(alloc: Global, name: &str) -> Result<String, AllocError> {
     let mut text = String::new(alloc);
     let first = name.chars().next().unwrap_or('v');
@@ -97,7 +114,11 @@ pub fn letter(alloc: Global, name: &str) -> Result<String, AllocError> {
     Ok(text)
 }
 
-/// The functions that answer the name, and what reading a value expects, as `struct User`.
+/// The functions that return the name, and what reading a value expects, as `struct User`.
+///
+/// # Errors
+///
+/// Returns [`AllocError`] if memory runs out.
 pub fn name_functions(alloc: Global, keyword: &str, name: &str) -> Result<String, AllocError> {
     format!(in alloc;
         "    fn name() -> &'static str {{
@@ -110,7 +131,11 @@ pub fn name_functions(alloc: Global, keyword: &str, name: &str) -> Result<String
     )
 }
 
-/// The function that answers the names.
+/// The function that returns the names.
+///
+/// # Errors
+///
+/// Returns [`AllocError`] if memory runs out.
 pub fn names_function(alloc: Global, names: &[String]) -> Result<String, AllocError> {
     let texts = quoted(alloc, names)?;
     let texts = Code::list_of_texts(alloc, ListKind::Array, "&[", texts.as_slice())?;
@@ -122,7 +147,12 @@ pub fn names_function(alloc: Global, names: &[String]) -> Result<String, AllocEr
     )
 }
 
-/// Prints the impl of `Serialize`, by its ghost members, of which the second is a line or nothing, and its body.
+/// Prints the impl of `Serialize`, by its ghost members, of which the second is a line or nothing,
+/// and its body.
+///
+/// # Errors
+///
+/// Returns [`AllocError`] if memory runs out.
 pub fn print_serialize(
     alloc: Global,
     out: &mut String,
@@ -146,6 +176,10 @@ pub fn print_serialize(
 }
 
 /// Prints the impl of `Deserialize`, by its ghost member and its body.
+///
+/// # Errors
+///
+/// Returns [`AllocError`] if memory runs out.
 pub fn print_deserialize(
     alloc: Global,
     out: &mut String,
@@ -175,6 +209,10 @@ pub fn print_deserialize(
 }
 
 /// Prints the impl of `Shaped`, by its ghost members and what conforms.
+///
+/// # Errors
+///
+/// Returns [`AllocError`] if memory runs out.
 pub fn print_shaped(
     alloc: Global,
     out: &mut String,
@@ -206,6 +244,10 @@ pub fn print_shaped(
 }
 
 /// Prints the impl of `ShapedKey`, by its ghost members.
+///
+/// # Errors
+///
+/// Returns [`AllocError`] if memory runs out.
 pub fn print_key(
     alloc: Global,
     out: &mut String,
@@ -240,7 +282,12 @@ fn impl_head(
 }
 
 impl Heading {
-    /// What an impl of a trait for the type begins with, where the types that are its parameters are shaped.
+    /// What an impl of a trait for the type begins with, where the types that are its parameters
+    /// are shaped.
+    ///
+    /// # Errors
+    ///
+    /// Returns [`AllocError`] if memory runs out.
     pub fn impl_head(&self, alloc: Global, of_trait: &str) -> Result<String, AllocError> {
         impl_head(alloc, self.shaped.as_str(), of_trait, self.ty.as_str())
     }

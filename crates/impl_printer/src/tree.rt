@@ -4,8 +4,12 @@ use code_layout::{Code, ListKind};
 use declarations::{Field, Form, SetKind};
 use std::alloc::{AllocError, Global};
 
-/// The list of these fields, as `dynamo_record` groups them: one stands alone, and more are a pair, four or eight groups, of which
-/// the first are the larger.
+/// The list of these fields, as `dynamo_record` groups them: one is alone, and more are a pair,
+/// four or eight groups, of which the first are the larger.
+///
+/// # Errors
+///
+/// Returns [`AllocError`] if memory runs out.
 pub fn tree(alloc: Global, kind: ListKind, leaves: &[String]) -> Result<Code, AllocError> {
     let groups = match leaves {
         [] => return Code::text(alloc, ""),
@@ -35,6 +39,10 @@ fn share(leaves: usize, groups: usize) -> usize
 }
 
 /// Each text between these two.
+///
+/// # Errors
+///
+/// Returns [`AllocError`] if memory runs out.
 pub fn wrapped(
     alloc: Global,
     texts: &[String],
@@ -49,6 +57,10 @@ pub fn wrapped(
 }
 
 /// What so many fields without names are called: the letters, from `a` on.
+///
+/// # Errors
+///
+/// Returns [`AllocError`] if memory runs out.
 pub fn letters(alloc: Global, count: usize) -> Result<Vec<String>, AllocError> {
     let mut found = Vec::new(alloc);
     for letter in ('a'..='z').take(count) {
@@ -60,6 +72,10 @@ pub fn letters(alloc: Global, count: usize) -> Result<Vec<String>, AllocError> {
 }
 
 /// What so many fields without names are called in a value: by their places, from 0 on.
+///
+/// # Errors
+///
+/// Returns [`AllocError`] if memory runs out.
 pub fn places(alloc: Global, count: usize) -> Result<Vec<String>, AllocError> {
     let mut found = Vec::new(alloc);
     for place in 0..count {
@@ -69,6 +85,10 @@ pub fn places(alloc: Global, count: usize) -> Result<Vec<String>, AllocError> {
 }
 
 /// The names of the fields.
+///
+/// # Errors
+///
+/// Returns [`AllocError`] if memory runs out.
 pub fn names(alloc: Global, fields: &[Field]) -> Result<Vec<String>, AllocError> {
     let mut found = Vec::new(alloc);
     for field in fields {
@@ -78,6 +98,10 @@ pub fn names(alloc: Global, fields: &[Field]) -> Result<Vec<String>, AllocError>
 }
 
 /// The names that the fields are written under.
+///
+/// # Errors
+///
+/// Returns [`AllocError`] if memory runs out.
 pub fn shown_names(alloc: Global, fields: &[Field]) -> Result<Vec<String>, AllocError> {
     let mut found = Vec::new(alloc);
     for field in fields {
@@ -87,6 +111,10 @@ pub fn shown_names(alloc: Global, fields: &[Field]) -> Result<Vec<String>, Alloc
 }
 
 /// The types of the fields in the list.
+///
+/// # Errors
+///
+/// Returns [`AllocError`] if memory runs out.
 pub fn leaf_types(alloc: Global, fields: &[Field]) -> Result<Vec<String>, AllocError> {
     let mut found = Vec::new(alloc);
     for field in fields {
@@ -117,6 +145,10 @@ fn set_name(set: SetKind) -> &'static str {
 }
 
 /// What is written of the fields, each of which is borrowed by its name after this.
+///
+/// # Errors
+///
+/// Returns [`AllocError`] if memory runs out.
 pub fn leaf_refs(alloc: Global, fields: &[Field], before: &str) -> Result<Vec<String>, AllocError> {
     let mut found = Vec::new(alloc);
     for field in fields {

@@ -6,6 +6,10 @@ use std::alloc::{AllocError, Global};
 use std::fmt::Write;
 
 /// Prints the impls of a struct of several fields without names, by the texts of their types.
+///
+/// # Errors
+///
+/// Returns [`AllocError`] if memory runs out.
 pub fn print_tuple_struct(
     alloc: Global,
     out: &mut String,

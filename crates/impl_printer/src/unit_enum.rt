@@ -7,7 +7,12 @@ use declarations::Variant;
 use std::alloc::{AllocError, Global};
 use std::fmt::Write;
 
-/// Prints the impls of an enum whose variants have no contents. The imports name its list of variants by the alias.
+/// Prints the impls of an enum whose variants have no contents. The imports name its list of
+/// variants by the alias.
+///
+/// # Errors
+///
+/// Returns [`AllocError`] if memory runs out.
 pub fn print_units(
     alloc: Global,
     out: &mut String,

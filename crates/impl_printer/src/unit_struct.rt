@@ -2,6 +2,10 @@ use crate::shared::{Heading, print_deserialize, print_serialize, print_shaped};
 use std::alloc::{AllocError, Global};
 
 /// Prints the impls of a unit struct.
+///
+/// # Errors
+///
+/// Returns [`AllocError`] if memory runs out.
 pub fn print_unit(alloc: Global, out: &mut String, about: &Heading) -> Result<(), AllocError> {
     let Heading { name, shown, .. } = about;
     print_serialize(

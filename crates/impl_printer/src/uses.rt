@@ -46,6 +46,10 @@ impl Uses {
     }
 
     /// Adds the names of a path that are marked.
+    ///
+    /// # Errors
+    ///
+    /// Returns [`AllocError`] if memory runs out.
     pub fn add_wanted(
         &mut self,
         alloc: Global,
@@ -60,7 +64,12 @@ impl Uses {
         Ok(())
     }
 
-    /// Adds what a file of declarations imports, and the known types that its fields have, if they aren't other types there.
+    /// Adds what a file of declarations imports, and the known types that its fields have, if they
+    /// aren't other types there.
+    ///
+    /// # Errors
+    ///
+    /// Returns [`AllocError`] if memory runs out.
     pub fn add_own(
         &mut self,
         alloc: Global,
@@ -80,8 +89,8 @@ impl Uses {
         Ok(())
     }
 
-    /// Refuses a declaration that has the name of one of these imports, or of a type parameter of the impls. A type parameter of a
-    /// declaration has neither.
+    /// Refuses a declaration that has the name of one of these imports, or of a type parameter of
+    /// the impls. A type parameter of a declaration has neither.
     ///
     /// # Errors
     ///
@@ -103,6 +112,10 @@ impl Uses {
     }
 
     /// Prints the imports, a line or more for each path.
+    ///
+    /// # Errors
+    ///
+    /// Returns [`AllocError`] if memory runs out.
     pub fn print(mut self, alloc: Global, out: &mut String) -> Result<(), AllocError> {
         self.found.sort_unstable();
         self.found.dedup();
@@ -184,7 +197,7 @@ fn have_type(fields: &[Field], name: &str) -> bool {
     fields.iter().any(|field| says(field.of.as_str(), name))
 }
 
-// Whether the text of a type has this word.
+// Whether a type has this name in it.
 fn says(of: &str, name: &str) -> bool {
     of.split(|c: char| c != '_' && !c.is_ascii_alphanumeric())
         .any(|word| word == name)

@@ -12,11 +12,13 @@ use crate::stored::read_stored;
 use std::alloc::Global;
 use std::mem;
 
-/// Reads DynamoDB JSON of one attribute value to the end of the input, and answers the line of its compact form.
+/// Reads DynamoDB JSON of one attribute value to the end of the input, and returns the line of its
+/// compact form.
 ///
 /// # Errors
 ///
-/// Those of reading JSON, and the fault of a JSON value that stands for no attribute value.
+/// Returns the error of reading the input, [`Failure::NotJson`] if it isn't JSON, and
+/// [`Failure::Fault`] if it is other JSON or if memory runs out.
 pub fn check<R: Input>(alloc: Global, reader: &mut R) -> Result<String, Failure>
     ensures { (input : Result (List ℕ) Failed) × Reads R.read_gives calls reader.old input reader.new
         × OfJson ChecksJson input (result_map_both string_bytes reason result) }

@@ -2,7 +2,7 @@ ghost use Rattle.std.specs.Prelude.{◌≡◌, map, option_map, string_bytes};
 ghost use Rattle.tool_commands.specs.Age.{age_of};
 ghost use Rattle.tool_commands.specs.Words.{asked, command_of as command_of_texts};
 
-/// What the words after the program's name ask for.
+/// What the arguments of the program ask for.
 #[derive(Drop)]
 pub enum Command<'a> {
     /// `user ID NAME AGE`: the lines of a user's item.
@@ -18,7 +18,7 @@ pub enum Command<'a> {
     Plain,
 }
 
-/// The command of these words; none where they are no command, or the age is no age.
+/// Returns the command of these arguments, or `None` if they aren't a command or the age isn't one.
 pub fn command_of(words: &[String]) -> Option<Command<'_>>
     ensures { option_map asked result ≡ command_of_texts (map string_bytes words.now) }
 {

@@ -17,8 +17,13 @@ use serde_json::Value;
 use std::alloc::Global;
 use std::mem;
 
-/// Reads plain JSON to the end of the input, and answers the line of the DynamoDB JSON of the attribute value that it is written
-/// as.
+/// Reads plain JSON to the end of the input, and returns the line of DynamoDB JSON of the attribute
+/// value that it is written as.
+///
+/// # Errors
+///
+/// Returns the error of reading the input, [`Failure::NotJson`] if it isn't JSON, and
+/// [`Failure::Fault`] if it can't be written as an attribute value or if memory runs out.
 pub fn to_dynamo<R: Input>(alloc: Global, reader: &mut R) -> Result<String, Failure>
     ensures { (input : Result (List ℕ) Failed) × Reads R.read_gives calls reader.old input reader.new
         × OfJson ToDynamo input (result_map_both string_bytes reason result) }
@@ -27,8 +32,8 @@ pub fn to_dynamo<R: Input>(alloc: Global, reader: &mut R) -> Result<String, Fail
     dynamo_of(alloc, json)
 }
 
-// The line of the DynamoDB JSON of a JSON value. An attribute value is made only of a JSON value that isn't written as one, to
-// say what is wrong with it.
+// The line of the DynamoDB JSON of a JSON value. An attribute value is made only of a JSON value
+// that isn't written as one, to find the error.
 fn dynamo_of(alloc: Global, json: Value) -> Result<String, Failure>
     ensures { ToDynamo (Ok (view json)) (result_map_both string_bytes reason result) }
 {
@@ -53,8 +58,14 @@ fn dynamo_via_value(alloc: Global, json: Value) -> Result<String, Failure>
     Ok(line)
 }
 
-/// Reads DynamoDB JSON of one attribute value to the end of the input, and answers the line of the plain JSON that the attribute
-/// value is read as.
+/// Reads DynamoDB JSON of one attribute value to the end of the input, and returns the line of
+/// plain JSON that the attribute value is read as.
+///
+/// # Errors
+///
+/// Returns the error of reading the input, [`Failure::NotJson`] if it isn't JSON, and
+/// [`Failure::Fault`] if it is other JSON, if the attribute value isn't read as plain JSON, or if
+/// memory runs out.
 pub fn to_plain<R: Input>(alloc: Global, reader: &mut R) -> Result<String, Failure>
     ensures { (input : Result (List ℕ) Failed) × Reads R.read_gives calls reader.old input reader.new
         × OfJson ToPlain input (result_map_both string_bytes reason result) }
@@ -63,8 +74,8 @@ pub fn to_plain<R: Input>(alloc: Global, reader: &mut R) -> Result<String, Failu
     plain_of(alloc, value)
 }
 
-// The line of the plain JSON of an attribute value. A JSON value is made only of an attribute value that isn't read as one, to say
-// what is wrong with it.
+// The line of the plain JSON of an attribute value. A JSON value is made only of an attribute value
+// that isn't read as one, to find the error.
 fn plain_of(alloc: Global, value: AttributeValue) -> Result<String, Failure>
     ensures { ReadsPlain (av.view value) (result_map_both string_bytes reason result) }
 {

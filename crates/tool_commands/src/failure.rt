@@ -5,7 +5,7 @@ use serde_dynamo::{Error, ErrorImpl, TextError};
 use std::alloc::{AllocError, AllocFailed};
 use std::fmt;
 
-/// Why a command has nothing to print.
+/// The reason why a command has nothing to print.
 #[derive(Drop)]
 pub enum Failure {
     /// The reader failed, or its end didn't come.
@@ -28,7 +28,7 @@ impl From<Error> for Failure {
     }
 }
 
-/// Want of memory is a fault.
+/// An [`AllocError`] becomes a [`Failure::Fault`].
 impl From<AllocError> for Failure {
     ghost from_gives = { λ _ failure. reason failure ≡ no_memory };
 

@@ -7,13 +7,19 @@ ghost use Rattle.tool_commands.specs.Reading.{given};
 use std::io;
 use std::io::Read;
 
-/// Where the program's input comes from: a reader, by what one call may answer and leave. One that tells its bytes and
-/// never fails can say so here.
+/// The source of the program's input: a reader, by what one call may return and leave. A reader
+/// that knows its bytes and never fails can say so here.
 pub trait Input {
-    // What a call with this much room may answer, by the bytes that it gives, and what it leaves.
+    // What a call with a buffer of this size may return, by the bytes that it reads, and what it
+    // leaves.
     ghost read_gives: { Self → ℕ → Result (List ℕ) Error → Self → Type 0 };
 
-    /// Reads some bytes to the start of the buffer and answers how many; none at the end of the input.
+    /// Reads some bytes to the start of the buffer and returns their number, or 0 at the end of the
+    /// input.
+    ///
+    /// # Errors
+    ///
+    /// Returns the error of the reader.
     fn read(&mut self, buf: &mut [u8]) -> io::Result<usize>
         ensures bound { ReadsAtMost result buf.new }
         ensures gives { read_gives self.old (length buf.old) (given buf.new result) self.new };

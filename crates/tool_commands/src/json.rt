@@ -22,7 +22,8 @@ use std::alloc::{AllocError, Global};
 ///
 /// # Errors
 ///
-/// Those of reading; `NotJson` where the bytes are no text by UTF-8, or no JSON; want of memory for the value.
+/// Returns the error of reading the input, [`Failure::NotJson`] if it isn't UTF-8 or isn't JSON,
+/// and [`Failure::Fault`] if memory runs out.
 pub fn read_json<R: Input>(alloc: Global, reader: &mut R) -> Result<Value, Failure>
     ensures { (input : Result (List ℕ) Failed) × Reads R.read_gives calls reader.old input reader.new
         × ReadsJson input (result_map_both view reason result) }
@@ -41,7 +42,11 @@ fn parse(alloc: Global, bytes: &[u8]) -> Result<Value, Failure>
     }
 }
 
-/// The line that a JSON value without floats is printed as: its compact text.
+/// Returns the line of a JSON value without floats: its compact text.
+///
+/// # Errors
+///
+/// Returns [`AllocError`] if memory runs out.
 pub fn json_line(alloc: Global, json: &Value) -> Result<String, AllocError>
     ensures { IfOk result (λ line. has_float (view json.now) ≡ false
         → string_bytes line ≡ text.json_line (view json.now)) }
@@ -51,7 +56,11 @@ pub fn json_line(alloc: Global, json: &Value) -> Result<String, AllocError>
     Ok(line)
 }
 
-/// The line that an attribute value is printed as: the text of its DynamoDB JSON. It fails for want of memory alone.
+/// Returns the line of an attribute value: the text of its DynamoDB JSON.
+///
+/// # Errors
+///
+/// Returns [`ErrorImpl::OutOfMemory`](serde_dynamo::ErrorImpl::OutOfMemory) if memory runs out.
 pub fn dynamo_line(alloc: Global, value: &AttributeValue) -> serde_dynamo::Result<String>
     ensures { MatchResult result (λ line. string_bytes line ≡ text.json_line (json_of (av.view value.now))) (λ e. fault_of e ≡ out_of_memory) }
 {

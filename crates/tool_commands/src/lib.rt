@@ -1,4 +1,4 @@
-//! What the words of the program `dynamo_tool` do, over any reader and writer.
+//! The commands of the program `dynamo_tool`, for any reader and writer.
 #![tactic(auto)]
 
 mod check;

@@ -5,13 +5,17 @@ ghost use Rattle.std.specs.declared.io.Error.{Error};
 use std::io;
 use std::io::Write;
 
-/// Where the program's output goes: a writer, by what writing all of some bytes may answer and leave. One that never
-/// fails can say so here.
+/// The target of the program's output: a writer, by what writing all of some bytes may return and
+/// leave. A writer that never fails can say so here.
 pub trait Output {
-    // What writing these bytes may answer, and what it leaves.
+    // What writing these bytes may return, and what it leaves.
     ghost write_gives: { Self → List ℕ → Result (Unit {0}) Error → Self → Type 0 };
 
-    /// Writes all bytes, or fails.
+    /// Writes all bytes.
+    ///
+    /// # Errors
+    ///
+    /// Returns the error of the writer.
     fn write_all(&mut self, bytes: &[u8]) -> io::Result<()>
         ensures { write_gives self.old bytes.now result self.new };
 }

@@ -14,11 +14,13 @@ const CALLS: u32 = 1_048_576;
 
 const ROOM: usize = 65_536;
 
-/// Reads the input to its end, by at most 1,048,576 calls. A call that was interrupted is made again, and counts.
+/// Reads the input to its end, by at most 1,048,576 calls. An interrupted call is repeated, and
+/// counts.
 ///
 /// # Errors
 ///
-/// `Read` where a call fails or the calls are used up, and want of memory for the bytes.
+/// Returns [`Failure::Read`] if a call fails or the calls are used up, and [`Failure::Fault`] if
+/// memory runs out.
 pub fn read_to_end<R: Input>(alloc: Global, reader: &mut R) -> Result<Vec<u8>, Failure>
     ensures { Reads R.read_gives calls reader.old (result_map_both (λ v. v.items) reason result) reader.new }
 {

@@ -19,9 +19,9 @@ use std::fmt::Write;
 
 const USAGE: &str = "usage: dynamo_tool user ID NAME AGE | check | dynamo | plain\n";
 
-/// Runs the program on the words after its name, and answers the status that it ends with: 0 where it did what they ask for,
-/// 1 where that failed, which it prints too, or where the writer fails, and 2 where they are no command. What it prints is
-/// whole before it is written.
+/// Runs the program with these arguments, and returns its exit status: 0 if it succeeds, 1 if it
+/// fails, which it prints, or if the writer fails, and 2 if the arguments aren't a command. It
+/// writes nothing before its whole output is known.
 pub fn run<R: Input, W: Output>(
     alloc: Global,
     words: &[String],
@@ -42,14 +42,14 @@ pub fn run<R: Input, W: Output>(
     }
 }
 
-/// Prints that there is no memory, and answers the status that the program ends with.
+/// Prints that memory ran out, and returns the exit status.
 pub fn lack_memory<W: Output>(writer: &mut W) -> u8
     ensures { Prints W.write_gives writer.old writer.new lines.no_memory_line 1 result }
 {
     print(writer, "error: out of memory\n", 1)
 }
 
-// Prints a command's answer, or the line of its failure.
+// Prints the output of a command, or the line of its failure.
 fn print_answer<W: Output>(alloc: Global, writer: &mut W, answer: Result<String, Failure>) -> u8
     ensures { (text : List ℕ) × (status : ℕ) × Tells (result_map_both string_bytes reason answer) text status
         × Prints W.write_gives writer.old writer.new text status result }
@@ -71,7 +71,7 @@ fn error_line(alloc: Global, failure: &Failure) -> Result<String, AllocError>
     Ok(line)
 }
 
-// Prints the text, which is whole. Where that fails the status is 1.
+// Prints a text at once. If that fails, the status is 1.
 fn print<W: Output>(writer: &mut W, text: &str, status: u8) -> u8
     ensures { Prints W.write_gives writer.old writer.new text.now status result }
 {

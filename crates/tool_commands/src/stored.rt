@@ -17,8 +17,8 @@ use std::str;
 ///
 /// # Errors
 ///
-/// Those of reading; `NotJson` where the bytes are no text by UTF-8, or no JSON; the fault of a JSON value that stands for no
-/// attribute value; want of memory.
+/// Returns the error of reading the input, [`Failure::NotJson`] if it isn't UTF-8 or isn't JSON,
+/// and [`Failure::Fault`] if it is other JSON or if memory runs out.
 pub fn read_stored<R: Input>(alloc: Global, reader: &mut R) -> Result<AttributeValue, Failure>
     ensures { (input : Result (List ℕ) Failed) × Reads R.read_gives calls reader.old input reader.new
         × OfJson Stands input (result_map_both view reason result) }

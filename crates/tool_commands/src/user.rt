@@ -13,7 +13,11 @@ use serde_dynamo::{AttributeValue, Item, to_item};
 use std::alloc::{AllocError, Global};
 use std::fmt::Write;
 
-/// The lines of a user's item, by the names of the fields. It fails for want of memory alone.
+/// Returns the lines of a user's item, in the order of the names of its fields.
+///
+/// # Errors
+///
+/// Returns [`Failure::Fault`] if memory runs out.
 pub fn user_lines(alloc: Global, id: &str, name: &str, age: u8) -> Result<String, Failure>
     ensures { AnswersUser id.now name.now age (result_map_both string_bytes reason result) }
 {
@@ -30,7 +34,7 @@ pub fn user_lines(alloc: Global, id: &str, name: &str, age: u8) -> Result<String
     Ok(lines)
 }
 
-// The line of a field: its name, its kind and its text.
+// The line of a field: its name, its kind and its string.
 fn push_line(text: &mut String, item: &Item, name: &str) -> Result<(), AllocError>
     ensures { MatchResult result
         (λ _. string_bytes text.new ≡ string_bytes text.old ++ line_at name.now (option_map view (get_by_text (map_of item.now) name.now)))

@@ -1,5 +1,5 @@
-//! What the three calls that read promise at a type that states its shape: reading by the shape permits the answer, want of
-//! memory aside. So two reads of what is the same answer the same.
+//! What the three calls that read promise for a type with a shape: reading by the shape permits the
+//! result, apart from out of memory. So two reads of the same value return the same.
 ghost use Rattle.std.specs.Prelude.{◌≡◌, ◌⊎◌, Ok, Err, IfOk, IfErr, map};
 ghost use Rattle.serde_dynamo.specs.Av as av;
 ghost use Rattle.serde_dynamo.specs.Conforms.{conforms};
@@ -19,7 +19,11 @@ use serde_dynamo::{
 };
 use std::alloc::Global;
 
-/// What [`from_attribute_value`] reads at a type with a shape.
+/// Reads a value from an attribute value.
+///
+/// # Errors
+///
+/// Returns an error that reading by the shape permits, or `OutOfMemory` if memory runs out.
 pub fn value_at_shape<T: Shaped>(alloc: Global, value: AttributeValue) -> Result<T>
     ensures ok { IfOk result (λ v. Permitted T.about.shape (attribute (view value)) (Ok (T.tells v))) }
     ensures err { IfErr result (λ e. (fault_of e ≡ out_of_memory) ⊎ Permitted T.about.shape (attribute (view value)) (Err (fault_of e))) }
@@ -29,7 +33,11 @@ pub fn value_at_shape<T: Shaped>(alloc: Global, value: AttributeValue) -> Result
     Ok(read)
 }
 
-/// What [`from_item`] reads at a type with a shape.
+/// Reads a value from an item.
+///
+/// # Errors
+///
+/// Returns an error that reading by the shape permits, or `OutOfMemory` if memory runs out.
 pub fn item_at_shape<T: Shaped>(alloc: Global, item: Item) -> Result<T>
     ensures ok { IfOk result (λ v. Permitted T.about.shape (attribute (av.M (item_view item))) (Ok (T.tells v))) }
     ensures err { IfErr result (λ e. (fault_of e ≡ out_of_memory) ⊎ Permitted T.about.shape (attribute (av.M (item_view item))) (Err (fault_of e))) }
@@ -39,7 +47,11 @@ pub fn item_at_shape<T: Shaped>(alloc: Global, item: Item) -> Result<T>
     Ok(read)
 }
 
-/// What [`from_items`] reads at a type with a shape: a list of it.
+/// Reads a list of values from a list of items.
+///
+/// # Errors
+///
+/// Returns an error that reading by the shape permits, or `OutOfMemory` if memory runs out.
 pub fn items_at_shape<T: Shaped>(alloc: Global, items: Items) -> Result<Vec<T>>
     ensures ok { IfOk result (λ vs. Permitted (shape.list T.about.shape) (attribute (av.L (av.elements_of (map av.M (items_view items))))) (Ok (datum.seq (datum.elements_of (map T.tells vs.items))))) }
     ensures err { IfErr result (λ e. (fault_of e ≡ out_of_memory) ⊎ Permitted (shape.list T.about.shape) (attribute (av.L (av.elements_of (map av.M (items_view items))))) (Err (fault_of e))) }
@@ -59,10 +71,10 @@ fn conforming<T: Shaped>(alloc: Global, value: AttributeValue) -> Result<T>
     Ok(read)
 }
 
-/// Two reads, each of an attribute value.
+/// Reads a value from each of two attribute values.
 ///
-/// Of attribute values that are the same by value they give values that are the same by value, or the same fault; the texts
-/// of messages and want of memory aside.
+/// From attribute values that are the same by value it reads values that are the same by value, or
+/// returns the same fault, apart from the messages of errors and out of memory.
 pub fn read_twice<T: Shaped>(
     alloc: Global,
     first: AttributeValue,

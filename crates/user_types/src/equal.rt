@@ -12,7 +12,8 @@ pub fn byte_strings_are_equal(bytes: &ByteBuf, other: &ByteBuf) -> bool
     bytes == other
 }
 
-/// Whether two errors have the same kind with the same contents: `==`. Then they have the same fault.
+/// Whether two errors have the same kind with the same contents: `==`. Then they have the same
+/// fault.
 pub fn errors_are_equal(error: &Error, other: &Error) -> bool
     ensures fault { IsTrue result → fault_of error.now ≡ fault_of other.now }
     ensures itself { error.now ≡ other.now → IsTrue result }

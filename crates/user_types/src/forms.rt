@@ -1,4 +1,5 @@
-//! Structs of a user's own without named fields, described: a unit struct, two newtypes and a tuple struct.
+//! Structs of a user's own without named fields, described: a unit struct, two newtypes and a tuple
+//! struct.
 ghost use Rattle.std.specs.Prelude.{codes};
 ghost use Rattle.std.proofs.Common.{refl};
 ghost use Rattle.dynamo_record.specs.Newtypes.{about_newtype, newtype_by_shape, newtype_reads, about_unit_struct, unit_struct_by_shape, unit_struct_reads};

@@ -1,4 +1,4 @@
-//! Attribute values and items where a value of a program's own type may stand.
+//! Attribute values and items in the place of a program's own type.
 ghost use Rattle.std.specs.Prelude.{◌≡◌, false, IfOk, IfErr};
 ghost use Rattle.serde_dynamo.specs.Fault.{out_of_memory};
 ghost use Rattle.serde_dynamo.specs.Item.{item_view};
@@ -14,7 +14,11 @@ use serde_dynamo::{
 use serde_json::Value;
 use std::alloc::Global;
 
-/// The plain JSON of an attribute value, and its DynamoDB JSON, which are the same.
+/// Returns the plain JSON of an attribute value and its DynamoDB JSON, which are the same.
+///
+/// # Errors
+///
+/// Returns the error of `to_json_value` or of `to_json`.
 pub fn both_json(alloc: Global, value: &AttributeValue) -> Result<(Value, Value)>
     ensures { IfOk result (λ both. view both.0 ≡ view both.1) }
 {
@@ -22,7 +26,11 @@ pub fn both_json(alloc: Global, value: &AttributeValue) -> Result<(Value, Value)
     Ok((to_json_value(alloc, value)?, value.to_json(alloc)?))
 }
 
-/// The plain JSON of an item, and its DynamoDB JSON, which are the same.
+/// Returns the plain JSON of an item and its DynamoDB JSON, which are the same.
+///
+/// # Errors
+///
+/// Returns the error of `to_json_value` or of `to_json`.
 pub fn both_item_json(alloc: Global, item: &Item) -> Result<(Value, Value)>
     ensures { IfOk result (λ both. view both.0 ≡ view both.1) }
 {
@@ -30,11 +38,12 @@ pub fn both_item_json(alloc: Global, item: &Item) -> Result<(Value, Value)>
     Ok((to_json_value(alloc, item)?, item.to_json(alloc)?))
 }
 
-/// The DynamoDB JSON of an attribute value, and what is read of what it writes: the attribute value again.
+/// Returns the DynamoDB JSON of an attribute value, and the attribute value that is read from what
+/// it is written as, which is the same.
 ///
 /// # Errors
 ///
-/// `OutOfMemory` alone.
+/// Returns `OutOfMemory` if memory runs out.
 pub fn json_and_back(alloc: Global, value: &AttributeValue) -> Result<(Value, AttributeValue)>
     ensures back { IfOk result (λ both. av.view both.1 ≡ av.view value.now) }
     ensures err { IfErr result (λ e. fault_of e ≡ out_of_memory) }
@@ -46,11 +55,12 @@ pub fn json_and_back(alloc: Global, value: &AttributeValue) -> Result<(Value, At
     Ok((json, read))
 }
 
-/// What is read of what a JSON value writes. Where it holds no float, that is the JSON value again.
+/// Reads a JSON value from what it is written as. Without floats it is the same.
 ///
 /// # Errors
 ///
-/// Where it holds no float, `OutOfMemory` alone.
+/// Returns `OutOfMemory` if memory runs out. If there is a float, returns the message that it can't
+/// be written.
 pub fn json_value_and_back(alloc: Global, value: &Value) -> Result<Value>
     ensures back { IfOk result (λ v. has_float (view value.now) ≡ false → view v ≡ view value.now) }
     ensures err { IfErr result (λ e. has_float (view value.now) ≡ false → fault_of e ≡ out_of_memory) }

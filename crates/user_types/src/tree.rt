@@ -1,5 +1,5 @@
-//! A type that holds itself, through a box and through a list, is written by the library's own implementations of these. It
-//! is read by the small calls of a reader.
+//! A type that holds itself, through a box and through a list, is written by the library's own
+//! implementations of these. It is read by the small calls of a reader.
 ghost use Rattle.std.specs.Prelude.{pos};
 ghost use Rattle.serde_dynamo.specs.Datum as datum;
 ghost use Rattle.serde_dynamo.specs.Datum.{Datum};
@@ -20,7 +20,7 @@ impl Serialize for Tree {
     ghost use Rattle.user_types.specs.declared.tree.Tree.TheFolds.{fold-Tree};
     ghost use Rattle.user_types.specs.declared.tree.Tree.TheOpen.{Tree-F};
 
-    // One level, where each tree inside has told its datum already.
+    // One level, where the datum of each inner tree is known.
     ghost tells = { fold-Tree Datum (elim [
       | Tree-F.Leaf n ↦ datum.integer datum.u64 (pos n)
       | Tree-F.Only child ↦ datum.some child.value
