@@ -34,7 +34,7 @@ use std::marker::PhantomData;
 ///
 /// let value = AttributeValue::N(String::from_str(alloc, "42")?);
 /// let age: Age = from_attribute_value(alloc, value)?;
-/// assert_eq!(age.0, 42);
+/// assert_eq!(rt; age.0, 42);
 /// ```
 pub trait Deserialize: Sized + Drop {
     // The results that the type permits for each source: values or faults.

@@ -15,7 +15,7 @@ use std::alloc::Global;
 /// use serde_dynamo::{AttributeValue, from_attribute_value};
 ///
 /// let value = AttributeValue::Bool(true);
-/// assert_eq!(from_attribute_value::<IgnoredAny>(alloc, value)?, IgnoredAny);
+/// assert_eq!(rt; from_attribute_value::<IgnoredAny>(alloc, value)?, IgnoredAny);
 /// ```
 #[derive(Clone, Copy, Debug, Drop, PartialEq, Eq)]
 pub struct IgnoredAny;

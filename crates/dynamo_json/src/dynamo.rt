@@ -39,8 +39,9 @@ use std::alloc::{AllocError, Global};
 ///
 /// let text = r#"{"Id": {"N": "103"}, "InPublication": {"BOOL": false}}"#;
 /// let item = Item::from_json_text(alloc, text)?;
-/// assert!(matches!(item.get("Id"), Some(AttributeValue::N(id)) if id.as_str() == "103"));
+/// assert!(rt; matches!(item.get("Id"), Some(AttributeValue::N(id)) if id.as_str() == "103"));
 /// assert_eq!(
+///     rt;
 ///     item.to_json_text(alloc)?.as_str(),
 ///     r#"{"Id":{"N":"103"},"InPublication":{"BOOL":false}}"#
 /// );
@@ -65,7 +66,7 @@ pub trait DynamoJson: Sized + Drop {
     /// use serde_dynamo::{AttributeValue, DynamoJson};
     ///
     /// let json = AttributeValue::Bool(true).to_json(alloc)?;
-    /// assert!(matches!(json.get("BOOL"), Some(serde_json::Value::Bool(true))));
+    /// assert!(rt; matches!(json.get("BOOL"), Some(serde_json::Value::Bool(true))));
     /// ```
     fn to_json(&self, alloc: Global) -> Result<Value>
         ensures { MatchResult result (λ json. sj.view json ≡ json_value self.now) (λ e. fault_of e ≡ out_of_memory) };
@@ -102,7 +103,7 @@ pub trait DynamoJson: Sized + Drop {
     ///     value.push_json_text(&mut lines)?;
     ///     lines.push('\n')?;
     /// }
-    /// assert_eq!(lines.as_str(), "{\"BOOL\":true}\n{\"NULL\":true}\n");
+    /// assert_eq!(rt; lines.as_str(), "{\"BOOL\":true}\n{\"NULL\":true}\n");
     /// ```
     fn push_json_text(&self, text: &mut String) -> Result<()>
         ensures { MatchResult result (λ _. string_bytes text.new ≡ string_bytes text.old ++ compact_text (json_value self.now)) (λ e. (fault_of e ≡ out_of_memory) × (string_bytes text.new ≡ string_bytes text.old)) };
@@ -134,6 +135,7 @@ pub trait DynamoJson: Sized + Drop {
     ///     anyhow::bail!("X is no data type descriptor");
     /// };
     /// assert_eq!(
+    ///     rt;
     ///     error.to_string(alloc)?.as_str(),
     ///     "The key 'X' is not a known DynamoDB prefix"
     /// );

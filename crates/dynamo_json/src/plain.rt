@@ -41,7 +41,7 @@ use std::alloc::Global;
 ///
 /// let names = vec![in alloc; Text::new("Giraffe"), Text::new("Hippo")]?;
 /// let json = to_json_value(alloc, &StringSet(&names))?;
-/// assert_eq!(json.to_string(alloc)?.as_str(), r#"["Giraffe","Hippo"]"#);
+/// assert_eq!(rt; json.to_string(alloc)?.as_str(), r#"["Giraffe","Hippo"]"#);
 /// ```
 pub fn to_json_value<T: Serialize + Drop>(alloc: Global, value: T) -> Result<Value>
     ensures { Writes fault_of (T.wants value) AnswersPlain (T.tells value) result }

@@ -44,8 +44,8 @@ use std::alloc::{AllocError, Global};
 /// let Some(item) = item_under(alloc, &mut scratch, "Item", line)? else {
 ///     anyhow::bail!("the line is an item");
 /// };
-/// assert!(item.get("Id").is_some());
-/// assert!(item_under(alloc, &mut scratch, "Item", r#"{"Item": {"Id": 103}}"#)?.is_none());
+/// assert!(rt; item.get("Id").is_some());
+/// assert!(rt; item_under(alloc, &mut scratch, "Item", r#"{"Item": {"Id": 103}}"#)?.is_none());
 /// ```
 pub fn item_under(
     alloc: Global,

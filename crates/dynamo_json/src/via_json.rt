@@ -25,8 +25,8 @@ use std::alloc::Global;
 /// use serde_dynamo::{AttributeValue, Bytes, to_attribute_value, to_attribute_value_via_json};
 ///
 /// let bytes = Bytes::new(&[1, 2]);
-/// assert!(matches!(to_attribute_value(alloc, &bytes)?, AttributeValue::B(_)));
-/// assert!(matches!(to_attribute_value_via_json(alloc, &bytes)?, AttributeValue::L(_)));
+/// assert!(rt; matches!(to_attribute_value(alloc, &bytes)?, AttributeValue::B(_)));
+/// assert!(rt; matches!(to_attribute_value_via_json(alloc, &bytes)?, AttributeValue::L(_)));
 /// ```
 pub fn to_attribute_value_via_json<T: Serialize + Drop>(
     alloc: Global,

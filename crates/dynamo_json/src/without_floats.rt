@@ -22,8 +22,8 @@ use serde_json::{Map, Number, Value};
 /// use serde_json::Value;
 ///
 /// let json = Value::from_str(alloc, "[1, 2.5]")?;
-/// assert!(!is_without_floats(&json));
-/// assert!(to_attribute_value(alloc, &json).is_err());
+/// assert!(rt; !is_without_floats(&json));
+/// assert!(rt; to_attribute_value(alloc, &json).is_err());
 /// ```
 #[cycle(walk)]
 pub fn is_without_floats(json: &Value) -> bool

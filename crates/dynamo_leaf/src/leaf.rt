@@ -167,10 +167,10 @@ fn show_bool(key: &str) -> Result<Leaf>
 /// use dynamo_leaf::{Leaf, Scalar, show_number};
 /// use serde_dynamo::de::Request;
 ///
-/// assert!(matches!(show_number(Request::U8, "42"), Ok(Leaf::Scalar(Scalar::U8(42)))));
-/// assert!(matches!(show_number(Request::Any, "42"), Ok(Leaf::Scalar(Scalar::I64(42)))));
-/// assert!(matches!(show_number(Request::Any, "1.5"), Ok(Leaf::NumberText)));
-/// assert!(show_number(Request::U8, "256").is_err());
+/// assert!(rt; matches!(show_number(Request::U8, "42"), Ok(Leaf::Scalar(Scalar::U8(42)))));
+/// assert!(rt; matches!(show_number(Request::Any, "42"), Ok(Leaf::Scalar(Scalar::I64(42)))));
+/// assert!(rt; matches!(show_number(Request::Any, "1.5"), Ok(Leaf::NumberText)));
+/// assert!(rt; show_number(Request::U8, "256").is_err());
 /// ```
 pub fn show_number(request: Request, text: &str) -> Result<Leaf, NoNumber>
     ensures { ShowsLeaf (no_number_fault text.now) text.now (number_text_shown request text.now) result }

@@ -92,9 +92,9 @@ pub(crate) fn parse_u128(text: &str) -> Result<u128, ParseIntError>
 /// ```rust
 /// use serde_dynamo::is_float_text;
 ///
-/// assert!(is_float_text("-1.5e3") && is_float_text(".5") && is_float_text("NaN"));
-/// assert!(is_float_text("1e999"));
-/// assert!(!is_float_text("1_000") && !is_float_text("0x10") && !is_float_text(""));
+/// assert!(rt; is_float_text("-1.5e3") && is_float_text(".5") && is_float_text("NaN"));
+/// assert!(rt; is_float_text("1e999"));
+/// assert!(rt; !is_float_text("1_000") && !is_float_text("0x10") && !is_float_text(""));
 /// ```
 #[tactic(auto, using(crate::proofs::Floats::reads_float))]
 pub fn is_float_text(text: &str) -> bool

@@ -32,7 +32,7 @@ use std::alloc::Global;
 /// use serde_dynamo::{AttributeValue, Deserializer};
 ///
 /// let reader = Deserializer::from_attribute_value(alloc, AttributeValue::Bool(true));
-/// assert!(bool::deserialize(alloc, reader)?);
+/// assert!(rt; bool::deserialize(alloc, reader)?);
 /// ```
 #[derive(Drop)]
 pub struct Deserializer {

@@ -35,7 +35,7 @@ use std::collections::HashMap;
 ///
 /// let value = AttributeValue::Bool(true);
 /// let reader = LentDeserializer::from_attribute_value(alloc, &value);
-/// assert!(bool::deserialize(alloc, reader)?);
+/// assert!(rt; bool::deserialize(alloc, reader)?);
 /// ```
 #[derive(Drop)]
 pub struct LentDeserializer<'a> {

@@ -64,11 +64,11 @@ use std::collections::HashMap;
 /// use serde_dynamo::{AttributeValue, from_attribute_value};
 ///
 /// let age = AttributeValue::N(String::from_str(alloc, "42")?);
-/// assert_eq!(from_attribute_value::<u8>(alloc, age)?, 42);
+/// assert_eq!(rt; from_attribute_value::<u8>(alloc, age)?, 42);
 ///
 /// let null = AttributeValue::Null(true);
 /// let name: Option<String> = from_attribute_value(alloc, null)?;
-/// assert!(name.is_none());
+/// assert!(rt; name.is_none());
 /// ```
 pub fn from_attribute_value<T: Deserialize>(alloc: Global, value: AttributeValue) -> Result<T>
     ensures { Meets fault_of (T.reads (attribute (view value))) result }
@@ -96,12 +96,12 @@ pub fn from_attribute_value<T: Deserialize>(alloc: Global, value: AttributeValue
 /// let name = String::from_str(alloc, "Arthur Dent")?;
 /// let item = to_item(alloc, &User { id, name, age: 42 })?;
 /// let user: User = from_item(alloc, item)?;
-/// assert_eq!(user.age, 42);
+/// assert_eq!(rt; user.age, 42);
 ///
 /// let Err(error) = from_item::<User>(alloc, Item::new(alloc)) else {
 ///     anyhow::bail!("an empty item is no user");
 /// };
-/// assert_eq!(error.to_string(alloc)?.as_str(), "missing field `id`");
+/// assert_eq!(rt; error.to_string(alloc)?.as_str(), "missing field `id`");
 /// ```
 #[tactic(auto, using(dynamo_value::proofs::Views::view_map))]
 pub fn from_item<T: Deserialize>(alloc: Global, item: Item) -> Result<T>
@@ -134,7 +134,7 @@ pub fn from_item<T: Deserialize>(alloc: Global, item: Item) -> Result<T>
 ///
 /// let first: User = from_item_ref(alloc, &item)?;
 /// let second: User = from_item_ref(alloc, &item)?;
-/// assert_eq!(first, second);
+/// assert_eq!(rt; first, second);
 /// ```
 pub fn from_item_ref<T: Deserialize>(alloc: Global, item: &Item) -> Result<T>
     ensures { Meets fault_of (T.reads (attribute (av.M (item_view item.now)))) result }
@@ -163,7 +163,7 @@ pub fn from_item_ref<T: Deserialize>(alloc: Global, item: &Item) -> Result<T>
 ///
 /// let items = Items::from(vec![in alloc; item.into_inner()]?);
 /// let users: Vec<User> = from_items(alloc, items)?;
-/// assert!(matches!(users.as_slice(), [user] if user.age == 42));
+/// assert!(rt; matches!(users.as_slice(), [user] if user.age == 42));
 /// ```
 #[tactic(auto, using(crate::proofs::Views::elements_of_maps))]
 pub fn from_items<T: Deserialize>(alloc: Global, items: Items) -> Result<Vec<T>>

@@ -107,7 +107,7 @@ use std::alloc::Global;
 /// let name = String::from_str(alloc, "Ulm")?;
 /// let item = to_item(alloc, &City { name, people: 129_942 })?;
 /// let city: City = from_item(alloc, item)?;
-/// assert_eq!(city.people, 129_942);
+/// assert_eq!(rt; city.people, 129_942);
 /// ```
 pub trait Record: Sized + Drop {
     /// The types of the fields, as `(Field<String>, Field<u8>)`: a [`FieldList`]. Only reading asks

@@ -43,7 +43,7 @@ pub fn serialize<T: Serialize, S: Serializer>(value: &T, serializer: S) -> Resul
 ///
 /// let keys = vec![in alloc; Bytes::new(b"Sunny"), Bytes::new(b"Rainy")]?;
 /// let value = to_attribute_value(alloc, &BinarySet(&keys))?;
-/// assert!(matches!(&value, AttributeValue::Bs(set) if set.len() == 2));
+/// assert!(rt; matches!(&value, AttributeValue::Bs(set) if set.len() == 2));
 /// ```
 #[derive(Clone, Debug, Drop, PartialEq, Eq, PartialOrd, Ord, Hash)]
 pub struct BinarySet<T>(pub T);

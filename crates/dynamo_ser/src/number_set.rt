@@ -42,11 +42,11 @@ pub fn serialize<T: Serialize, S: Serializer>(value: &T, serializer: S) -> Resul
 ///
 /// let numbers = vec![in alloc; 3u8, 5]?;
 /// let value = to_attribute_value(alloc, &NumberSet(&numbers))?;
-/// assert!(matches!(&value, AttributeValue::Ns(set) if set.len() == 2));
+/// assert!(rt; matches!(&value, AttributeValue::Ns(set) if set.len() == 2));
 ///
 /// // A list reads from a set as from a list.
 /// let back: Vec<u8> = from_attribute_value(alloc, value)?;
-/// assert_eq!(back, numbers);
+/// assert_eq!(rt; back, numbers);
 /// ```
 #[derive(Clone, Debug, Drop, PartialEq, Eq, PartialOrd, Ord, Hash)]
 pub struct NumberSet<T>(pub T);

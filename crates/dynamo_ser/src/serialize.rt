@@ -30,7 +30,7 @@ use crate::Serializer;
 /// }
 ///
 /// let value = to_attribute_value(alloc, &Age(42))?;
-/// assert_eq!(value, AttributeValue::N(String::from_str(alloc, "42")?));
+/// assert_eq!(rt; value, AttributeValue::N(String::from_str(alloc, "42")?));
 /// ```
 pub trait Serialize {
     // The datum of a value.

@@ -42,7 +42,7 @@ pub fn serialize<T: Serialize, S: Serializer>(value: &T, serializer: S) -> Resul
 ///
 /// let names = vec![in alloc; Text::new("Giraffe"), Text::new("Hippo")]?;
 /// let value = to_attribute_value(alloc, &StringSet(&names))?;
-/// assert!(matches!(&value, AttributeValue::Ss(set) if set.len() == 2));
+/// assert!(rt; matches!(&value, AttributeValue::Ss(set) if set.len() == 2));
 ///
 /// // An element that is written as another kind is refused.
 /// let numbers = vec![in alloc; 3u8]?;
@@ -50,6 +50,7 @@ pub fn serialize<T: Serialize, S: Serializer>(value: &T, serializer: S) -> Resul
 ///     anyhow::bail!("a number is no string");
 /// };
 /// assert_eq!(
+///     rt;
 ///     error.to_string(alloc)?.as_str(),
 ///     "String set element does not serialize to string"
 /// );

@@ -34,11 +34,11 @@
 //!     r#"{"fileName": {"S": "a.png"}, "hash": {"B": "AQI="}, "sizes": {"NS": ["16", "32"]}}"#,
 //! )?;
 //! let photo: Photo = dynamo_serde::read_item(alloc, &item)?;
-//! assert_eq!(photo.sizes.as_slice(), [16, 32].as_slice());
-//! assert_eq!(photo.stars, 0);
+//! assert_eq!(rt; photo.sizes.as_slice(), [16, 32].as_slice());
+//! assert_eq!(rt; photo.stars, 0);
 //!
 //! let again = dynamo_serde::to_item(alloc, &photo)?;
-//! assert!(again.get("hash") == item.get("hash") && again.get("stars").is_some());
+//! assert!(rt; again.get("hash") == item.get("hash") && again.get("stars").is_some());
 //! ```
 #![tactic(auto)]
 

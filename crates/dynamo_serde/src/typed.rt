@@ -35,8 +35,8 @@ use std::collections::HashMap;
 /// use serde_dynamo::AttributeValue;
 ///
 /// let value = dynamo_serde::to_attribute_value(alloc, &1.5f64)?;
-/// assert_eq!(value, AttributeValue::N(String::from_str(alloc, "1.5")?));
-/// assert!(dynamo_serde::to_attribute_value(alloc, &f64::NAN).is_err());
+/// assert_eq!(rt; value, AttributeValue::N(String::from_str(alloc, "1.5")?));
+/// assert!(rt; dynamo_serde::to_attribute_value(alloc, &f64::NAN).is_err());
 /// ```
 pub fn to_attribute_value<T: Serialize>(alloc: Global, value: &T) -> Result<AttributeValue>
     ensures { IfOk result (λ v. (log : Log) × T.writes value.now (Some []) log × IsValueOf log (view v)) }
@@ -126,7 +126,7 @@ pub fn read_item<T: DeserializeOwned>(alloc: Global, item: &Item) -> Result<T> {
 ///
 /// let item = dynamo_serde::to_item(alloc, &Point { x: 3, y: -4 })?;
 /// let point: Point = dynamo_serde::from_item(alloc, item)?;
-/// assert_eq!(point.x + point.y, -1);
+/// assert_eq!(rt; point.x + point.y, -1);
 /// ```
 pub fn from_item<T: DeserializeOwned>(alloc: Global, item: Item) -> Result<T> {
     read_item(alloc, &item)

@@ -21,10 +21,10 @@ use std::default::Emptied;
 /// use serde_dynamo::{AttributeValue, to_attribute_value};
 ///
 /// let age = to_attribute_value(alloc, &42u8)?;
-/// assert_eq!(age, AttributeValue::N(String::from_str(alloc, "42")?));
+/// assert_eq!(rt; age, AttributeValue::N(String::from_str(alloc, "42")?));
 ///
 /// match &age {
-///     AttributeValue::N(number) => assert_eq!(number.as_str(), "42"),
+///     AttributeValue::N(number) => assert_eq!(rt; number.as_str(), "42"),
 ///     other => anyhow::bail!("no number: {other:?}"),
 /// }
 /// ```
@@ -76,7 +76,7 @@ impl AttributeValue {
     /// let mut ages = HashMap::new(alloc);
     /// drop(ages.insert(String::from_str(alloc, "Arthur")?, 42u8)?);
     /// let value = to_attribute_value(alloc, &ages)?;
-    /// assert_eq!(value.clone()?.fitted(), value);
+    /// assert_eq!(rt; value.clone()?.fitted(), value);
     /// ```
     pub fn fitted(self) -> AttributeValue
         ensures { view result ≡ view self }

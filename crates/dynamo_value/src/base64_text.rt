@@ -24,9 +24,9 @@ use std::alloc::{AllocError, Global};
 /// ```rust
 /// use dynamo_value::base64_text;
 ///
-/// assert_eq!(base64_text::encode(alloc, b"Sunny")?.as_str(), "U3Vubnk=");
-/// assert_eq!(base64_text::decode(alloc, "U3Vubnk=")?.as_slice(), b"Sunny".as_slice());
-/// assert!(base64_text::decode(alloc, "U3Vubnk").is_err());
+/// assert_eq!(rt; base64_text::encode(alloc, b"Sunny")?.as_str(), "U3Vubnk=");
+/// assert_eq!(rt; base64_text::decode(alloc, "U3Vubnk=")?.as_slice(), b"Sunny".as_slice());
+/// assert!(rt; base64_text::decode(alloc, "U3Vubnk").is_err());
 /// ```
 pub fn encode(alloc: Global, bytes: &[u8]) -> Result<String, AllocError>
     ensures text { IfOk result (λ text. string_bytes text ≡ base64_text bytes.now) }

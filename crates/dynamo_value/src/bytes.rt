@@ -10,7 +10,7 @@ ghost use Rattle.dynamo_value.specs.Bytes.{octets_of, lent_octets};
 /// use serde_dynamo::{AttributeValue, Bytes, to_attribute_value};
 ///
 /// let value = to_attribute_value(alloc, &Bytes::new(&[1, 2]))?;
-/// assert_eq!(value, AttributeValue::B(Vec::from_slice(alloc, &[1, 2])?));
+/// assert_eq!(rt; value, AttributeValue::B(Vec::from_slice(alloc, &[1, 2])?));
 /// ```
 #[derive(Clone, Copy, Debug, PartialEq, Eq)]
 pub struct Bytes<'a> {
@@ -42,10 +42,10 @@ impl<'a> Bytes<'a> {
 ///
 /// let key = ByteBuf::from(Vec::from_slice(alloc, &[1, 2])?);
 /// let value = to_attribute_value(alloc, &key)?;
-/// assert!(matches!(value, AttributeValue::B(_)));
+/// assert!(rt; matches!(value, AttributeValue::B(_)));
 ///
 /// let back: ByteBuf = from_attribute_value(alloc, value)?;
-/// assert_eq!(back.as_slice(), [1, 2].as_slice());
+/// assert_eq!(rt; back.as_slice(), [1, 2].as_slice());
 /// ```
 #[derive(Debug, Drop, PartialEq, Eq, PartialOrd, Ord, Hash)]
 pub struct ByteBuf {

@@ -25,8 +25,8 @@ pub type Result<T, E = Error> = std::result::Result<T, E>;
 /// let Err(error) = from_attribute_value::<u8>(alloc, AttributeValue::Bool(true)) else {
 ///     anyhow::bail!("a boolean is no number");
 /// };
-/// assert!(*error.kind() == ErrorImpl::ExpectedNum);
-/// assert_eq!(error.to_string(alloc)?.as_str(), "Expected num");
+/// assert!(rt; *error.kind() == ErrorImpl::ExpectedNum);
+/// assert_eq!(rt; error.to_string(alloc)?.as_str(), "Expected num");
 /// ```
 #[derive(Debug, Drop, PartialEq, Eq)]
 pub struct Error {

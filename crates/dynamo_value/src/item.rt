@@ -25,8 +25,8 @@ use std::collections::HashMap;
 /// let mut attributes = HashMap::new(alloc);
 /// drop(attributes.insert(String::from_str(alloc, "active")?, AttributeValue::Bool(true))?);
 /// let item = Item::from(attributes);
-/// assert!(matches!(item.get("active"), Some(AttributeValue::Bool(true))));
-/// assert!(item.get("age").is_none());
+/// assert!(rt; matches!(item.get("active"), Some(AttributeValue::Bool(true))));
+/// assert!(rt; item.get("age").is_none());
 /// ```
 #[derive(Debug, Drop)]
 pub struct Item {
@@ -63,7 +63,7 @@ impl Item {
     /// let mut item = Item::new(alloc);
     /// let name = String::from_str(alloc, "active")?;
     /// drop(item.inner_mut().insert(name, AttributeValue::Bool(true))?);
-    /// assert_eq!(item.inner().len(), 1);
+    /// assert_eq!(rt; item.inner().len(), 1);
     /// ```
     pub fn inner_mut(&mut self) -> &mut HashMap<String, AttributeValue>
         ensures* writes_back { sem 𝓛 (Lends the_row table_row self.entry result item_of) }
@@ -145,7 +145,7 @@ impl From<Item> for HashMap<String, AttributeValue> {
 /// drop(attributes.insert(String::from_str(alloc, "active")?, AttributeValue::Bool(true))?);
 /// let items = Items::from(vec![in alloc; attributes]?);
 /// let rows: Vec<HashMap<String, bool>> = from_items(alloc, items)?;
-/// assert_eq!(rows.len(), 1);
+/// assert_eq!(rt; rows.len(), 1);
 /// ```
 #[derive(Debug, Drop)]
 pub struct Items {

@@ -10,9 +10,9 @@ ghost use Rattle.dynamo_value.specs.PrefixView.{prefix_view};
 /// ```rust
 /// use dynamo_value::Prefix;
 ///
-/// assert!(matches!(Prefix::named("BOOL"), Some(Prefix::Bool)));
-/// assert!(Prefix::named("bool").is_none());
-/// assert_eq!(Prefix::Ss.as_str(), "SS");
+/// assert!(rt; matches!(Prefix::named("BOOL"), Some(Prefix::Bool)));
+/// assert!(rt; Prefix::named("bool").is_none());
+/// assert_eq!(rt; Prefix::Ss.as_str(), "SS");
 /// ```
 #[derive(Clone, Copy, Debug, PartialEq, Eq)]
 pub enum Prefix {

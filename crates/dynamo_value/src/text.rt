@@ -10,7 +10,7 @@ ghost use Rattle.dynamo_value.specs.Text.{lent_text};
 /// use serde_dynamo::{AttributeValue, Text, to_attribute_value};
 ///
 /// let value = to_attribute_value(alloc, &Text::new("Arthur"))?;
-/// assert_eq!(value, AttributeValue::S(String::from_str(alloc, "Arthur")?));
+/// assert_eq!(rt; value, AttributeValue::S(String::from_str(alloc, "Arthur")?));
 /// ```
 #[derive(Clone, Copy, Debug, PartialEq, Eq)]
 pub struct Text<'a> {

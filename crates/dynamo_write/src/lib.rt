@@ -57,10 +57,10 @@ pub use tuple_variant_of::TupleVariantOf;
 /// let value = to_attribute_value(alloc, &numbers)?;
 /// let one = AttributeValue::N(String::from_str(alloc, "1")?);
 /// let two = AttributeValue::N(String::from_str(alloc, "2")?);
-/// assert_eq!(value, AttributeValue::L(vec![in alloc; one, two]?));
+/// assert_eq!(rt; value, AttributeValue::L(vec![in alloc; one, two]?));
 ///
 /// let none: Option<u8> = None;
-/// assert_eq!(to_attribute_value(alloc, &none)?, AttributeValue::Null(true));
+/// assert_eq!(rt; to_attribute_value(alloc, &none)?, AttributeValue::Null(true));
 /// ```
 pub fn to_attribute_value<T: Serialize + Drop>(alloc: Global, value: T) -> Result<AttributeValue>
     ensures { Writes fault_of (T.wants value) AnswersDatum (T.tells value) result }
@@ -86,9 +86,9 @@ pub fn to_attribute_value<T: Serialize + Drop>(alloc: Global, value: T) -> Resul
 /// let id = String::from_str(alloc, "fSsgVtal8TpP")?;
 /// let name = String::from_str(alloc, "Arthur Dent")?;
 /// let item = to_item(alloc, &User { id, name, age: 42 })?;
-/// assert!(matches!(item.get("age"), Some(AttributeValue::N(age)) if age.as_str() == "42"));
+/// assert!(rt; matches!(item.get("age"), Some(AttributeValue::N(age)) if age.as_str() == "42"));
 ///
-/// assert!(matches!(to_item(alloc, 42u8), Err(e) if *e.kind() == ErrorImpl::NotMaplike));
+/// assert!(rt; matches!(to_item(alloc, 42u8), Err(e) if *e.kind() == ErrorImpl::NotMaplike));
 /// ```
 pub fn to_item<T: Serialize + Drop>(alloc: Global, value: T) -> Result<Item>
     ensures { AnswersItem (T.wants value) (T.tells value) result }

@@ -38,7 +38,7 @@ use std::alloc::Global;
 /// use serde_dynamo::{AttributeValue, Serializer};
 ///
 /// let value = true.serialize(Serializer::new(alloc))?;
-/// assert_eq!(value, AttributeValue::Bool(true));
+/// assert_eq!(rt; value, AttributeValue::Bool(true));
 /// ```
 #[derive(Clone, Copy)]
 pub struct Serializer {

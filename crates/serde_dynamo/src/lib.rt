@@ -23,10 +23,10 @@
 //! let id = String::from_str(alloc, "fSsgVtal8TpP")?;
 //! let name = String::from_str(alloc, "Arthur Dent")?;
 //! let item = dynamo_serde::to_item(alloc, &User { id, name, age: 42 })?;
-//! assert!(matches!(item.get("age"), Some(AttributeValue::N(age)) if age.as_str() == "42"));
+//! assert!(rt; matches!(item.get("age"), Some(AttributeValue::N(age)) if age.as_str() == "42"));
 //!
 //! let user: User = dynamo_serde::from_item(alloc, item)?;
-//! assert_eq!(user.age, 42);
+//! assert_eq!(rt; user.age, 42);
 //! ```
 //!
 //! # To and from items
@@ -45,12 +45,12 @@
 //! let name = String::from_str(alloc, "Arthur Dent")?;
 //! let item = to_item(alloc, &User { id, name, age: 42 })?;
 //! let user: User = from_item_ref(alloc, &item)?;
-//! assert_eq!(user.name.as_str(), "Arthur Dent");
+//! assert_eq!(rt; user.name.as_str(), "Arthur Dent");
 //!
 //! // A list of items, as a query returns it:
 //! let items = Items::from(vec![in alloc; item.into_inner()]?);
 //! let users: Vec<User> = from_items(alloc, items)?;
-//! assert_eq!(users.len(), 1);
+//! assert_eq!(rt; users.len(), 1);
 //! ```
 //!
 //! | Rust | Attribute value |
@@ -95,6 +95,7 @@
 //! let reading = Reading { sensor_id: 7, celsius: 21.5, note: None };
 //! let item = dynamo_serde::to_item(alloc, &reading)?;
 //! assert_eq!(
+//!     rt;
 //!     item.to_json_text(alloc)?.as_str(),
 //!     r#"{"celsius":{"N":"21.5"},"sensorId":{"N":"7"}}"#
 //! );
@@ -111,8 +112,8 @@
 //!
 //! let event = Event::Structy { one: 1, two: 2 };
 //! let (written, _json, back) = reread(alloc, &event)?;
-//! assert!(matches!(written, AttributeValue::M(_)));
-//! assert_eq!(back, event);
+//! assert!(rt; matches!(written, AttributeValue::M(_)));
+//! assert_eq!(rt; back, event);
 //! ```
 //!
 //! **By hand** as in serde, if a type is written in a way of its own. The ghost members say what
@@ -149,7 +150,7 @@
 //! }
 //!
 //! let value = to_attribute_value(alloc, &Celsius(-40))?;
-//! assert_eq!(from_attribute_value::<Celsius>(alloc, value)?.0, -40);
+//! assert_eq!(rt; from_attribute_value::<Celsius>(alloc, value)?.0, -40);
 //! ```
 //!
 //! # Sets
@@ -164,7 +165,7 @@
 //!
 //! let numbers = vec![in alloc; 3u8, 5]?;
 //! let value = to_attribute_value(alloc, NumberSet(numbers))?;
-//! assert!(matches!(value, AttributeValue::Ns(_)));
+//! assert!(rt; matches!(value, AttributeValue::Ns(_)));
 //! ```
 //!
 //! # Bytes
@@ -176,9 +177,9 @@
 //! use serde_dynamo::{AttributeValue, Bytes, to_attribute_value};
 //!
 //! let bytes = Vec::from_slice(alloc, &[1, 2])?;
-//! assert!(matches!(to_attribute_value(alloc, &bytes)?, AttributeValue::L(_)));
+//! assert!(rt; matches!(to_attribute_value(alloc, &bytes)?, AttributeValue::L(_)));
 //! let bytes = Bytes::new(bytes.as_slice());
-//! assert!(matches!(to_attribute_value(alloc, &bytes)?, AttributeValue::B(_)));
+//! assert!(rt; matches!(to_attribute_value(alloc, &bytes)?, AttributeValue::B(_)));
 //! ```
 //!
 //! # Enums
@@ -197,7 +198,7 @@
 //!     (Event::Tuple(7, 8), r#"{"M":{"Tuple":{"L":[{"N":"7"},{"N":"8"}]}}}"#),
 //! ] {
 //!     let value = to_attribute_value(alloc, &event)?;
-//!     assert_eq!(value.to_json_text(alloc)?.as_str(), text);
+//!     assert_eq!(rt; value.to_json_text(alloc)?.as_str(), text);
 //! }
 //! ```
 //!
@@ -215,6 +216,7 @@
 //!     anyhow::bail!("no u8 is 256");
 //! };
 //! assert_eq!(
+//!     rt;
 //!     error.to_string(alloc)?.as_str(),
 //!     "Failed to parse '256' as an integer: number too large to fit in target type"
 //! );
@@ -234,7 +236,7 @@
 //! let Err(error) = from_item::<User>(alloc, Item::new(alloc)) else {
 //!     anyhow::bail!("an empty item is no user");
 //! };
-//! assert_eq!(error.to_string(alloc)?.as_str(), "missing field `id`");
+//! assert_eq!(rt; error.to_string(alloc)?.as_str(), "missing field `id`");
 //! ```
 //!
 //! # Out of memory
@@ -248,7 +250,7 @@
 //! use std::alloc::AllocError;
 //!
 //! let error = Error::from(AllocError);
-//! assert!(*error.kind() == ErrorImpl::OutOfMemory);
+//! assert!(rt; *error.kind() == ErrorImpl::OutOfMemory);
 //! ```
 //!
 //! # JSON
@@ -264,7 +266,7 @@
 //! let text = r#"{"id": {"S": "a1"}, "name": {"S": "Ford"}, "age": {"N": "42"}}"#;
 //! let user: User = from_item(alloc, Item::from_json_text(alloc, text)?)?;
 //! let json = to_json_value(alloc, &user)?;
-//! assert_eq!(json.to_string(alloc)?.as_str(), r#"{"age":42,"id":"a1","name":"Ford"}"#);
+//! assert_eq!(rt; json.to_string(alloc)?.as_str(), r#"{"age":42,"id":"a1","name":"Ford"}"#);
 //! ```
 //!
 //! For values without byte strings, sets and integers of more than 64 bits, writing directly gives
@@ -308,7 +310,7 @@
 //!
 //! let mut rooms = TypedTable::new(alloc)?;
 //! let key = rooms.put(&Room { number: 101, beds: 2 })?;
-//! assert!(matches!(rooms.get(&key)?, Some(room) if room.beds == 2));
+//! assert!(rt; matches!(rooms.get(&key)?, Some(room) if room.beds == 2));
 //! ```
 //!
 //! [DynamoDB]: https://aws.amazon.com/dynamodb/

@@ -43,9 +43,9 @@ use std::alloc::Global;
 /// use serde_dynamo::{AttributeValue, reread};
 ///
 /// let (written, json, back) = reread(alloc, &42u8)?;
-/// assert!(matches!(written, AttributeValue::N(_)));
-/// assert_eq!(json.to_string(alloc)?.as_str(), r#"{"N":"42"}"#);
-/// assert_eq!(back, 42);
+/// assert!(rt; matches!(written, AttributeValue::N(_)));
+/// assert_eq!(rt; json.to_string(alloc)?.as_str(), r#"{"N":"42"}"#);
+/// assert_eq!(rt; back, 42);
 /// ```
 pub fn reread<T: Shaped>(alloc: Global, value: &T) -> Result<(AttributeValue, Value, T)>
     // The first part is the attribute value of the value's datum, the second its DynamoDB JSON, and

@@ -30,7 +30,7 @@ use table_rows::StoreError;
 ///
 /// let schema = KeySchema::parse(alloc, &["customer:S", "placed_at:N"])?;
 /// let mut orders = create_in_memory_file(alloc, "orders", schema)?;
-/// assert_eq!(orders.count()?, 0);
+/// assert_eq!(rt; orders.count()?, 0);
 /// ```
 pub fn create_in_memory_file(
     alloc: Global,

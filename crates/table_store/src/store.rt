@@ -27,13 +27,13 @@ use table_rows::{Definition, StoreError, make_tables};
 /// let mut orders = create_in_memory_file(alloc, "orders", schema)?;
 /// let text = r#"{"customer": {"S": "Arthur"}, "placed_at": {"N": "2024"}}"#;
 /// let order = Item::from_json_text(alloc, text)?;
-/// assert!(orders.put(&order)?.is_none());
+/// assert!(rt; orders.put(&order)?.is_none());
 ///
 /// let key = orders.key_of(&order)?;
-/// assert!(orders.get(&key)? == Some(order.clone()?));
-/// assert_eq!(orders.query(&Query::of(&key.partition))?.len(), 1);
-/// assert!(orders.delete(&key)?.is_some());
-/// assert_eq!(orders.count()?, 0);
+/// assert!(rt; orders.get(&key)? == Some(order.clone()?));
+/// assert_eq!(rt; orders.query(&Query::of(&key.partition))?.len(), 1);
+/// assert!(rt; orders.delete(&key)?.is_some());
+/// assert_eq!(rt; orders.count()?, 0);
 /// ```
 #[derive(Drop)]
 pub struct TableStore<S: Alter + Drop> {

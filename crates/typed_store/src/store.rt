@@ -58,8 +58,8 @@ use typed_table::{AsItem, Keyed};
 ///     room.beds = 3;
 ///     Ok(room)
 /// })?;
-/// assert!(matches!(rooms.get(&key)?, Some(room) if room.beds == 3));
-/// assert_eq!(rooms.len()?, 1);
+/// assert!(rt; matches!(rooms.get(&key)?, Some(room) if room.beds == 3));
+/// assert_eq!(rt; rooms.len()?, 1);
 /// ```
 #[derive(Drop)]
 pub struct TypedStore<T, S: Alter + Drop> {

@@ -45,7 +45,7 @@ use std::alloc::Global;
 /// }
 ///
 /// let item = Order { id: 7 }.to_item(alloc)?;
-/// assert_eq!(Order::from_item(alloc, item)?.id, 7);
+/// assert_eq!(rt; Order::from_item(alloc, item)?.id, 7);
 /// ```
 pub trait AsItem: Sized + Drop {
     // Whether an item is one that the value is written as.

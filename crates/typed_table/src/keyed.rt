@@ -20,7 +20,7 @@ use table_key::KeySchema;
 ///     }
 /// }
 ///
-/// assert_eq!(Order::key_schema(alloc)?.partition.name.as_str(), "id");
+/// assert_eq!(rt; Order::key_schema(alloc)?.partition.name.as_str(), "id");
 /// ```
 pub trait Keyed: Sized {
     /// Returns the attributes that are the key.

@@ -73,14 +73,14 @@ use table_query::{Condition, Query};
 ///     room.beds = 3;
 ///     Ok(room)
 /// })?;
-/// assert!(matches!(rooms.get(&key)?, Some(room) if room.beds == 3));
+/// assert!(rt; matches!(rooms.get(&key)?, Some(room) if room.beds == 3));
 ///
 /// let found = rooms.query(&Query::of(&key.partition))?;
-/// assert!(matches!(found.as_slice(), [first, second] if first.number == 101 && second.beds == 2));
+/// assert!(rt; matches!(found.as_slice(), [a, b] if a.number == 101 && b.beds == 2));
 ///
 /// let again = Room { hotel: String::from_str(alloc, "Sea")?, number: 101, beds: 1 };
-/// assert!(rooms.put_if(Condition::NotExists, &again).is_err());
-/// assert!(rooms.delete(&key));
+/// assert!(rt; rooms.put_if(Condition::NotExists, &again).is_err());
+/// assert!(rt; rooms.delete(&key));
 /// ```
 #[derive(Drop)]
 pub struct TypedTable<T> {

@@ -37,7 +37,7 @@ use std::collections::HashMap;
 /// let Some(text) = plain_text(alloc, &value)? else {
 ///     anyhow::bail!("the list has plain JSON");
 /// };
-/// assert_eq!(text.as_str(), r#"[1,"a"]"#);
+/// assert_eq!(rt; text.as_str(), r#"[1,"a"]"#);
 /// ```
 pub fn plain_text(alloc: Global, value: &AttributeValue) -> Result<Option<String>, AllocError>
     ensures text { IfOk result (λ found. IfSome found (λ text. (json : Data)

@@ -35,7 +35,7 @@ use std::alloc::{AllocError, Global};
 /// let Some(text) = stored_text(alloc, &json)? else {
 ///     anyhow::bail!("there is no float in it");
 /// };
-/// assert_eq!(text.as_str(), r#"{"L":[{"N":"1"},{"S":"a"}]}"#);
+/// assert_eq!(rt; text.as_str(), r#"{"L":[{"N":"1"},{"S":"a"}]}"#);
 /// ```
 pub fn stored_text(alloc: Global, json: &Value) -> Result<Option<String>, AllocError>
     ensures text { IfOk result (λ found. IfSome found (λ text. (a : Av)
