@@ -7,7 +7,7 @@ use crate::place::Place;
 use crate::refusal::{Answer, Outcome, Refusal};
 use crate::teller::Teller;
 use crate::text::{first_value, line_feeds, unmarked};
-use crate::words::Flags;
+use crate::words::{Flags, MAX_LINE};
 use dynamo_json::DynamoJson;
 use dynamo_value::Item;
 use fixtures::{Fault, Lines, Request, change_of, item_alone, json_of, one_request};
@@ -66,15 +66,17 @@ impl<'r, 'a, 'i, S: Alter + Drop> Loading<'r, 'a, 'i, S> {
     ///
     /// Those of the table, and of the input. What was loaded stays.
     pub fn run<R: BufRead + Drop>(mut self, reader: R) -> Answer {
-        let mut lines = Lines::new(self.alloc(), reader);
-        if let Some(first) = self.first_line(&mut lines)? {
-            if self.is_json(first.as_slice())? {
-                self.take_text(lines.number(), first.as_slice())?;
-                self.take_lines(&mut lines)?;
-            } else {
+        let mut lines = self.lines(reader);
+        match self.first_line(&mut lines)? {
+            Some(first) if !self.is_json(first.as_slice())? => {
                 let text = self.whole_text(first.as_slice(), lines)?;
                 self.take_whole(text.as_slice())?;
             }
+            Some(first) => {
+                self.take_text(lines.number(), first.as_slice())?;
+                self.take_lines(&mut lines)?;
+            }
+            None => self.take_lines(&mut lines)?,
         }
         self.write()?;
         self.end()
@@ -84,13 +86,27 @@ impl<'r, 'a, 'i, S: Alter + Drop> Loading<'r, 'a, 'i, S> {
         self.teller.rt.alloc()
     }
 
-    // The first line that isn't blank, without a byte order mark; none at the end.
+    // The lines of a reader, with the limit of the flags.
+    fn lines<R: BufRead>(&self, reader: R) -> Lines<R> {
+        let limit = self.flags.max_line.unwrap_or(MAX_LINE);
+        Lines::with_limit(self.alloc(), reader, limit)
+    }
+
+    // The first line that isn't blank, without a byte order mark; none at the end, and none if the line is
+    // too long, which is a fault.
     fn first_line<R: BufRead>(&mut self, lines: &mut Lines<R>) -> Answer<Option<Vec<u8>>> {
         for _ in 0..u64::MAX {
             let Some(line) = lines.next_text() else {
                 break;
             };
-            let line = line?;
+            let line = match line {
+                Ok(line) => line,
+                Err(fault @ Fault::TooLong(_)) => {
+                    self.tell(self.at(lines.number()), Refusal::from(fault));
+                    return Ok(None);
+                }
+                Err(fault) => return Err(Refusal::from(fault)),
+            };
             let text = if lines.number() == 1 {
                 unmarked(line.as_slice())
             } else {
@@ -131,7 +147,7 @@ impl<'r, 'a, 'i, S: Alter + Drop> Loading<'r, 'a, 'i, S> {
             }
             match lines.next_text() {
                 Some(Ok(line)) => self.take_text(lines.number(), line.as_slice())?,
-                Some(Err(error)) => self.tell(self.at(lines.number()), Refusal::from(error)),
+                Some(Err(fault)) => self.tell(self.at(lines.number()), Refusal::from(fault)),
                 None => break,
             }
         }
@@ -153,7 +169,7 @@ impl<'r, 'a, 'i, S: Alter + Drop> Loading<'r, 'a, 'i, S> {
             line = line.saturating_add(line_feeds(before));
             let (value, behind) = first_value(value);
             if turn == 0 && self.flags.keep_going && !self.is_json(value)? {
-                return self.take_lines(&mut Lines::new(self.alloc(), text));
+                return self.take_lines(&mut self.lines(text));
             }
             self.take_text(line, value)?;
             line = line.saturating_add(line_feeds(value));

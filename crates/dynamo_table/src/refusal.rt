@@ -80,7 +80,10 @@ impl<T: Drop> From<AllocFailed<T>> for Refusal {
 
 impl From<Fault> for Refusal {
     fn from(fault: Fault) -> Refusal {
-        Refusal::Input(fault)
+        match fault {
+            Fault::Read(error) => Refusal::Io(error),
+            fault => Refusal::Input(fault),
+        }
     }
 }
 

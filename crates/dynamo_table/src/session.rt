@@ -4,8 +4,8 @@ use crate::file::close;
 use crate::refusal::{Answer, Outcome, Refusal};
 use crate::run::{open_for, run_command};
 use crate::teller::Teller;
-use crate::words::words_in;
-use fixtures::Lines;
+use crate::words::{MAX_LINE, words_in};
+use fixtures::{Fault, Lines};
 use sqlite::{Connection, File, FileStore};
 use std::io::BufReader;
 
@@ -18,19 +18,23 @@ type Opened = Option<Connection<FileStore<File>>>;
 ///
 /// What reading the input fails with, and `Table` if the file can't be closed.
 pub fn run(rt: &HostRuntime, path: &str) -> Answer {
-    let mut lines = Lines::new(rt.alloc(), BufReader::new(rt.alloc(), rt.reader())?);
+    let reader = BufReader::new(rt.alloc(), rt.reader())?;
+    let mut lines = Lines::with_limit(rt.alloc(), reader, MAX_LINE);
     let mut conn: Opened = None;
     let mut outcome = Outcome::Done;
     for _ in 0..u64::MAX {
         let Some(line) = lines.next_text() else {
             break;
         };
-        let line = line?;
         let teller = Teller {
             rt,
             line: Some(lines.number()),
         };
-        let (kept, answer) = run_line(teller, path, conn, line.as_slice());
+        let (kept, answer) = match line {
+            Ok(line) => run_line(teller, path, conn, line.as_slice()),
+            Err(fault @ Fault::TooLong(_)) => (conn, Err(Refusal::from(fault))),
+            Err(fault) => return Err(Refusal::from(fault)),
+        };
         conn = kept;
         if !is_done(teller, answer) {
             outcome = Outcome::Told;

@@ -2,7 +2,11 @@
 use crate::print::Form;
 use crate::refusal::{Answer, Refusal};
 use std::alloc::Global;
-use std::str;
+use std::{mem, str};
+
+/// How many bytes a line of an input may have where `--max-line` isn't given: 4 MiB. An item has at most
+/// 400 KB in DynamoDB, which is 2.4 MB where every byte is escaped.
+pub const MAX_LINE: usize = 4 << 20;
 
 /// The flags behind a command's other words.
 #[derive(Clone, Copy, Drop)]
@@ -12,6 +16,9 @@ pub struct Flags {
 
     /// `--keep-going`: a load passes over what has a fault.
     pub keep_going: bool,
+
+    /// `--max-line BYTES`: how long a line of a load may be.
+    pub max_line: Option<usize>,
 
     /// `--plain`: items are plain JSON.
     pub plain: bool,
@@ -25,27 +32,32 @@ impl Flags {
     pub const NONE: Flags = Flags {
         backward: false,
         keep_going: false,
+        max_line: None,
         plain: false,
         pretty: false,
     };
 
-    /// The flags that the command of a name takes.
-    pub fn taken_by(name: &str) -> Flags {
-        let mut flags = Flags::NONE;
-        match name {
-            "load" => {
-                flags.keep_going = true;
-                flags.plain = true;
+    // Sets the flag of a word, if there is one and it isn't set yet, and returns whether it did.
+    fn set(&mut self, word: &str) -> bool {
+        let flag = match word {
+            "--backward" => &mut self.backward,
+            "--keep-going" => &mut self.keep_going,
+            "--plain" => &mut self.plain,
+            "--pretty" => &mut self.pretty,
+            _ => return false,
+        };
+        !mem::replace(flag, true)
+    }
+
+    // Sets the longest line, if the words are that flag and a number, and it isn't set yet.
+    fn set_max_line(&mut self, flag: &str, bytes: &str) -> bool {
+        match bytes.parse::<usize>() {
+            Ok(bytes) if flag == "--max-line" && self.max_line.is_none() => {
+                self.max_line = Some(bytes);
+                true
             }
-            "query" => {
-                flags.backward = true;
-                flags.pretty = true;
-            }
-            "get" | "scan" => flags.pretty = true,
-            "export" => flags.plain = true,
-            _ => {}
+            _ => false,
         }
-        flags
     }
 
     /// The form in which items are printed alone.
@@ -58,37 +70,30 @@ impl Flags {
     }
 }
 
-/// The words before the flags at their end, and the flags, each of which is taken once.
-pub fn split_flags<'a>(words: &'a [&'a str], taken: Flags) -> (&'a [&'a str], Flags) {
-    let mut left = taken;
+/// The flags that the command of a name takes.
+pub fn flags_of(command: &str) -> &'static [&'static str] {
+    match command {
+        "load" => &["--keep-going", "--max-line", "--plain"],
+        "query" => &["--backward", "--pretty"],
+        "get" | "scan" => &["--pretty"],
+        "export" => &["--plain"],
+        _ => &[],
+    }
+}
+
+/// The words before the flags at their end, and the flags. Each of those that are taken may stand once.
+pub fn split_flags<'a>(words: &'a [&'a str], taken: &[&str]) -> (&'a [&'a str], Flags) {
     let mut flags = Flags::NONE;
-    let mut length = words.len();
-    for word in words.iter().rev() {
-        match *word {
-            "--backward" if left.backward => {
-                left.backward = false;
-                flags.backward = true;
-            }
-            "--keep-going" if left.keep_going => {
-                left.keep_going = false;
-                flags.keep_going = true;
-            }
-            "--plain" if left.plain => {
-                left.plain = false;
-                flags.plain = true;
-            }
-            "--pretty" if left.pretty => {
-                left.pretty = false;
-                flags.pretty = true;
-            }
+    let mut rest = words;
+    for _ in 0..words.len() {
+        rest = match rest {
+            [before @ .., word] if taken.contains(word) && flags.set(word) => before,
+            [before @ .., flag, bytes] if taken.contains(flag) && flags.set_max_line(flag, bytes) =>
+                { before }
             _ => break,
-        }
-        length = length.saturating_sub(1);
+        };
     }
-    match words.split_at_checked(length) {
-        Some((words, _)) => (words, flags),
-        None => (words, flags),
-    }
+    (rest, flags)
 }
 
 /// The words of a line, which blanks separate. A word that begins with a quote goes up to the next quote, and may hold blanks.

@@ -1,0 +1,3 @@
+//! Input from strangers: lines that are too long, and values that are made to cost much.
+
+mod long_lines;
