@@ -190,9 +190,8 @@ impl<S: Alter + Drop> TableStore<S> {
         ensures condition { IfOk result (λ before. holds condition (is_some before) ≡ true) }
         ensures schema { schema_of self.new ≡ schema_of self.old }
     {
-        let key = self.table.schema.key_of(item)?;
-        let key = KeyBytes::of(self.alloc, &key)?;
-        self.put_where(condition, &key, item)
+        let (_, before) = self.put_if_returning_key(condition, item)?;
+        Ok(before)
     }
 
     /// Puts an item under its key, and returns the key. An item that was there is dropped.
@@ -205,28 +204,34 @@ impl<S: Alter + Drop> TableStore<S> {
         ensures key { IfOk result (λ key. ReadsKey (schema_of self.old) item.now (Ok key)) }
         ensures schema { schema_of self.new ≡ schema_of self.old }
     {
-        let key = self.table.schema.key_of(item)?;
-        let bytes = KeyBytes::of(self.alloc, &key)?;
-        drop(self.put_where(Condition::Always, &bytes, item)?);
+        let (key, _) = self.put_if_returning_key(Condition::Always, item)?;
         Ok(key)
     }
 
-    // Puts an item under a key if the condition holds there, and returns the item that was there.
-    fn put_where(
+    /// Puts an item under its key if a condition holds for the item that is there, and returns the key
+    /// and that item.
+    ///
+    /// # Errors
+    ///
+    /// Returns the errors of [`TableStore::put_if`].
+    pub fn put_if_returning_key(
         &mut self,
         condition: Condition,
-        key: &KeyBytes,
         item: &Item,
-    ) -> Result<Option<Item>, StoreError>
-        ensures condition { IfOk result (λ before. holds condition (is_some before) ≡ true) }
+    ) -> Result<(Key, Option<Item>), StoreError>
+        ensures needs { NeedsKey (schema_of self.old) item.now result }
+        ensures key { IfOk result (λ done. ReadsKey (schema_of self.old) item.now (Ok done.0)) }
+        ensures condition { IfOk result (λ done. holds condition (is_some done.1) ≡ true) }
         ensures schema { schema_of self.new ≡ schema_of self.old }
     {
-        let before = table_rows::get(self.alloc, &mut self.conn, self.table.id, key)?;
+        let key = self.table.schema.key_of(item)?;
+        let bytes = KeyBytes::of(self.alloc, &key)?;
+        let before = table_rows::get(self.alloc, &mut self.conn, self.table.id, &bytes)?;
         if !condition.holds(before.is_some()) {
             return Err(StoreError::Key(TableError::ConditionFailed));
         }
-        self.put_at(key, item)?;
-        Ok(before)
+        self.put_at(&bytes, item)?;
+        Ok((key, before))
     }
 
     /// Deletes the item under a key, and returns it.

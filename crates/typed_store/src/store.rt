@@ -179,9 +179,8 @@ impl<T: AsItem + Keyed, S: Alter + Drop> TypedStore<T, S> {
         ensures schema { schema_of self.new ≡ schema_of self.old }
     {
         let item = value.to_item(self.alloc)?;
-        let key = self.store.key_of(&item)?;
-        let there = self.store.put_if(condition, &item)?.is_some();
-        Ok((key, there))
+        let (key, before) = self.store.put_if_returning_key(condition, &item)?;
+        Ok((key, before.is_some()))
     }
 
     /// Returns the value under a key, or `None`.

@@ -59,6 +59,13 @@ FailsToPut Written Unwritten schema value (TypedTableError.Value e) = IsUnwritte
 FailsToPut Written Unwritten schema value (TypedTableError.Table e) =
     ((item : Item) × Written value item × ReadsKey schema item (Err e)) ⊎ (e ≡ TableError.OutOfMemory)
 
+-- the item of the value doesn't read, by this error
+abbrev pub FailsToReread : {T : Type 0} → (T → Item → Type 0) → (Item → Result T Fault → Type 0) → T
+    → TypedTableError → Type 0
+FailsToReread Written Reads value (TypedTableError.Value e) =
+    (item : Item) × Written value item × IsUnread Reads item e
+FailsToReread Written Reads value (TypedTableError.Table e) = ⊥
+
 -- the items read as these values, each in its place
 abbrev pub ReadEach : {T : Type 0} → (Item → Result T Fault → Type 0) → List (Key × Item) → List T
     → Type 0

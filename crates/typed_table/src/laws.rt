@@ -1,5 +1,5 @@
 //! The promise of a table: what was put under a key is got from it.
-ghost use Rattle.std.specs.Prelude.{◌≡◌, Result, Err, IfOk, MatchOption};
+ghost use Rattle.std.specs.Prelude.{◌≡◌, ◌⊎◌, Result, Err, IfErr, IfOk, MatchOption};
 ghost use Rattle.dynamo_value.specs.Av as av;
 ghost use Rattle.dynamo_value.specs.Fault.{Fault};
 ghost use Rattle.dynamo_value.specs.Item.{item_view};
@@ -7,6 +7,8 @@ ghost use Rattle.dynamo_value.specs.declared.item.Item.{Item};
 ghost use Rattle.dynamo_de.specs.Source.{attribute};
 ghost use Rattle.dynamo_write.specs.Written.{item_written};
 ghost use Rattle.dynamo_shape.specs.Clear.{Clear};
+ghost use Rattle.memory_table.specs.Content.{schema_of};
+ghost use Rattle.typed_table.specs.Stored.{FailsToPut, FailsToReread, table_of};
 ghost use Rattle.typed_table.specs.Written.{IsItemOf};
 
 use crate::{AsItem, Keyed, TypedTable, TypedTableError};
@@ -25,7 +27,9 @@ pub fn put_then_get<T: AsItem + Keyed>(
     table: &mut TypedTable<T>,
     value: &T,
 ) -> Result<Option<T>, TypedTableError>
-    ensures { T.reads_back → IfOk result (λ found. MatchOption found ⊥ (T.alike value.now)) }
+    ensures back { T.reads_back → IfOk result (λ found. MatchOption found ⊥ (T.alike value.now)) }
+    ensures err { IfErr result (λ e. FailsToPut T.written T.unwritten (schema_of (table_of table.old)) value.now e
+        ⊎ FailsToReread T.written T.reads_item value.now e) }
 {
     let key = table.put(value)?;
     Ok(table.get(&key)?)
