@@ -9,6 +9,7 @@ use std::alloc::AllocError;
 const MOST: usize = 64;
 
 /// Pushes a field of a struct. The first makes room for as many as are expected, and for 64 at most.
+#[inline(always)]
 pub(crate) fn push<V: Drop>(
     fields: &mut Vec<(&'static str, V)>,
     expected: usize,
