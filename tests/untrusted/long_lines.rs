@@ -61,8 +61,8 @@ fn texts(alloc: Global, length: usize) -> Result<Vec<String>, AllocError> {
 // How many texts were read around the limits, or what of the first one that reads otherwise.
 fn read_around(alloc: Global) -> io::Result<Result<u32, String>> {
     let mut count = 0;
-    for limit in [0_usize, 1, 2, 7, 8, 9, 64] {
-        for length in 0..limit + 12 {
+    for limit in [0_usize, 1, 2, 7, 8, 9, 33] {
+        for length in limit.saturating_sub(9)..limit + 12 {
             for text in &texts(alloc, length)? {
                 let wanted = modelled(alloc, text.as_str(), limit)?;
                 for room in [1, 2, 3, 8, 8_192] {
@@ -83,7 +83,7 @@ fn read_around(alloc: Global) -> io::Result<Result<u32, String>> {
 #[test]
 fn lines_around_the_limit_are_given_or_too_long(rt: HostRuntime) {
     match read_around(rt.alloc()) {
-        Ok(Ok(count)) => assert!(rt; count > 5_000, "{count} texts"),
+        Ok(Ok(count)) => assert!(rt; count > 3_000, "{count} texts"),
         Ok(Err(text)) => assert!(rt; false, "{text}"),
         Err(error) => assert!(rt; false, "{error}"),
     }
