@@ -1,5 +1,5 @@
 -- Where a value is read from.
-use Rattle.std.specs.Prelude.{ℕ, List, [], ◌∷◌}
+use Rattle.std.specs.Prelude.{◌≡◌, ℕ, List, [], ◌∷◌}
 use Rattle.dynamo_value.specs.Av as av
 use Rattle.dynamo_value.specs.Av.{Av, Members, Elements}
 
@@ -12,6 +12,12 @@ Text = List ℕ
 pub data Source : Type 0 where
   attribute : Av → Source
   key_text number_text plain_text byte_string : List ℕ → Source
+
+-- the source is this text: the key of a map, or a plain text
+abbrev pub IsText : Source → Text → Type 0
+IsText (key_text t) text = t ≡ text
+IsText (plain_text t) text = t ≡ text
+IsText _ text = ⊥
 
 -- an entry of a map: its key's text and its value
 abbrev pub Entry : Type 0

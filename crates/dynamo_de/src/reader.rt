@@ -1,10 +1,10 @@
-ghost use Rattle.std.specs.Prelude.{◌≡◌, ℕ, Bool, List, Option, Result};
+ghost use Rattle.std.specs.Prelude.{◌≡◌, ℕ, Bool, IfSome, List, Option, Result};
 ghost use Rattle.dynamo_value.specs.Fault.{Fault, expected_char, map_value_before_key};
 ghost use Rattle.dynamo_de.specs.Access.{Hints, hint_of};
 ghost use Rattle.dynamo_de.specs.Inside.{ShowsInside};
 ghost use Rattle.dynamo_de.specs.Shown.{shown};
 ghost use Rattle.dynamo_de.specs.Shows.{Shows, ShowsSurface, TakesElement, TakesEntry, Names};
-ghost use Rattle.dynamo_de.specs.Source.{Source, Entry};
+ghost use Rattle.dynamo_de.specs.Source.{Source, Entry, IsText};
 ghost use Rattle.dynamo_de.specs.declared.request.Request.TheVariants as request;
 
 use crate::{Error, Inside, Request, Showing, Surface};
@@ -39,6 +39,15 @@ pub trait Reader: Sized + Drop {
 
     /// Returns the allocator of what is read.
     fn alloc(&self) -> Global;
+
+    /// Returns the string of the key of a map or of the name of a variant, if the reader can lend
+    /// it. Implement it to name entries in the places of errors.
+    #[inline(always)]
+    fn text(&self) -> Option<&str>
+        ensures { IfSome result (λ text. IsText (source self.now) text.now) }
+    {
+        None
+    }
 
     /// Returns what the source holds, given what is asked for.
     ///

@@ -125,6 +125,14 @@ impl Reader for Deserializer {
         self.alloc
     }
 
+    #[inline(always)]
+    fn text(&self) -> Option<&str> {
+        match &self.source {
+            Source::KeyText(text) | Source::PlainText(text) => Some(text.as_str()),
+            _ => None,
+        }
+    }
+
     /// Returns what the source holds. The elements of a list are counted, those of a set aren't.
     #[inline(always)]
     fn show(self, request: Request) -> Result<Shown>

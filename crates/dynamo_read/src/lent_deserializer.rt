@@ -131,6 +131,14 @@ impl<'a> Reader for LentDeserializer<'a> {
         self.alloc
     }
 
+    #[inline(always)]
+    fn text(&self) -> Option<&str> {
+        match &self.source {
+            LentSource::KeyText(text) | LentSource::PlainText(text) => Some(text.as_str()),
+            _ => None,
+        }
+    }
+
     /// Returns what the source holds. The elements of a list are counted, those of a set aren't.
     #[inline(always)]
     fn show(self, request: Request) -> Result<LentShown<'a>>
