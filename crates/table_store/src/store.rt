@@ -208,8 +208,8 @@ impl<S: Alter + Drop> TableStore<S> {
         Ok(key)
     }
 
-    /// Puts an item under its key if a condition holds for the item that is there, and returns the key
-    /// and that item.
+    /// Puts an item under its key if the condition holds there, and returns the key and the item that
+    /// was there.
     ///
     /// # Errors
     ///
