@@ -1,10 +1,25 @@
-//! Which lines of an export don't read as a type.
+//! Finds the lines of an export that can't be read as a type.
+//!
+//! # Examples
+//!
+//! ```rust
+//! use fixtures::Lines;
+//! use schema_check::next_value;
+//! use serde_dynamo::samples::User;
+//!
+//! let export = r#"{"Item": {"id": {"S": "a"}, "name": {"S": "b"}, "age": {"S": "42"}}}"#;
+//! let mut lines = Lines::with_limit(alloc, export.as_bytes(), 4 << 20);
+//! let Some(Err(finding)) = next_value::<User, &[u8]>(alloc, &mut lines) else {
+//!     anyhow::bail!("an age isn't a string");
+//! };
+//! assert!(rt; finding.to_string(alloc)?.as_str() == "line 1: Expected num");
+//! ```
 #![tactic(auto)]
 
 ghost use Rattle.std.specs.Prelude.{◌≡◌, ◌+◌, Option, Result};
 ghost use Rattle.std.specs.Io.Iter.{u64_saturate};
 ghost use Rattle.fixtures.specs.ErrorText.{line_text};
-ghost use Rattle.fixtures.specs.Lines.{Gives};
+ghost use Rattle.fixtures.specs.Lines.{Gives, limit_of};
 ghost use Rattle.fixtures.specs.declared.lines.Line.{Line};
 ghost use Rattle.fixtures.specs.declared.lines.LineFault.{LineFault};
 ghost use Rattle.schema_check.specs.Checked.{Checks, ChecksLine};
@@ -18,33 +33,33 @@ use std::alloc::Global;
 use std::fmt;
 use std::io::BufRead;
 
-/// A line that doesn't read as the type.
+/// A line that can't be read as the type.
 #[derive(Debug, Drop)]
 pub struct Finding {
-    /// The line's number, from 1 on.
+    /// The line's number. The first line is 1.
     pub number: u64,
 
-    /// Why it doesn't.
+    /// Why it can't be read.
     pub problem: Problem,
 }
 
-/// Why a line doesn't read as the type.
+/// Why a line can't be read as the type.
 #[derive(Debug, Drop)]
 pub enum Problem {
-    /// The line gives no item.
+    /// The line has no item.
     Line(Fault),
 
-    /// Reading the item gives this fault.
+    /// Reading the item gave this error.
     Value(Error),
 }
 
-/// How many lines were looked at.
+/// Counts of lines.
 #[derive(Clone, Copy, Debug, PartialEq, Eq)]
 pub struct Summary {
-    /// How many read as the type.
+    /// How many were read as the type.
     pub read: u64,
 
-    /// How many don't.
+    /// How many could not be read.
     pub failed: u64,
 }
 
@@ -59,13 +74,18 @@ impl fmt::Display for Finding {
     }
 }
 
-/// The next line's item as a value of the type, or why it isn't one; `None` at the end. After a finding the next call goes on
-/// behind its line, but after a failed read there is nothing more.
+/// Returns the value of the next line's item, or `None` at the end.
+///
+/// # Errors
+///
+/// Returns a [`Finding`] if the line has no item, or if its item can't be read as the type. The next call
+/// goes on behind the line, except after [`Fault::Read`].
 pub fn next_value<T: Deserialize, R: BufRead>(
     alloc: Global,
     lines: &mut Lines<R>,
 ) -> Option<Result<T, Finding>>
-    ensures { (given : Option (Result Line LineFault)) × Gives R.remaining lines.old lines.new given × Checks T.reads given result }
+    ensures value { (given : Option (Result Line LineFault)) × Gives R.remaining lines.old lines.new given × Checks T.reads given result }
+    ensures limit { limit_of lines.new ≡ limit_of lines.old }
 {
     Some(match lines.next_line()? {
         Ok(line) => value_of(alloc, line),
@@ -76,11 +96,12 @@ pub fn next_value<T: Deserialize, R: BufRead>(
     })
 }
 
-/// The item of a line as a value of the type.
+/// Reads the item of a line as a value of the type.
 ///
 /// # Errors
 ///
-/// A finding of the line's number, with the fault that the type permits, or want of memory.
+/// Returns a [`Finding`] with the error of reading the item, which is
+/// [`ErrorImpl::OutOfMemory`](dynamo_value::ErrorImpl::OutOfMemory) if memory runs out.
 pub fn value_of<T: Deserialize>(alloc: Global, line: Line) -> Result<T, Finding>
     ensures { ChecksLine T.reads line result }
 {
@@ -95,7 +116,7 @@ pub fn value_of<T: Deserialize>(alloc: Global, line: Line) -> Result<T, Finding>
 }
 
 impl Summary {
-    /// Of no lines.
+    /// Returns the counts of no lines.
     pub fn new() -> Self
         ensures read { result.read ≡ 0 }
         ensures failed { result.failed ≡ 0 }
@@ -103,7 +124,7 @@ impl Summary {
         Summary { read: 0, failed: 0 }
     }
 
-    /// Counts a line that reads.
+    /// Counts a line that was read.
     pub fn count_read(&mut self)
         ensures read { self.new.read ≡ u64_saturate (self.old.read + 1) }
         ensures failed { self.new.failed ≡ self.old.failed }
@@ -111,7 +132,7 @@ impl Summary {
         self.read = self.read.saturating_add(1);
     }
 
-    /// Counts a line that doesn't.
+    /// Counts a line that could not be read.
     pub fn count_failed(&mut self)
         ensures read { self.new.read ≡ self.old.read }
         ensures failed { self.new.failed ≡ u64_saturate (self.old.failed + 1) }
