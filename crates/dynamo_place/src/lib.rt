@@ -1,0 +1,20 @@
+//! Reading with places: an error says where in the value it was found, as `orders[3].price: Expected num`.
+//!
+//! [`from_attribute_value_located`], [`from_item_located`], [`from_item_ref_located`] and [`from_items_located`]
+//! return what their namesakes in `dynamo_read` return, with the [`Place`] of an error. [`read_located`] does the
+//! same for any [`Reader`](dynamo_de::Reader).
+#![tactic(auto)]
+
+mod located;
+mod located_error;
+mod place;
+mod read;
+mod way;
+
+pub use located::{Located, LocatedChoice, LocatedElements, LocatedEntries};
+pub use located_error::LocatedError;
+pub use place::{Place, Step};
+pub use read::{
+    from_attribute_value_located, from_item_located, from_item_ref_located, from_items_located,
+    read_located,
+};

@@ -1,0 +1,131 @@
+ghost use Rattle.std.specs.Prelude.{◌≡◌, option_map};
+ghost use Rattle.dynamo_place.specs.Found.{found, found_at, steps_of};
+
+use dynamo_value::AttributeValue;
+use std::alloc::Global;
+use std::fmt;
+
+/// A step of a [`Place`].
+#[derive(Debug, Drop, PartialEq, Eq)]
+pub enum Step {
+    /// Into the attribute of this name, of an item or of an `M`.
+    Attribute(String),
+
+    /// Into the element with this index, of an `L` or of a set. The first is 0.
+    Element(usize),
+}
+
+/// The way from a value to a part of it, as `orders[3].price`.
+///
+/// It is printed as DynamoDB writes document paths: the names of attributes with a dot between them, and the indexes
+/// of elements in brackets. A name that is empty, or has another character than a letter, a digit, `_` or `-`, is
+/// printed as a string literal: `orders."unit price"`. The place of the whole value is empty.
+///
+/// # Examples
+///
+/// ```rust
+/// use dynamo_place::{Step, from_item_located};
+/// use serde_dynamo::samples::User;
+/// use serde_dynamo::{DynamoJson, Item};
+///
+/// let item = Item::from_json_text(alloc, r#"{"id": {"S": "a"}, "name": {"S": "b"}, "age": {"S": "42"}}"#)?;
+/// let Err(error) = from_item_located::<User>(alloc, item) else {
+///     anyhow::bail!("an age isn't a string");
+/// };
+/// assert!(rt; error.to_string(alloc)?.as_str() == "age: Expected num");
+/// assert!(rt; matches!(error.place.steps(), [Step::Attribute(name)] if name.as_str() == "age"));
+/// ```
+#[derive(Debug, Drop, PartialEq, Eq)]
+pub struct Place {
+    steps: Vec<Step>,
+}
+
+impl Place {
+    /// Returns the place of a whole value. It allocates nothing.
+    pub fn new(alloc: Global) -> Place
+        ensures { steps_of result ≡ [] }
+    {
+        Place {
+            steps: Vec::new(alloc),
+        }
+    }
+
+    pub(crate) fn of_steps(steps: Vec<Step>) -> Place
+        ensures { steps_of result ≡ steps.items }
+    {
+        Place { steps }
+    }
+
+    /// Returns the steps, from the whole value on.
+    pub fn steps(&self) -> &[Step]
+        ensures { result.now ≡ steps_of self.now }
+    {
+        self.steps.as_slice()
+    }
+
+    /// Returns the part of a value at this place, or `None` if there is none. The elements of a set and the keys of a
+    /// map are no attribute values, so none is found at their places.
+    ///
+    /// # Examples
+    ///
+    /// ```rust
+    /// use dynamo_place::Place;
+    /// use serde_dynamo::AttributeValue;
+    ///
+    /// let value = AttributeValue::Bool(true);
+    /// assert!(rt; matches!(Place::new(alloc).find(&value), Some(AttributeValue::Bool(true))));
+    /// ```
+    pub fn find<'a>(&self, value: &'a AttributeValue) -> Option<&'a AttributeValue>
+        ensures { option_map (λ a. a.now) result ≡ found (steps_of self.now) value.now }
+    {
+        let mut part = value;
+        for step in self.steps.iter() {
+            part = step.find(part)?;
+        }
+        Some(part)
+    }
+}
+
+impl Step {
+    // Returns the part of a value at this step.
+    fn find<'a>(&self, value: &'a AttributeValue) -> Option<&'a AttributeValue>
+        ensures { option_map (λ a. a.now) result ≡ found_at self.now value.now }
+    {
+        match (self, value) {
+            (Step::Attribute(name), AttributeValue::M(map)) => map.get(name.as_str()),
+            (Step::Element(index), AttributeValue::L(values)) => values.get(*index),
+            _ => None,
+        }
+    }
+}
+
+impl fmt::Display for Place {
+    fn fmt<W: fmt::Write>(&self, f: &mut fmt::Formatter<W>) -> fmt::Result {
+        let mut is_first = true;
+        for step in self.steps.iter() {
+            match step {
+                Step::Element(index) => write!(f, "[{index}]")?,
+                Step::Attribute(name) => {
+                    if !is_first {
+                        f.write_str(".")?;
+                    }
+                    if is_plain(name.as_str()) {
+                        f.write_str(name.as_str())?;
+                    } else {
+                        write!(f, "{name:?}")?;
+                    }
+                }
+            }
+            is_first = false;
+        }
+        Ok(())
+    }
+}
+
+// Whether a name is printed as it is.
+fn is_plain(name: &str) -> bool {
+    !name.is_empty()
+        && name
+            .chars()
+            .all(|c| c.is_alphanumeric() || c == '_' || c == '-')
+}

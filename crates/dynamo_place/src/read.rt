@@ -1,0 +1,117 @@
+ghost use Rattle.std.specs.Prelude.{◌≡◌, map, IfErr, IfOk};
+ghost use Rattle.dynamo_value.specs.Av as av;
+ghost use Rattle.dynamo_value.specs.Fault.{out_of_memory};
+ghost use Rattle.dynamo_value.specs.Item.{item_view, items_view};
+ghost use Rattle.dynamo_value.specs.Kind.{fault_of};
+ghost use Rattle.dynamo_value.specs.View.{view};
+ghost use Rattle.dynamo_value.specs.declared.attribute_value.AttributeValue as AttributeValue;
+ghost use Rattle.dynamo_de.specs.Meets.{Meets};
+ghost use Rattle.dynamo_de.specs.Reads.{ReadsList};
+ghost use Rattle.dynamo_de.specs.Source.{attribute};
+
+use crate::located::Located;
+use crate::way::Way;
+use crate::{LocatedError, Place};
+use dynamo_de::{Deserialize, Reader};
+use dynamo_read::{Deserializer, LentDeserializer};
+use dynamo_value::{AttributeValue, Error, Item, Items};
+use std::alloc::{AllocError, Global};
+use std::collections::HashMap;
+
+/// Reads a value from a reader, and says where an error was found.
+///
+/// # Errors
+///
+/// Returns the error that the type has for the reader's source, with its place, or the reader's error for out of
+/// memory.
+pub fn read_located<T: Deserialize, R: Reader>(
+    alloc: Global,
+    reader: R,
+) -> Result<T, LocatedError<R::Error>>
+    ensures { Meets (λ e. R.Error.fault e.error) (T.reads (R.source reader)) result }
+{
+    let way = Way::start(alloc);
+    match T::deserialize(alloc, Located::new(reader, way.again())) {
+        Ok(value) => Ok(value),
+        Err(error) => Err(LocatedError {
+            place: way.place(alloc),
+            error,
+        }),
+    }
+}
+
+/// Reads a value from an attribute value as `from_attribute_value` does, and says where an error was found.
+///
+/// # Errors
+///
+/// Returns an error that `from_attribute_value` may return, with its place in the attribute value.
+pub fn from_attribute_value_located<T: Deserialize>(
+    alloc: Global,
+    value: AttributeValue,
+) -> Result<T, LocatedError<Error>>
+    ensures { Meets (λ e. fault_of e.error) (T.reads (attribute (view value))) result }
+{
+    read_located(alloc, Deserializer::from_attribute_value(alloc, value))
+}
+
+/// Reads a value from an item as `from_item` does, and says where an error was found.
+///
+/// # Errors
+///
+/// Returns an error that `from_item` may return, with its place in the item.
+#[tactic(auto, using(dynamo_value::proofs::Views::view_map))]
+pub fn from_item_located<T: Deserialize>(
+    alloc: Global,
+    item: Item,
+) -> Result<T, LocatedError<Error>>
+    ensures { Meets (λ e. fault_of e.error) (T.reads (attribute (av.M (item_view item)))) result }
+{
+    from_attribute_value_located(alloc, AttributeValue::M(item.into_inner()))
+}
+
+/// Reads a value from a borrowed item as `from_item_ref` does, and says where an error was found.
+///
+/// # Errors
+///
+/// Returns an error that `from_item_ref` may return, with its place in the item.
+pub fn from_item_ref_located<T: Deserialize>(
+    alloc: Global,
+    item: &Item,
+) -> Result<T, LocatedError<Error>>
+    ensures { Meets (λ e. fault_of e.error) (T.reads (attribute (av.M (item_view item.now)))) result }
+{
+    read_located(alloc, LentDeserializer::from_map(alloc, item.inner()))
+}
+
+/// Reads a list of values from a list of items as `from_items` does, and says where an error was found. The place begins
+/// with the index of the item, as `[7].orders[3].price`.
+///
+/// # Errors
+///
+/// Returns an error that `from_items` may return, with its place in the list.
+#[tactic(auto, using(dynamo_read::proofs::Views::elements_of_maps))]
+pub fn from_items_located<T: Deserialize>(
+    alloc: Global,
+    items: Items,
+) -> Result<Vec<T>, LocatedError<Error>>
+    ensures { Meets (λ e. fault_of e.error) (ReadsList T.reads (map (λ m. attribute (av.M m)) (items_view items))) result }
+{
+    match as_values(alloc, Vec::from(items)) {
+        Ok(values) => from_attribute_value_located(alloc, AttributeValue::L(values)),
+        Err(error) => Err(LocatedError {
+            place: Place::new(alloc),
+            error: Error::from(error),
+        }),
+    }
+}
+
+// Each map as an attribute value.
+fn as_values(
+    alloc: Global,
+    maps: Vec<HashMap<String, AttributeValue>>,
+) -> Result<Vec<AttributeValue>, AllocError>
+    ensures ok { IfOk result (λ values. values.items ≡ map (λ m. AttributeValue.M m) maps.items) }
+{
+    let values = maps.into_iter().map(|map| AttributeValue::M(map));
+    values.collect(alloc)
+}

@@ -1,0 +1,4 @@
+//! Places of errors of reading.
+
+mod rows;
+mod turned;
