@@ -9,7 +9,7 @@ use std::alloc::{AllocError, Global};
 use std::process::Abort;
 
 // How many items of each type are read.
-const ITEMS: u64 = 5_000;
+const ITEMS: u64 = 1_000;
 
 // Draws numbers by a linear congruential generator.
 #[derive(Drop)]

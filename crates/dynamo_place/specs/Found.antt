@@ -1,24 +1,28 @@
 -- The part of a value at a place.
-use Rattle.std.specs.Prelude.{ℕ, List, [], ◌∷◌, Option, Some, None, slice_get, string_bytes}
+use Rattle.std.specs.Prelude.{◌≡◌, ◌⊎◌, List, [], ◌∷◌, Option, Some, None, MatchOption, slice_get, string_bytes}
 use Rattle.std.specs.HashMap.{get_by_text}
+use Rattle.std.specs.declared.alloc.Global.{Global}
+use Rattle.std.specs.declared.vec.Vec.{Vec}
+use Rattle.dynamo_value.specs.Table.{Table}
+use Rattle.dynamo_value.specs.declared.attribute_value.AttributeValue as of
 use Rattle.dynamo_value.specs.declared.attribute_value.AttributeValue.{AttributeValue}
-use Rattle.dynamo_place.specs.declared.place.Step.{Step}
 use Rattle.dynamo_place.specs.declared.place.Place.{Place}
+use Rattle.dynamo_place.specs.declared.place.Step.{Step}
 
 abbrev pub steps_of : Place → List Step
 steps_of place = place.steps.items
 
--- one step: the attribute of this name of an `M`, or the element with this index of an `L`
-abbrev pub found_at : Step → AttributeValue → Option AttributeValue
-found_at (Step.Attribute name) (AttributeValue.M map) = get_by_text map (string_bytes name)
-found_at (Step.Element index) (AttributeValue.L values) = slice_get values.items index
-found_at _ _ = None
+-- one step: into the attribute of this name of an `M`, or into the element with this index of an `L`; no other value has such a part
+abbrev pub IsPart : Step → AttributeValue → Option AttributeValue → Type 0
+IsPart (Step.Attribute name) value part =
+    ((map : Table) × (value ≡ of.M map) × (part ≡ get_by_text map (string_bytes name)))
+    ⊎ (((map : Table) → value ≡ of.M map → ⊥) × (part ≡ None))
+IsPart (Step.Element index) value part =
+    ((values : Vec AttributeValue Global) × (value ≡ of.L values) × (part ≡ slice_get values.items index))
+    ⊎ (((values : Vec AttributeValue Global) → value ≡ of.L values → ⊥) × (part ≡ None))
 
--- the whole value, or the part at the other steps of the part at the first
-abbrev pub found : List Step → AttributeValue → Option AttributeValue
-
-abbrev pub found_in : List Step → Option AttributeValue → Option AttributeValue
-found [] value = Some value
-found (step ∷ steps) value = found_in steps (found_at step value)
-found_in steps None = None
-found_in steps (Some part) = found steps part
+-- the whole value at no steps, else what is at the other steps of the part at the first
+abbrev pub IsAt : List Step → AttributeValue → Option AttributeValue → Type 0
+IsAt [] value found = found ≡ Some value
+IsAt (step ∷ steps) value found =
+    (part : Option AttributeValue) × IsPart step value part × MatchOption part (found ≡ None) (λ inner. IsAt steps inner found)

@@ -1,5 +1,5 @@
-ghost use Rattle.std.specs.Prelude.{◌≡◌, option_map};
-ghost use Rattle.dynamo_place.specs.Found.{found, found_at, steps_of};
+ghost use Rattle.std.specs.Prelude.{◌≡◌, [], option_map};
+ghost use Rattle.dynamo_place.specs.Found.{IsAt, IsPart, steps_of};
 
 use dynamo_value::AttributeValue;
 use std::alloc::Global;
@@ -76,20 +76,26 @@ impl Place {
     /// assert!(rt; matches!(Place::new(alloc).find(&value), Some(AttributeValue::Bool(true))));
     /// ```
     pub fn find<'a>(&self, value: &'a AttributeValue) -> Option<&'a AttributeValue>
-        ensures { option_map (λ a. a.now) result ≡ found (steps_of self.now) value.now }
+        ensures { IsAt (steps_of self.now) value.now (option_map (λ a. a.now) result) }
     {
-        let mut part = value;
-        for step in self.steps.iter() {
-            part = step.find(part)?;
-        }
-        Some(part)
+        part_at(self.steps.as_slice(), value)
+    }
+}
+
+// The part of a value at these steps.
+fn part_at<'a>(steps: &[Step], value: &'a AttributeValue) -> Option<&'a AttributeValue>
+    ensures { IsAt steps.now value.now (option_map (λ a. a.now) result) }
+{
+    match steps {
+        [] => Some(value),
+        [step, rest @ ..] => part_at(rest, step.part_of(value)?),
     }
 }
 
 impl Step {
-    // Returns the part of a value at this step.
-    fn find<'a>(&self, value: &'a AttributeValue) -> Option<&'a AttributeValue>
-        ensures { option_map (λ a. a.now) result ≡ found_at self.now value.now }
+    // The part of a value at this step.
+    fn part_of<'a>(&self, value: &'a AttributeValue) -> Option<&'a AttributeValue>
+        ensures { IsPart self.now value.now (option_map (λ a. a.now) result) }
     {
         match (self, value) {
             (Step::Attribute(name), AttributeValue::M(map)) => map.get(name.as_str()),
