@@ -239,6 +239,21 @@
 //! assert_eq!(rt; error.to_string(alloc)?.as_str(), "missing field `id`");
 //! ```
 //!
+//! [`from_item_located`] and its namesakes return an error with its [`Place`], and are otherwise the
+//! same calls:
+//!
+//! ```rust
+//! use serde_dynamo::samples::User;
+//! use serde_dynamo::{DynamoJson, Item, from_item_located};
+//!
+//! let text = r#"{"id": {"S": "a"}, "name": {"S": "b"}, "age": {"S": "42"}}"#;
+//! let item = Item::from_json_text(alloc, text)?;
+//! let Err(error) = from_item_located::<User>(alloc, item) else {
+//!     anyhow::bail!("an age isn't a string");
+//! };
+//! assert_eq!(rt; error.to_string(alloc)?.as_str(), "age: Expected num");
+//! ```
+//!
 //! # Out of memory
 //!
 //! If memory runs out, no call panics or aborts. A call that allocates takes the allocator and
@@ -331,6 +346,10 @@ pub use dynamo_json::{
 pub use dynamo_leaf::{
     DeserializerBytes, DeserializerMapKey, DeserializerNumber, DeserializerSeqBytes,
     DeserializerSeqNumbers, DeserializerSeqStrings, StringDeserializer, is_float_text,
+};
+pub use dynamo_place::{
+    LocatedError, Place, Step, from_attribute_value_located, from_item_located,
+    from_item_ref_located, from_items_located,
 };
 pub use dynamo_read::{
     Deserializer, DeserializerEnum, DeserializerMap, DeserializerSeq, DeserializerVariant,
