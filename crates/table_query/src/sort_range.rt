@@ -31,7 +31,6 @@ impl SortCondition<'_> {
     /// # Errors
     ///
     /// [`AllocError`] if memory for the values at the ends of the range can't be allocated.
-    #[tactic(auto, using(crate::proofs::Meets::between_range))]
     pub(crate) fn range(self, alloc: Global) -> Result<Option<SortRange>, AllocError>
         ensures { IfOk result (λ range. MatchOption range (MeetsNone self.entry) (MeetsBetween self.entry)) }
     {
