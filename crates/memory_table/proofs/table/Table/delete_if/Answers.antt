@@ -27,12 +27,11 @@ invariant_of-self-in-None-get_mut c =
 pub returns-in-Some-get_mut-clause-deletes : goal.returns-in-Some-get_mut-clause-deletes
 returns-in-Some-get_mut-clause-deletes c =
     let there = c.in-Some-get_mut.ensures.value in
-    let item = c.in-Some-get_mut.field-0.now in
-    rw (c.in-NotExists.is, sym there)
-    (refl, stays c.args.self.now.items (c.get_mut.follows.lender item) c.args.key.now item (c.get_mut.follows.holds item) (sym there))
+    rw (c.in-NotExists.is, ← there)
+    (refl, stays c.args.self.now.items c.args.key.now _ c.get_mut.follows.lender c.get_mut.follows.holds there)
 
 pub returns-in-None-get_mut-clause-deletes : goal.returns-in-None-get_mut-clause-deletes
 returns-in-None-get_mut-clause-deletes c =
     let none = c.in-None-get_mut.ensures.value in
-    rw (c.in-NotExists.is, sym none)
+    rw (c.in-NotExists.is, ← none)
     (refl, none_taken c.args.self.now.items c.get_mut.follows.lender-at-none c.args.key.now c.get_mut.follows.holds-at-none (sym none))
