@@ -92,6 +92,7 @@ impl Table {
 
     // Puts an item under a key, its own, where the condition holds there, and returns the item that
     // was there.
+    #[tactic(auto, using(crate::proofs::HeldKeys::kept, crate::proofs::HeldKeys::inserted))]
     fn put_under(
         &mut self,
         condition: Condition,
@@ -155,6 +156,7 @@ impl Table {
     }
 
     /// Takes out the item under a key, where there is one.
+    #[tactic(auto, using(crate::proofs::HeldKeys::removed))]
     pub fn delete(&mut self, key: &Key) -> Option<Item>
         ensures before { result ≡ get key_cmp (items_of self.old) key.now }
         ensures updates { Updates key_cmp (items_of self.old) (items_of self.new) key.now None }
@@ -169,6 +171,7 @@ impl Table {
     /// # Errors
     ///
     /// `ConditionFailed` where the condition doesn't hold.
+    #[tactic(auto, using(crate::proofs::HeldKeys::removed))]
     pub fn delete_if(&mut self, condition: Condition, key: &Key) -> Result<Option<Item>, TableError>
         ensures deletes { DeletesIf condition key.now self.old self.new result }
         ensures ordered { OnOk result (IsOrdered key_cmp (items_of self.new)) }
@@ -196,6 +199,7 @@ impl Table {
     ///
     /// `NoItem` if the key has no item, the error of `change`, those of [`KeySchema::key_of`] of the changed item, and
     /// `KeyChanged` if that has another key. The table has then the items that it had.
+    #[tactic(auto, using(crate::proofs::HeldKeys::kept))]
     pub fn update<E: From<TableError>, F: FnOnce(&Item) -> Result<Item, E>>(
         &mut self,
         key: &Key,

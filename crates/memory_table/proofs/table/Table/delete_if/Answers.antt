@@ -4,25 +4,14 @@ use Rattle.memory_table.proofs.HeldKeys.{kept, removed}
 use Rattle.memory_table.proofs.Lent.{none_taken, stays}
 use Rattle.memory_table.proofs.table.Table.delete_if.Goals as goal
 
-pub invariant_of-self : goal.invariant_of-self
-invariant_of-self c =
-    record { held = removed c.args.self.now.items c.remove.new.self c.args.key.now c.remove.ensures.entries c.args.self.now.held }
-
-pub invariant_of-self-in-Exists : goal.invariant_of-self-in-Exists
-invariant_of-self-in-Exists c =
-    let removed_there = c.remove-in-Exists in
-    record { held = removed c.args.self.now.items removed_there.new.self c.args.key.now removed_there.ensures.entries c.args.self.now.held }
-
 pub invariant_of-self-in-Some-get_mut : goal.invariant_of-self-in-Some-get_mut
 invariant_of-self-in-Some-get_mut c =
-    let new = c.get_mut.follows in
     let item = c.in-Some-get_mut.field-0.now in
-    record { held = kept c.args.self.now.items (new.lender item) (new.holds item).1 c.args.self.now.held }
+    record { held = kept c.args.self.now.items (c.get_mut.follows.lender item) (c.get_mut.follows.holds item).1 c.args.self.now.held }
 
 pub invariant_of-self-in-None-get_mut : goal.invariant_of-self-in-None-get_mut
 invariant_of-self-in-None-get_mut c =
-    let new = c.get_mut.follows in
-    record { held = kept c.args.self.now.items new.lender-at-none (ap keys new.holds-at-none) c.args.self.now.held }
+    record { held = kept c.args.self.now.items c.get_mut.follows.lender-at-none (ap keys c.get_mut.follows.holds-at-none) c.args.self.now.held }
 
 pub returns-in-Some-get_mut-clause-deletes : goal.returns-in-Some-get_mut-clause-deletes
 returns-in-Some-get_mut-clause-deletes c =
