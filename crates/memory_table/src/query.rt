@@ -103,6 +103,7 @@ impl Table {
 
     /// Returns all items with their keys, each once, in the order of the keys. It reads page by
     /// page, each of at most `limit` items, and at least one.
+    #[tactic(auto, using(crate::proofs::Scans::rest_of_all))]
     pub fn scan_all(&self, alloc: Global, limit: usize) -> Result<Vec<(&Key, &Item)>, AllocError>
         ensures { IfOk result (λ all. seen all.items ≡ entries_of self.now) }
     {

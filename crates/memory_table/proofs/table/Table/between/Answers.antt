@@ -13,9 +13,6 @@ loop-key-init c =
       room = omega (arith, none);
     }
 
-pub loop-key-smaller : goal.loop-key-smaller
-loop-key-smaller c = omega (arith, ap length c.in-Some.ensures)
-
 pub loop-key-preserved : goal.loop-key-preserved
 loop-key-preserved c =
     let l = c.loop-key.invariant in

@@ -7,11 +7,6 @@ use Rattle.memory_table.proofs.Pages.{Entries, Lent, entry}
 use Rattle.memory_table.proofs.Scans.{page_left, page_none, rest_of_all}
 use Rattle.memory_table.proofs.table.Table.scan_all.Goals as goal
 
-pub loop-all-init : goal.loop-all-init
-loop-all-init c =
-    let es = entries_of c.args.self.now in
-    ap (λ (xs : Lent). seen xs ++ rest None es) c.in_ok-all.ensures.items ∙ rest_of_all es
-
 pub returns-in_default : goal.returns-in_default
 returns-in_default c =
     let es = entries_of c.args.self.now in
