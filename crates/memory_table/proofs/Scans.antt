@@ -2,7 +2,7 @@
 use Rattle.std.proofs.Common.{◌≡◌, ◌∙◌, ℕ, ◌<◌, [], ◌∷◌, ◌++◌, take, drop, length, Option, Some, None, Bor, Less}
 use Rattle.std.proofs.Common.{refl, sym, ap, subst, append_assoc, length-append, length-take, arith}
 use Rattle.std.proofs.lemmas.Cmp.{tied_itself}
-use Rattle.std.proofs.lemmas.List.{map-append, take-append-drop}
+use Rattle.std.proofs.lemmas.List.{length-map, map-append, take-append-drop}
 use Rattle.std.specs.List.{filter, AllByRecursion}
 use Rattle.std.specs.List.Sorted.{IsStrictlySortedBy}
 use Rattle.std.specs.Map.{keys_of}
@@ -53,9 +53,10 @@ page_left es read page front x start n sorted is last all =
     )
 
 -- an empty page is the end
-pub page_none : (xs : Entries) (n : ℕ) → 0 < n → length (take n xs) ≡ 0 → xs ≡ []
-page_none [] n h e = refl
-page_none (x ∷ xs) n h e = absurd (omega (arith, e, length-take n (x ∷ xs)))
+pub page_none : (xs : Entries) (n : ℕ) (page : Lent) → 0 < n → seen page ≡ take n xs → length page ≡ 0 → xs ≡ []
+page_none [] n page h is e = refl
+page_none (x ∷ xs) n page h is e =
+    absurd (omega (arith, e, ap length is, length-take n (x ∷ xs), length-map page entry))
 
 -- the first page begins with the first entry
 pub rest_of_all : (es : Entries) → rest None es ≡ es

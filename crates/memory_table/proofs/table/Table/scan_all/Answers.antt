@@ -9,16 +9,10 @@ use Rattle.memory_table.proofs.table.Table.scan_all.Goals as goal
 
 pub returns-in_default : goal.returns-in_default
 returns-in_default c =
-    let es = entries_of c.args.self.now in
-    let all = c.loop-all.all.items in
-    let page = c.in_ok-page.page.items in
-    let count : length (take c.max.result (rest c.loop-all.start es)) ≡ 0 =
-    ap length (sym c.in_ok-page.ensures) ∙ length-map page entry
-    ∙ ap length (sym c.as_slice.ensures.value) ∙ c.in_default.ensures.cases in
-    let limit = c.max.result in
-    let none = page_none (rest c.loop-all.start es) limit (omega (arith, c.max.ensures)) count in
-    sym (append-nil (seen all)) ∙ ap (λ (xs : Entries). seen all ++ xs) (sym none)
-    ∙ c.loop-all.invariant
+    let left = rest c.loop-all.start (entries_of c.args.self.now) in
+    let none = page_none left c.max.result c.in_ok-page.page.items (omega (arith, c.max.ensures)) c.in_ok-page.ensures
+    (ap length (sym c.as_slice.ensures.value) ∙ c.in_default.ensures.cases) in
+    sym (append-nil (seen c.loop-all.all.items)) ∙ rw none at c.loop-all.invariant
 
 pub loop-all-smaller : goal.loop-all-smaller
 loop-all-smaller c =
