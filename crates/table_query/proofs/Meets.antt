@@ -1,5 +1,5 @@
 -- The sort keys that meet a condition are those between two places.
-use Rattle.std.proofs.Common.{◌≡◌, Bool, true, false, not, Less, Greater, Option, Some, None, refl, arith}
+use Rattle.std.proofs.Common.{◌≡◌, Bool, true, false, not, Less, Equal, Greater, Option, Some, None, refl, arith}
 use Rattle.std.proofs.lemmas.Bool.Decides.{nat_tests}
 use Rattle.std.specs.Borrow.{Bor}
 use Rattle.std.specs.Option.{option_cmp}
@@ -12,6 +12,10 @@ use Rattle.table_query.specs.Places.{is_from}
 use Rattle.table_query.specs.Queries.{compared, meets_sort}
 use Rattle.table_query.specs.Ranges.{is_from_kind, is_past_kind}
 use Rattle.table_query.specs.declared.query.SortCondition.{SortCondition}
+
+-- equal values compare alike
+pub equal_values : (value other third : KeyValue) → value_cmp value other ≡ Equal → value_cmp value third ≡ value_cmp other third
+equal_values = value_total.congr
 
 -- how a value compares to a bound, by how the bound and its kind compare to the value
 compared_is : (b w : KeyValue)

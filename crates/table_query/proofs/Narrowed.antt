@@ -1,5 +1,5 @@
 -- A range that is narrowed by the key after which a query starts.
-use Rattle.std.proofs.Common.{◌≡◌, ◌∙◌, Bool, true, false, not, Ordering, Some, None, arith}
+use Rattle.std.proofs.Common.{◌≡◌, ◌∙◌, Bool, true, false, not, Ordering, Equal, Some, None, arith}
 use Rattle.std.proofs.lemmas.Cmp.{on_total, then_total, upto}
 use Rattle.std.specs.Borrow.{Bor}
 use Rattle.std.specs.Cmp.{IsTotalOrder, bool_cmp_total}
@@ -17,6 +17,10 @@ use Rattle.table_query.specs.declared.query.Query.{Query}
 place_total : IsTotalOrder place_cmp
 place_total =
     then_total (on_total (λ p. p.key) key_total) (on_total (λ p. p.is_behind) bool_cmp_total)
+
+-- equal keys compare alike
+pub equal_keys : (key other third : Key) → key_cmp key other ≡ Equal → key_cmp key third ≡ key_cmp other third
+equal_keys = key_total.congr
 
 module _ {K : Type 0} {R : K → K → Ordering} (total : IsTotalOrder R) (p q x : K) where
   le_max : is_le (R (ord_max R p q) x) ≡ (is_le (R p x) && is_le (R q x))
@@ -40,52 +44,28 @@ pub nothing_between : (low high : Place) (key : Key) → is_lt (place_cmp low hi
     → (is_from_place low key && not (is_from_place high key)) ≡ false
 nothing_between low high key h = rw (from_is low key, from_is high key) (none_between place_total low high (before key) h)
 
-from_max : (p q : Place) (key : Key)
+pub from_max : (p q : Place) (key : Key)
     → is_from_place (ord_max place_cmp p q) key ≡ (is_from_place p key && is_from_place q key)
 from_max p q key =
     rw (from_is (ord_max place_cmp p q) key, from_is p key, from_is q key) (le_max place_total p q (before key))
 
-from_min : (p q : Place) (key : Key)
+pub from_min : (p q : Place) (key : Key)
     → is_from_place (ord_min place_cmp p q) key ≡ (is_from_place p key || is_from_place q key)
 from_min p q key =
     rw (from_is (ord_min place_cmp p q) key, from_is p key, from_is q key) (le_min place_total p q (before key))
 
--- the place is just before the key, or just behind it
-abbrev pub IsAt : Bool → Key → Place → Type 0
-IsAt behind at place = (key : Key) → is_from_place place key ≡ is_from key_cmp behind at key
+pub both_and : (x y : Bool) → (x && y && true) ≡ (x && y)
+both_and x y = grind arith
 
-last_of : (x y z : Bool) → (x && y && z) ≡ ((x && z) && y)
+pub last_of : (x y z : Bool) → (x && y && z) ≡ ((x && z) && y)
 last_of x y z = grind arith
 
-neither : (x y : Bool) (o : Ordering) → (x && not y && is_lt (ordering_reverse o)) ≡ (x && not (y || is_le o))
+pub neither : (x y : Bool) (o : Ordering) → (x && not y && is_lt (ordering_reverse o)) ≡ (x && not (y || is_le o))
 neither x y o = grind arith
 
--- a range between two places that say what is found there
-pub by_places : (query : Query) (low high from_on up_to : Place)
-    → ((key : Key) → is_found_between query low high key ≡ (is_from_place from_on key && not (is_from_place up_to key)))
-    → (range : Option KeyRange)
-    → MatchOption range ((key : Key) → (is_from_place from_on key && not (is_from_place up_to key)) ≡ false)
-    (λ r. (r.low ≡ from_on) × (r.high ≡ up_to))
-    → MatchOption range ((key : Key) → is_found_between query low high key ≡ false)
-    (λ r. (key : Key) → is_found_between query low high key ≡ lies_between r key)
-by_places query low high from_on up_to found None none = λ key. found key ∙ none key
-by_places query low high from_on up_to found (Some r) is = λ key. rw (is.0, is.1) (found key)
-
-module _ (query : Query) (low high place : Place) (start : Bor Key) where
-  -- backward, what is found lies before the start
-  pub backward_found : query.backward ≡ true → query.start_after ≡ Some start → IsAt false start.now place
-      → (key : Key) → is_found_between query low high key
-      ≡ (is_from_place low key && not (is_from_place (ord_min place_cmp high place) key))
-  backward_found e f is key = rw (e, f, from_min high place key, is key, key_total.antisymm key start.now)
-      (neither (is_from_place low key) (is_from_place high key) (key_cmp start.now key))
-
-  -- forward, what is found lies behind the start
-  pub forward_found : query.backward ≡ false → query.start_after ≡ Some start → IsAt true start.now place
-      → (key : Key) → is_found_between query low high key
-      ≡ (is_from_place (ord_max place_cmp low place) key && not (is_from_place high key))
-  forward_found e f is key = rw (e, f, from_max low place key, is key)
-      (last_of (is_from_place low key) (not (is_from_place high key)) (is_lt (key_cmp start.now key)))
-
-pub unnarrowed : (query : Query) (low high : Place) → query.start_after ≡ None → (key : Key)
-    → is_found_between query low high key ≡ (is_from_place low key && not (is_from_place high key))
-unnarrowed query low high e key = rw e (grind arith)
+-- a range is that of a test where it is that of one which is alike
+pub alike : (found between : Key → Bool) → ((key : Key) → found key ≡ between key) → (range : Option KeyRange)
+    → MatchOption range ((key : Key) → between key ≡ false) (λ r. (key : Key) → between key ≡ lies_between r key)
+    → MatchOption range ((key : Key) → found key ≡ false) (λ r. (key : Key) → found key ≡ lies_between r key)
+alike found between same None none = λ key. same key ∙ none key
+alike found between same (Some r) is = λ key. same key ∙ is key

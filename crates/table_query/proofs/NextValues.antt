@@ -16,14 +16,6 @@ pub zero_added : (xs ys : List ℕ) → is_lt (text_cmp xs ys) ≡ is_le (text_c
 zero_added (x ∷ xs) (y ∷ ys) = let rest = zero_added xs ys in grind arith
 zero_added xs ys = grind (arith, nat_tests, empty_first)
 
-pub next_text : (text next : String Global) → string_bytes next ≡ string_bytes text ++ 0 ∷ []
-    → IsNextValue (KeyValue.S text) (KeyValue.S next)
-next_text text next is other held = grind (arith, zero_added)
-
-pub next_bytes : (bytes next : Vec ℕ Global) → next.items ≡ bytes.items ++ 0 ∷ []
-    → IsNextValue (KeyValue.B bytes) (KeyValue.B next)
-next_bytes bytes next is other held = grind (arith, zero_added)
-
 pub next_number : (z next : ℤ) → IsNext z next → IsNextValue (KeyValue.N z) (KeyValue.N next)
 next_number z next is (KeyValue.N w) held = grind (arith, is.is_above, is.is_least w held,
     int_cmp_total.trans z next w, alike_right int_cmp_total next w z)

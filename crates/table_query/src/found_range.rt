@@ -85,10 +85,11 @@ impl Query<'_> {
 
 impl KeyRange {
     // Returns the range between two places, or `None` if no key lies between them.
+    #[tactic(auto, using(crate::proofs::Narrowed::nothing_between))]
     fn between(low: Place, high: Place) -> Option<KeyRange>
         ensures { MatchOption result
             ((key : Key) → (is_from_place low key && not (is_from_place high key)) ≡ false)
-            (λ range. (range.low ≡ low) × (range.high ≡ high)) }
+            (λ range. (key : Key) → (is_from_place low key && not (is_from_place high key)) ≡ lies_between range key) }
     {
         if low.cmp(&high).is_lt() {
             Some(KeyRange { low, high })
@@ -118,6 +119,7 @@ impl KeyRange {
 // Returns the value that comes next to a value, so that none lies between them: a string or a byte
 // string with a zero byte added, and the next number. Behind the greatest number come the byte
 // strings.
+#[tactic(auto, using(crate::proofs::NextValues::zero_added))]
 fn next_value(alloc: Global, value: &KeyValue) -> Result<KeyValue, AllocError>
     ensures { IfOk result (IsNextValue value.now) }
 {

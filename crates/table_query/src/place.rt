@@ -18,6 +18,7 @@ pub struct Place {
 
 impl Place {
     // Returns the place before a copy of the key, or behind it.
+    #[tactic(auto, using(crate::proofs::Narrowed::equal_keys))]
     pub(crate) fn at(key: &Key, is_behind: bool) -> Result<Place, AllocError>
         ensures { IfOk result (λ place. (other : Key)
             → is_from_place place other ≡ is_from key_cmp is_behind key.now other) }

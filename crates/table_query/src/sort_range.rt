@@ -122,6 +122,7 @@ impl SortPlace {
     }
 
     // Returns the place just before a value, or just behind it.
+    #[tactic(auto, using(crate::proofs::Meets::equal_values))]
     fn at(value: &KeyValue, is_behind: bool) -> Result<SortPlace, AllocError>
         ensures { IfOk result (IsPlaceAt is_behind value.now) }
     {
