@@ -1,5 +1,5 @@
 -- The keys of a table are held, so that a query finds those of a range.
-use Rattle.std.proofs.Common.{◌≡◌, ◌∙◌, Bool, true, false, [], ◌∷◌, take, refl, sym, arith}
+use Rattle.std.proofs.Common.{◌≡◌, ◌∙◌, Bool, true, false, [], ◌∷◌, take, refl, sym}
 use Rattle.std.proofs.Math.Logic.{∥∥₁_elim}
 use Rattle.std.proofs.Math.Seq.{take-nil}
 use Rattle.std.proofs.lemmas.List.Elements.{All-head, All-tail}
@@ -25,8 +25,10 @@ alike p q es h held = go es (λ n d l. ∥∥₁_elim held (Coded-set coded_bool
   where
     go : (es : Entries) → All (λ k. p k ≡ q k) (keys_of es) → filter (λ e. p e.0) es ≡ filter (λ e. q e.0) es
     go [] all = refl
-    go (e ∷ es) all = rw (All-head (λ k. p k ≡ q k) e.0 (keys_of es) all,
-        go es (All-tail (λ k. p k ≡ q k) e.0 (keys_of es) all))
+    go (e ∷ es) all = rw (
+      All-head (λ k. p k ≡ q k) e.0 (keys_of es) all,
+      go es (All-tail (λ k. p k ≡ q k) e.0 (keys_of es) all),
+    )
 
 nothing : (es : Entries) → filter (λ e. false) es ≡ []
 nothing [] = refl

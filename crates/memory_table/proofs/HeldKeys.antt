@@ -1,16 +1,15 @@
 -- The keys of a table stay held through its changes.
-use Rattle.std.proofs.Common.{◌≡◌, Bool, true, false, if◌then◌else◌, Option, Some, None, Result, Ok, Err, IfOk, OnOk, OnErr, MatchOption, ap}
+use Rattle.std.proofs.Common.{◌≡◌, Bool, Result, Ok, Err, OnOk, OnErr, ap}
 use Rattle.std.proofs.lemmas.List.Elements.{All-same}
 use Rattle.std.proofs.lemmas.Map.Views.{All-keys-insert_entry, All-map-remove_entry}
 use Rattle.std.proofs.Math.Logic.{∥∥₁_map}
-use Rattle.std.specs.BTreeMap.{BTreeMap, IsUnchanged, get, insert_entry, is_at, keys}
+use Rattle.std.specs.BTreeMap.{BTreeMap, IsUnchanged, insert_entry, keys}
 use Rattle.std.specs.List.{All}
 use Rattle.std.specs.Map.{keys_of, remove_entry}
 use Rattle.dynamo_value.specs.declared.item.Item.{Item}
 use Rattle.table_key.specs.Held.{IsHeldKey}
 use Rattle.table_key.specs.KeyOrder.{key_cmp}
 use Rattle.table_key.specs.declared.key.Key.{Key}
-use Rattle.memory_table.specs.Places.{Stays, TakesPlace}
 
 abbrev pub AreHeld : BTreeMap Key Item → Type 0
 AreHeld items = ∥ All IsHeldKey (keys items) ∥₁

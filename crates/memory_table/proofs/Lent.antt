@@ -1,5 +1,5 @@
 -- What a map has after the item under a key was lent.
-use Rattle.std.proofs.Common.{◌≡◌, ◌∙◌, Bool, false, Some, None, Ordering, Equal, refl, sym, ap, subst, arith}
+use Rattle.std.proofs.Common.{◌≡◌, ◌∙◌, false, Some, None, Ordering, Equal, refl, sym, ap, subst, arith}
 use Rattle.std.proofs.lemmas.Map.Steps.{set_value_same}
 use Rattle.std.specs.BTreeMap.{BTreeMap, Updates, UpdatesBy, WritesThrough, get, get_by, is_at}
 use Rattle.std.specs.Map.{KeepsOthers}

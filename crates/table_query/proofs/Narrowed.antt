@@ -1,18 +1,16 @@
 -- A range that is narrowed by the key after which a query starts.
 use Rattle.std.proofs.Common.{◌≡◌, ◌∙◌, Bool, true, false, not, Ordering, Equal, Some, None, arith}
 use Rattle.std.proofs.lemmas.Cmp.{on_total, then_total, upto}
-use Rattle.std.specs.Borrow.{Bor}
 use Rattle.std.specs.Cmp.{IsTotalOrder, bool_cmp_total}
 use Rattle.std.specs.Ordering.{is_le, is_lt, ord_max, ord_min, ordering_reverse}
 use Rattle.std.specs.Prelude.{◌&&◌, ◌||◌, MatchOption, Option}
 use Rattle.table_key.specs.KeyLaws.{key_total}
 use Rattle.table_key.specs.KeyOrder.{key_cmp}
 use Rattle.table_key.specs.declared.key.Key.{Key}
-use Rattle.table_query.specs.Places.{is_from, is_from_place, place_cmp}
-use Rattle.table_query.specs.Ranges.{is_found_between, lies_between}
+use Rattle.table_query.specs.Places.{is_from_place, place_cmp}
+use Rattle.table_query.specs.Ranges.{lies_between}
 use Rattle.table_query.specs.declared.key_range.KeyRange.{KeyRange}
 use Rattle.table_query.specs.declared.place.Place.{Place}
-use Rattle.table_query.specs.declared.query.Query.{Query}
 
 place_total : IsTotalOrder place_cmp
 place_total =

@@ -1,8 +1,8 @@
 -- Which value comes next to another.
-use Rattle.std.proofs.Common.{◌≡◌, ℕ, ℤ, true, List, [], ◌∷◌, ◌++◌, Less, String, Vec, Global, string_bytes, arith}
+use Rattle.std.proofs.Common.{◌≡◌, ℕ, ℤ, true, List, [], ◌∷◌, ◌++◌, Vec, Global, arith}
 use Rattle.std.proofs.lemmas.Bool.Decides.{nat_tests}
 use Rattle.std.proofs.lemmas.Cmp.{alike_right, int_cmp_total}
-use Rattle.std.specs.Ordering.{int_cmp, is_le, is_lt}
+use Rattle.std.specs.Ordering.{is_le, is_lt}
 use Rattle.dynamo_number.specs.Neighbours.{IsGreatest, IsNext}
 use Rattle.dynamo_value.specs.View.{text_cmp}
 use Rattle.table_key.specs.declared.key.KeyValue.{KeyValue}
@@ -17,8 +17,13 @@ zero_added (x ∷ xs) (y ∷ ys) = let rest = zero_added xs ys in grind arith
 zero_added xs ys = grind (arith, nat_tests, empty_first)
 
 pub next_number : (z next : ℤ) → IsNext z next → IsNextValue (KeyValue.N z) (KeyValue.N next)
-next_number z next is (KeyValue.N w) held = grind (arith, is.is_above, is.is_least w held,
-    int_cmp_total.trans z next w, alike_right int_cmp_total next w z)
+next_number z next is (KeyValue.N w) held = grind (
+  arith,
+  is.is_above,
+  is.is_least w held,
+  int_cmp_total.trans z next w,
+  alike_right int_cmp_total next w z,
+)
 next_number z next is other held = grind arith
 
 -- behind the greatest number come the byte strings

@@ -42,5 +42,8 @@ text_up_to prefix before greatest c d is all less next list text =
 pub text_to_last : (prefix greatest : List ℕ) → prefix ≡ encodes greatest → All (λ x. x ≡ 1114111) greatest
     → BeginsUpTo IsUtf8 prefix None
 text_to_last prefix greatest is all list text =
-    rw (is, ← text.1.1, encodes_has, encodes_cmp) (grind (arith, from_greatest 1114111 greatest text.0 all
-    (all_scalars (λ x. x ≤ 1114111) (λ x h. omega (arith, scalar_cases x h)) text.0 text.1.0)))
+    rw (is, ← text.1.1, encodes_has, encodes_cmp) (grind (
+      arith,
+      from_greatest 1114111 greatest text.0 all
+          (all_scalars (λ x. x ≤ 1114111) (λ x h. omega (arith, scalar_cases x h)) text.0 text.1.0),
+    ))

@@ -1,4 +1,4 @@
-use Rattle.std.proofs.Common.{◌≡◌, ◌∙◌, ◌-◌, ◌<◌, [], ◌∷◌, ◌++◌, length, take, refl, ap, sym, arith, vec_len}
+use Rattle.std.proofs.Common.{◌≡◌, ◌∙◌, ◌-◌, ◌<◌, [], ◌∷◌, ◌++◌, take, refl, ap, sym, arith, vec_len}
 use Rattle.std.proofs.lemmas.Slice.{pushed}
 use Rattle.table_query.specs.Queries.{in_direction, seen}
 use Rattle.memory_table.proofs.Pages.{Entries, one_more}

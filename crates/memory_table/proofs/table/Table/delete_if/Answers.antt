@@ -1,6 +1,6 @@
 use Rattle.std.proofs.Common.{refl, sym, ap}
 use Rattle.std.specs.BTreeMap.{keys}
-use Rattle.memory_table.proofs.HeldKeys.{kept, removed}
+use Rattle.memory_table.proofs.HeldKeys.{kept}
 use Rattle.memory_table.proofs.Lent.{none_taken, stays}
 use Rattle.memory_table.proofs.table.Table.delete_if.Goals as goal
 

@@ -1,4 +1,4 @@
-use Rattle.std.proofs.Common.{◌≡◌, ◌∙◌, reverse, if◌then◌else◌, arith}
+use Rattle.std.proofs.Common.{◌≡◌, reverse, if◌then◌else◌, arith}
 use Rattle.memory_table.specs.Content.{entries_of}
 use Rattle.memory_table.proofs.Pages.{answered}
 use Rattle.memory_table.proofs.table.Table.found_among_few.Goals.{then-query, else-query}

@@ -1,10 +1,10 @@
-use Rattle.std.proofs.Common.{◌≡◌, ◌∙◌, ◌++◌, length, take, refl, sym, ap, arith, Some, None}
-use Rattle.std.proofs.lemmas.List.{map-append, append-nil, length-map}
+use Rattle.std.proofs.Common.{◌∙◌, ◌++◌, length, refl, sym, ap, arith, Some}
+use Rattle.std.proofs.lemmas.List.{map-append, append-nil}
 use Rattle.std.proofs.lemmas.Slice.{pushed}
 use Rattle.memory_table.specs.Content.{entries_of}
 use Rattle.table_query.specs.Queries.{rest, seen}
-use Rattle.memory_table.proofs.Pages.{Entries, Lent, entry}
-use Rattle.memory_table.proofs.Scans.{page_left, page_none, rest_of_all}
+use Rattle.memory_table.proofs.Pages.{Entries, entry}
+use Rattle.memory_table.proofs.Scans.{page_left, page_none}
 use Rattle.memory_table.proofs.table.Table.scan_all.Goals as goal
 
 pub returns-in_default : goal.returns-in_default

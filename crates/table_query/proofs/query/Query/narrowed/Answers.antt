@@ -1,4 +1,4 @@
-use Rattle.std.proofs.Common.{not, arith}
+use Rattle.std.proofs.Common.{not}
 use Rattle.std.specs.Ordering.{is_lt, ord_max, ord_min}
 use Rattle.std.specs.Prelude.{◌&&◌}
 use Rattle.table_key.specs.KeyLaws.{key_total}
