@@ -12,19 +12,23 @@ use Rattle.table_key.specs.declared.key.KeyValue.{KeyValue}
 use Rattle.key_bytes.specs.Bytes.{IsKeyBytes, IsSortBytes, IsValueBytes}
 use Rattle.key_bytes.specs.declared.bytes.KeyBytes.{KeyBytes}
 
-pub values : (a b : KeyValue) (x y : List ℕ) → IsValueBytes a x → IsValueBytes b y → text_cmp x y ≡ value_cmp a b
+pub values : (a b : KeyValue) (x y : List ℕ) → IsValueBytes a x → IsValueBytes b y
+    → text_cmp x y ≡ value_cmp a b
 values (KeyValue.N m) (KeyValue.N n) x y h g = rw (h.2, g.2) (in_order m n h.0 g.0 h.1 g.1)
 values a b x y h g = grind arith
 
-pub sorts : (a b : Option KeyValue) (x y : List ℕ) → IsSortBytes a x → IsSortBytes b y → text_cmp x y ≡ option_cmp value_cmp a b
+pub sorts : (a b : Option KeyValue) (x y : List ℕ) → IsSortBytes a x → IsSortBytes b y
+    → text_cmp x y ≡ option_cmp value_cmp a b
 sorts (Some v) (Some w) x y h g = values v w x y h g
 sorts a b x y h g = grind arith
 
 pub keys : (a b : Key) (x y : KeyBytes) → IsKeyBytes a x → IsKeyBytes b y
-    → ordering_then (text_cmp x.partition.items y.partition.items) (text_cmp x.sort.items y.sort.items) ≡ key_cmp a b
+    → ordering_then (text_cmp x.partition.items y.partition.items)
+    (text_cmp x.sort.items y.sort.items) ≡ key_cmp a b
 keys a b x y h g =
     rw (values a.partition b.partition _ _ h.0 g.0, sorts a.sort b.sort _ _ h.1 g.1)
 
-pub same : (a b : KeyValue) (x y : List ℕ) → IsValueBytes a x → IsValueBytes b y → value_cmp a b ≡ Equal → x ≡ y
+pub same : (a b : KeyValue) (x y : List ℕ) → IsValueBytes a x → IsValueBytes b y
+    → value_cmp a b ≡ Equal → x ≡ y
 same a b x y h g equal =
     (bytes_eq-Decides x y).0 (sym (is_eq-slice_cmp x y) ∙ ap is_eq (values a b x y h g ∙ equal))

@@ -19,11 +19,14 @@ use Rattle.table_query.specs.declared.query.Query.{Query}
 use Rattle.memory_table.proofs.Pages.{Entries}
 
 -- two tests that agree on held keys let the same entries of a table through
-alike : (p q : Key → Bool) (es : Entries) → ((k : Key) → IsHeldKey k → p k ≡ q k) → ∥ All IsHeldKey (keys_of es) ∥₁
+alike : (p q : Key → Bool) (es : Entries) → ((k : Key) → IsHeldKey k → p k ≡ q k)
+    → ∥ All IsHeldKey (keys_of es) ∥₁
     → filter (λ e. p e.0) es ≡ filter (λ e. q e.0) es
-alike p q es h held = go es (λ n d l. ∥∥₁_elim held (Coded-set coded_bool _ _) (λ all. h _ (all n d l)))
+alike p q es h held =
+    go es (λ n d l. ∥∥₁_elim held (Coded-set coded_bool _ _) (λ all. h _ (all n d l)))
   where
-    go : (es : Entries) → All (λ k. p k ≡ q k) (keys_of es) → filter (λ e. p e.0) es ≡ filter (λ e. q e.0) es
+    go : (es : Entries) → All (λ k. p k ≡ q k) (keys_of es)
+        → filter (λ e. p e.0) es ≡ filter (λ e. q e.0) es
     go [] all = refl
     go (e ∷ es) all = rw (
       All-head (λ k. p k ≡ q k) e.0 (keys_of es) all,
@@ -34,7 +37,8 @@ nothing : (es : Entries) → filter (λ e. false) es ≡ []
 nothing [] = refl
 nothing (e ∷ es) = nothing es
 
-pub answer_none : (query : Query) (es : Entries) → FindsNone query → ∥ All IsHeldKey (keys_of es) ∥₁ → answer query es ≡ []
+pub answer_none : (query : Query) (es : Entries) → FindsNone query
+    → ∥ All IsHeldKey (keys_of es) ∥₁ → answer query es ≡ []
 answer_none query es none held =
     rw (alike (finds query) (λ k. false) es none held, nothing es) (empty query.backward)
   where
@@ -44,8 +48,11 @@ answer_none query es none held =
 
 -- of the items between the bounds of its range, those that the query answers
 pub answer_between : (query : Query) (range : KeyRange) (low high : Bound Key) (es : Entries)
-    → FindsBetween query range → ((key : Key) → range_contains key_cmp low high key ≡ lies_between range key)
+    → FindsBetween query range
+    → ((key : Key) → range_contains key_cmp low high key ≡ lies_between range key)
     → ∥ All IsHeldKey (keys_of es) ∥₁
-    → take query.limit (in_direction query.backward (entries_between key_cmp low high es)) ≡ answer query es
+    → take query.limit (in_direction query.backward (entries_between key_cmp low high es))
+    ≡ answer query es
 answer_between query range low high es finds_them bounds held =
-    rw (alike (finds query) (range_contains key_cmp low high) es (λ k h. finds_them k h ∙ sym (bounds k)) held) refl
+    rw (alike (finds query) (range_contains key_cmp low high) es
+    (λ k h. finds_them k h ∙ sym (bounds k)) held) refl

@@ -1,5 +1,6 @@
 -- What a map has after the item under a key was lent.
-use Rattle.std.proofs.Common.{◌≡◌, ◌∙◌, false, Some, None, Ordering, Equal, refl, sym, ap, subst, arith}
+use Rattle.std.proofs.Common.{◌≡◌, ◌∙◌, false, Some, None, Ordering, Equal, refl, sym, ap, subst}
+use Rattle.std.proofs.Common.{arith}
 use Rattle.std.proofs.lemmas.Map.Steps.{set_value_same}
 use Rattle.std.specs.BTreeMap.{BTreeMap, Updates, UpdatesBy, WritesThrough, get, get_by, is_at}
 use Rattle.std.specs.Map.{KeepsOthers}
@@ -33,15 +34,18 @@ same_key o e = grind arith
 
 -- the item under a key is lent, and ends as one that is written
 module _ (old : BTreeMap Key Item) (key : Key) (item : Item) (new : Item → BTreeMap Key Item)
-    (ends : (other : Item) → WritesThrough key_cmp (key_cmp key) old other (new other)) (there : Some item ≡ get key_cmp old key) where
+    (ends : (other : Item) → WritesThrough key_cmp (key_cmp key) old other (new other))
+    (there : Some item ≡ get key_cmp old key) where
   -- an item that wasn't written stays
   pub stays : (new item).entries ≡ old.entries
   stays = (ends item).0 ∙ set_value_same (is_at (key_cmp key)) old.entries item (sym there)
 
   -- one that was takes its place
-  pub in_place : (own : Key) (other : Item) → false ≡ is_ne (key_cmp own key) → Updates key_cmp old (new other) own (Some other)
+  pub in_place : (own : Key) (other : Item) → false ≡ is_ne (key_cmp own key)
+      → Updates key_cmp old (new other) own (Some other)
   in_place own other same =
-      under_equal old (new other) key own other ((ends other).3 (ap is_some (sym there))) (same_key (key_cmp own key) same)
+      under_equal old (new other) key own other ((ends other).3 (ap is_some (sym there)))
+      (same_key (key_cmp own key) same)
 
 -- taking out what isn't there changes nothing
 pub none_taken : (old new : BTreeMap Key Item) (key : Key) → new ≡ old

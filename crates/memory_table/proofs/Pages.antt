@@ -1,6 +1,7 @@
 -- What the loops of a query and of a scan found, as entries of the table.
 use Rattle.std.proofs.Common.{◌≡◌, Bool, true, false, if◌then◌else◌, ℕ, ◌+◌, ◌-◌, ◌<◌}
-use Rattle.std.proofs.Common.{List, [], ◌∷◌, ◌++◌, take, reverse, Bor, refl, append_assoc, arith, suc}
+use Rattle.std.proofs.Common.{List, [], ◌∷◌, ◌++◌, take, reverse, Bor, refl, append_assoc, arith}
+use Rattle.std.proofs.Common.{suc}
 use Rattle.std.proofs.lemmas.List.{append-nil, map-append, take-map}
 use Rattle.std.specs.List.{filter}
 use Rattle.std.specs.List.Sorted.{IsStrictlySortedBy}
@@ -50,4 +51,5 @@ pub one_more : (found more : Lent) (x : Bor Key × Bor Item) (left : Entries) (m
     → seen more ++ take (m - k) left ≡ seen found ++ take (m - n) (entry x ∷ left)
 one_more found more x left m n k is count h =
     let one : m - n ≡ suc (m - k) = omega arith in
-    rw (one, is, map-append entry found (x ∷ [])) (append_assoc (seen found) (entry x ∷ []) (take (m - k) left))
+    rw (one, is, map-append entry found (x ∷ []))
+    (append_assoc (seen found) (entry x ∷ []) (take (m - k) left))

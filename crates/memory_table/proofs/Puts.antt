@@ -15,7 +15,8 @@ use Rattle.memory_table.specs.declared.table.Table.{Table}
 use Rattle.memory_table.proofs.Lent.{same_item, under_equal}
 
 -- a map of the same entries was updated alike
-pub same_put : (old mid new : BTreeMap Key Item) (key : Key) (item : Item) → new.entries ≡ mid.entries
+pub same_put : (old mid new : BTreeMap Key Item) (key : Key) (item : Item)
+    → new.entries ≡ mid.entries
     → Updates key_cmp old mid key (Some item) → IsPut key item old new
 same_put old mid new key item is updates = record { updates = rw is updates }
 
@@ -30,7 +31,9 @@ pub went_through : (condition : Condition) (key copy : Key) (item : Item) (old n
     → (holds condition (is_some (get key_cmp (items_of old) copy)) ≡ true)
     × Updates key_cmp (items_of old) (items_of new) copy (Some item)
 went_through condition key copy item old new before puts equal =
-    let went = at_true (holds condition (is_some (get key_cmp (items_of old) key))) puts (λ refused. cc (refused.0)) in (
-      ap (λ (there : Option Item). holds condition (is_some there)) (same_item (items_of old) key copy equal) ∙ went.0,
+    let went = at_true (holds condition (is_some (get key_cmp (items_of old) key))) puts
+    (λ refused. cc (refused.0)) in (
+      ap (λ (there : Option Item). holds condition (is_some there))
+          (same_item (items_of old) key copy equal) ∙ went.0,
       under_equal (items_of old) (items_of new) key copy item went.1.1 equal,
     )

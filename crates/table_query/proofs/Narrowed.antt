@@ -17,7 +17,8 @@ place_total =
     then_total (on_total (λ p. p.key) key_total) (on_total (λ p. p.is_behind) bool_cmp_total)
 
 -- equal keys compare alike
-pub equal_keys : (key other third : Key) → key_cmp key other ≡ Equal → key_cmp key third ≡ key_cmp other third
+pub equal_keys : (key other third : Key) → key_cmp key other ≡ Equal
+    → key_cmp key third ≡ key_cmp other third
 equal_keys = key_total.congr
 
 module _ {K : Type 0} {R : K → K → Ordering} (total : IsTotalOrder R) (p q x : K) where
@@ -40,17 +41,20 @@ from_is p key = grind arith
 
 pub nothing_between : (low high : Place) (key : Key) → is_lt (place_cmp low high) ≡ false
     → (is_from_place low key && not (is_from_place high key)) ≡ false
-nothing_between low high key h = rw (from_is low key, from_is high key) (none_between place_total low high (before key) h)
+nothing_between low high key h = rw (from_is low key, from_is high key)
+    (none_between place_total low high (before key) h)
 
 pub from_max : (p q : Place) (key : Key)
     → is_from_place (ord_max place_cmp p q) key ≡ (is_from_place p key && is_from_place q key)
 from_max p q key =
-    rw (from_is (ord_max place_cmp p q) key, from_is p key, from_is q key) (le_max place_total p q (before key))
+    rw (from_is (ord_max place_cmp p q) key, from_is p key, from_is q key)
+    (le_max place_total p q (before key))
 
 pub from_min : (p q : Place) (key : Key)
     → is_from_place (ord_min place_cmp p q) key ≡ (is_from_place p key || is_from_place q key)
 from_min p q key =
-    rw (from_is (ord_min place_cmp p q) key, from_is p key, from_is q key) (le_min place_total p q (before key))
+    rw (from_is (ord_min place_cmp p q) key, from_is p key, from_is q key)
+    (le_min place_total p q (before key))
 
 pub both_and : (x y : Bool) → (x && y && true) ≡ (x && y)
 both_and x y = grind arith
@@ -58,12 +62,16 @@ both_and x y = grind arith
 pub last_of : (x y z : Bool) → (x && y && z) ≡ ((x && z) && y)
 last_of x y z = grind arith
 
-pub neither : (x y : Bool) (o : Ordering) → (x && not y && is_lt (ordering_reverse o)) ≡ (x && not (y || is_le o))
+pub neither : (x y : Bool) (o : Ordering) → (x && not y && is_lt (ordering_reverse o))
+    ≡ (x && not (y || is_le o))
 neither x y o = grind arith
 
 -- a range is that of a test where it is that of one which is alike
-pub alike : (found between : Key → Bool) → ((key : Key) → found key ≡ between key) → (range : Option KeyRange)
-    → MatchOption range ((key : Key) → between key ≡ false) (λ r. (key : Key) → between key ≡ lies_between r key)
-    → MatchOption range ((key : Key) → found key ≡ false) (λ r. (key : Key) → found key ≡ lies_between r key)
+pub alike : (found between : Key → Bool) → ((key : Key) → found key ≡ between key)
+    → (range : Option KeyRange)
+    → MatchOption range ((key : Key) → between key ≡ false)
+    (λ r. (key : Key) → between key ≡ lies_between r key)
+    → MatchOption range ((key : Key) → found key ≡ false)
+    (λ r. (key : Key) → found key ≡ lies_between r key)
 alike found between same None none = λ key. same key ∙ none key
 alike found between same (Some r) is = λ key. same key ∙ is key

@@ -15,8 +15,14 @@ module _ (m : ℕ) where
   pub from_greatest : (ms xs : List ℕ) → All (λ x. x ≡ m) ms → All (λ x. x ≤ m) xs
       → has xs ms ≡ is_le (text_cmp ms xs)
   from_greatest (c ∷ ms) (x ∷ xs) greatest small =
-      let rest = from_greatest ms xs (All-tail (λ y. y ≡ m) c ms greatest) (All-tail (λ y. y ≤ m) x xs small) in
-      grind (arith, nat_tests, All-head (λ y. y ≡ m) c ms greatest, All-head (λ y. y ≤ m) x xs small)
+      let rest = from_greatest ms xs (All-tail (λ y. y ≡ m) c ms greatest)
+      (All-tail (λ y. y ≤ m) x xs small) in
+      grind (
+        arith,
+        nat_tests,
+        All-head (λ y. y ≡ m) c ms greatest,
+        All-head (λ y. y ≤ m) x xs small,
+      )
   from_greatest ms xs greatest small = grind (arith, nat_tests)
 
   module _ (c d : ℕ) (c<d : c < d) where
@@ -32,5 +38,6 @@ module _ (m : ℕ) where
         let rest = from_greatest ms xs greatest (λ k e l. (All-tail IsApart x xs apart k e l).0) in
         grind (arith, nat_tests, All-head IsApart x xs apart)
     from_last (p ∷ before) ms (x ∷ xs) greatest apart =
-        let rest = from_last before ms xs greatest (All-tail IsApart x xs apart) in grind (arith, nat_tests)
+        let rest = from_last before ms xs greatest (All-tail IsApart x xs apart) in
+        grind (arith, nat_tests)
     from_last before ms xs greatest apart = grind (arith, nat_tests)

@@ -1,4 +1,5 @@
-use Rattle.std.proofs.Common.{◌≡◌, ◌∙◌, ◌-◌, ◌<◌, [], ◌∷◌, ◌++◌, take, refl, ap, sym, arith, vec_len}
+use Rattle.std.proofs.Common.{◌≡◌, ◌∙◌, ◌-◌, ◌<◌, [], ◌∷◌, ◌++◌, take, refl, ap, sym, arith}
+use Rattle.std.proofs.Common.{vec_len}
 use Rattle.std.proofs.lemmas.Slice.{pushed}
 use Rattle.table_query.specs.Queries.{in_direction, seen}
 use Rattle.memory_table.proofs.Pages.{Entries, one_more}
@@ -18,11 +19,15 @@ loop-key-preserved c =
     let l = c.loop-key.invariant in
     let page = c.loop-key.page in
     let left : Entries = in_direction c.args.backward c.next_of.new.left in
-    let items = pushed ((c.in-Some.key, c.in-Some.item) ∷ []) refl c.in_ok-push.was c.push.ensures.items in
+    let items = pushed ((c.in-Some.key, c.in-Some.item) ∷ []) refl c.in_ok-push.was
+    c.push.ensures.items in
     let count = c.in_ok-push.ensures.len in
-    let room : vec_len page < c.args.limit = omega (arith, l.room, c.len.ensures, c.if-len-limit.false) in
+    let room : vec_len page < c.args.limit =
+    omega (arith, l.room, c.len.ensures, c.if-len-limit.false) in
     record {
-      all = one_more page.items c.push.new.self.items (c.in-Some.key, c.in-Some.item) left c.args.limit (vec_len page) _ items count
-          room ∙ ap (λ (es : Entries). seen page.items ++ take (c.args.limit - vec_len page) es) (sym c.in-Some.ensures) ∙ l.all;
+      all = one_more page.items c.push.new.self.items (c.in-Some.key, c.in-Some.item) left
+          c.args.limit (vec_len page) _ items count
+          room ∙ ap (λ (es : Entries). seen page.items ++ take (c.args.limit - vec_len page) es)
+          (sym c.in-Some.ensures) ∙ l.all;
       room = omega (arith, count, room);
     }

@@ -16,7 +16,13 @@ returns-in_ok-at-in-Some c =
     let place = c.in_ok-at-in-Some.field-0 in
     alike (is_found_between c.args.self.now low high)
     (λ key. is_from_place low key && not (is_from_place (ord_min place_cmp high place) key))
-    (λ key. rw (c.if-self.true, c.in-Some.is, from_min high place key, c.in_ok-at-in-Some.ensures key, key_total.antisymm key start)
+    (λ key. rw (
+      c.if-self.true,
+      c.in-Some.is,
+      from_min high place key,
+      c.in_ok-at-in-Some.ensures key,
+      key_total.antisymm key start,
+    )
     (neither (is_from_place low key) (is_from_place high key) (key_cmp start key)))
     c.between.result (rw (← c.min.ensures) c.between.ensures)
 
@@ -27,12 +33,20 @@ returns-in_ok-at-in-Some-2 c =
     let place = c.in_ok-at-in-Some-2.field-0 in
     alike (is_found_between c.args.self.now low high)
     (λ key. is_from_place (ord_max place_cmp low place) key && not (is_from_place high key))
-    (λ key. rw (c.if-self.false, c.in-Some-2.is, from_max low place key, c.in_ok-at-in-Some-2.ensures key)
-    (last_of (is_from_place low key) (not (is_from_place high key)) (is_lt (key_cmp c.in-Some-2.start.now key))))
+    (λ key. rw (
+      c.if-self.false,
+      c.in-Some-2.is,
+      from_max low place key,
+      c.in_ok-at-in-Some-2.ensures key,
+    )
+    (last_of (is_from_place low key) (not (is_from_place high key))
+    (is_lt (key_cmp c.in-Some-2.start.now key))))
     c.between-in-Some-2.result (rw (← c.max.ensures) c.between-in-Some-2.ensures)
 
 pub returns-in-None : goal.returns-in-None
 returns-in-None c =
     alike (is_found_between c.args.self.now c.args.low c.args.high)
     (λ key. is_from_place c.args.low key && not (is_from_place c.args.high key))
-    (λ key. rw c.in-None.is (both_and (is_from_place c.args.low key) (not (is_from_place c.args.high key)))) c.between-in-None.result c.between-in-None.ensures
+    (λ key. rw c.in-None.is
+    (both_and (is_from_place c.args.low key) (not (is_from_place c.args.high key))))
+    c.between-in-None.result c.between-in-None.ensures
