@@ -18,14 +18,14 @@ use table_key::{Key, KeyValue, Number};
 impl Query<'_> {
     /// Returns the range of the keys that the query finds, or `None` if it finds no key.
     ///
-    /// The query finds each key in the range that a table can hold, and no other key. A condition
-    /// without a highest value ends before the first value of the next kind, a prefix before the
-    /// least value above all that begin with it, and the whole partition before the first key of
-    /// the next.
+    /// The query finds each key in the range that a table can hold, and no other key. The range of
+    /// a condition without a greatest value ends before the first value of the next kind. That of a
+    /// prefix ends before the least value above all that begin with it, and that of the whole
+    /// partition before the first key of the next one.
     ///
     /// # Errors
     ///
-    /// [`AllocError`] if memory for the keys at the ends of the range can't be allocated.
+    /// Returns [`AllocError`] if memory runs out.
     pub fn key_range(&self, alloc: Global) -> Result<Option<KeyRange>, AllocError>
         ensures { IfOk result (λ range. MatchOption range (FindsNone self.now) (FindsBetween self.now)) }
     {
@@ -98,7 +98,7 @@ impl KeyRange {
         }
     }
 
-    /// Returns the range as the bounds that a `BTreeMap` takes.
+    /// Returns the range as the bounds that `BTreeMap::range` takes.
     pub fn bounds(&self) -> (Bound<&Key>, Bound<&Key>)
         ensures between { (key : Key) → range_contains key_cmp (bound_map (λ x. x.now) result.0)
             (bound_map (λ x. x.now) result.1) key ≡ lies_between self.now key }

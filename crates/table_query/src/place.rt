@@ -6,7 +6,7 @@ ghost use Rattle.table_query.specs.Places.{is_from, is_from_place};
 use std::alloc::AllocError;
 use table_key::Key;
 
-/// A place among the keys: just before a key, or just behind it.
+/// A place in the order of keys: just before a key, or just behind it.
 #[derive(Debug, Drop, PartialEq, Eq, PartialOrd, Ord)]
 pub struct Place {
     /// The key.

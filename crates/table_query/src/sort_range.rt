@@ -30,7 +30,7 @@ impl SortCondition<'_> {
     ///
     /// # Errors
     ///
-    /// [`AllocError`] if memory for the values at the ends of the range can't be allocated.
+    /// Returns [`AllocError`] if memory runs out.
     pub(crate) fn range(self, alloc: Global) -> Result<Option<SortRange>, AllocError>
         ensures { IfOk result (λ range. MatchOption range (MeetsNone self.entry) (MeetsBetween self.entry)) }
     {

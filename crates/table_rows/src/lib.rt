@@ -1,4 +1,5 @@
-//! The rows of DynamoDB tables in a SQLite database. Each call is one statement.
+//! The rows of DynamoDB tables in a SQLite database. Each call but [`page`], which takes two, is one
+//! statement.
 #![tactic(auto)]
 
 mod definition;

@@ -32,8 +32,12 @@ const FOLLOWING: &str = "SELECT item FROM dynamo_item WHERE table_id = ?1 AND pa
 ///
 /// # Errors
 ///
-/// `Unreadable` if the text of an item doesn't read, `Key` if it lacks its key, `Database` and
-/// `OutOfMemory`.
+/// Returns [`StoreError::Unreadable`] if the text of an item can't be read.
+///
+/// Returns [`StoreError::Key`] if an item lacks its key.
+///
+/// Returns [`StoreError::Database`] if the database fails, and [`StoreError::OutOfMemory`] if memory
+/// runs out.
 pub fn find<S: Alter>(
     alloc: Global,
     conn: &mut Connection<S>,
@@ -65,12 +69,15 @@ pub fn find<S: Alter>(
     Ok(found)
 }
 
-/// The items behind a key of a table, in the order of the keys, at most `limit`: the rest of its partition, and then the
-/// partitions that follow.
+/// Returns the items behind a key of a table, in the order of the keys, at most `limit`: the rest of
+/// its partition, and then the partitions that follow.
 ///
 /// # Errors
 ///
-/// `Unreadable` where the text of an item doesn't read, `Database` and `OutOfMemory`.
+/// Returns [`StoreError::Unreadable`] if the text of an item can't be read.
+///
+/// Returns [`StoreError::Database`] if the database fails, and [`StoreError::OutOfMemory`] if memory
+/// runs out.
 pub fn page<S: Alter>(
     alloc: Global,
     conn: &mut Connection<S>,
