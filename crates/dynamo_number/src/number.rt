@@ -16,8 +16,8 @@ use std::marker::Model;
 ///
 /// It is zero, or has at most 38 digits and is, without its sign, from 1E-130 to 9.99..E+125
 /// (DynamoDB's developer guide, "Supported data types and naming rules"). Numbers compare by value:
-/// `1`, `1.0` and `1e0` are one number, and `-0` is `0`. A contract sees a number as the integer that
-/// is 10^167 times the number.
+/// `1`, `1.0` and `1e0` are one number, and `-0` is `0`. A contract sees a number as the integer
+/// that is 10^167 times the number.
 ///
 /// # Examples
 ///
@@ -56,8 +56,8 @@ impl Number {
     /// Returns the number that a string says, or `None` if it says none, or one that DynamoDB
     /// doesn't keep.
     ///
-    /// The string has digits, and may have a sign before them, a point among them and an exponent of
-    /// 32 bits behind them.
+    /// The string has digits, and may have a sign before them, a point among them and an exponent
+    /// of 32 bits behind them.
     ///
     /// # Examples
     ///

@@ -73,8 +73,8 @@ pub fn sort_bytes(alloc: Global, sort: &Option<KeyValue>) -> Result<Vec<u8>, All
     }
 }
 
-/// Returns the bytes of a value: one byte of its kind, and then those of the string, the number or the
-/// byte string.
+/// Returns the bytes of a value: one byte of its kind, and then those of the string, the number or
+/// the byte string.
 ///
 /// # Errors
 ///

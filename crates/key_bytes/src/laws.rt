@@ -1,5 +1,5 @@
-//! Laws that tie the definitions together. Each is a function that does nothing, and its contract is
-//! the law.
+//! Laws that tie the definitions together. Each is a function that does nothing, and its contract
+//! is the law.
 ghost use Rattle.std.specs.Prelude.{◌≡◌, ℕ, List};
 ghost use Rattle.std.specs.Ordering.{ordering_then};
 ghost use Rattle.std.specs.declared.cmp.Ordering.TheVariants.{Equal};

@@ -82,7 +82,8 @@ impl Table {
         self.put_if(Condition::Always, item)
     }
 
-    /// Puts an item under its key if the condition holds there, and returns the item that was there.
+    /// Puts an item under its key if the condition holds there, and returns the item that was
+    /// there.
     ///
     /// # Errors
     ///
@@ -160,8 +161,8 @@ impl Table {
         self.put_if_returning_key(Condition::Always, item)
     }
 
-    /// Puts an item under its key if the condition holds there, and returns the key. An item that was
-    /// there is dropped.
+    /// Puts an item under its key if the condition holds there, and returns the key. An item that
+    /// was there is dropped.
     ///
     /// # Errors
     ///
@@ -196,8 +197,8 @@ impl Table {
         self.items.remove(key)
     }
 
-    /// Deletes the item under a key if the condition holds there, and returns it, or `None` if there
-    /// was none.
+    /// Deletes the item under a key if the condition holds there, and returns it, or `None` if
+    /// there was none.
     ///
     /// # Errors
     ///

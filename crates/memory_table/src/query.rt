@@ -24,8 +24,8 @@ impl Table {
     ///
     /// # Errors
     ///
-    /// Returns [`AllocError`] if memory runs out. A table of at most eight items allocates no memory
-    /// but that of the result.
+    /// Returns [`AllocError`] if memory runs out. A table of at most eight items allocates no
+    /// memory but that of the result.
     ///
     /// # Examples
     ///

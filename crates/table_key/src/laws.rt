@@ -1,5 +1,5 @@
-//! Laws that tie the definitions together. Each is a function that does nothing, and its contract is
-//! the law.
+//! Laws that tie the definitions together. Each is a function that does nothing, and its contract
+//! is the law.
 ghost use Rattle.std.specs.Prelude.{◌≡◌, ℕ, ℤ, List, Ok};
 ghost use Rattle.dynamo_value.specs.declared.item.Item.{Item};
 ghost use Rattle.table_key.specs.Held.{IsHeldKey};
@@ -12,8 +12,8 @@ ghost use Rattle.std.specs.declared.cmp.Ordering.TheVariants.{Equal};
 
 /// An item has one key, so an item that is put is found under each key that is read from it.
 ///
-/// A key that is equal to the item's key is the item's too, and DynamoDB keeps its values if it keeps
-/// those of the other. A string says at most one number.
+/// A key that is equal to the item's key is the item's too, and DynamoDB keeps its values if it
+/// keeps those of the other. A string says at most one number.
 pub fn one_key()
     ensures key { (schema : KeySchema) (item : Item) (key other : Key)
         → ReadsKey schema item (Ok key) → ReadsKey schema item (Ok other) → key_cmp key other ≡ Equal }

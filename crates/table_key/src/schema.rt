@@ -181,8 +181,8 @@ impl KeySchema {
     ///
     /// Returns [`TableError::NotAnAttribute`] if there is no argument, or more than two.
     ///
-    /// Otherwise returns the error of [`KeyAttribute::parse`], for the sort key before the partition
-    /// key.
+    /// Otherwise returns the error of [`KeyAttribute::parse`], for the sort key before the
+    /// partition key.
     pub fn parse(alloc: Global, words: &[&str]) -> Result<KeySchema, TableError>
         ensures ok { IfOk result (λ schema. (map (λ w. w.now) words.now ≡ words_of schema) × AreNamed schema) }
         ensures err { IfErr result (λ e. (e ≡ OutOfMemory) ⊎ ((e ≡ NotAnAttribute) × AreNoWords (map (λ w. w.now) words.now))) }

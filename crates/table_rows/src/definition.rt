@@ -90,13 +90,13 @@ fn attribute(alloc: Global, word: String) -> Result<KeyAttribute, StoreError> {
     }
 }
 
-/// Creates the two SQL tables if they don't exist: that of the tables' key attributes, and that of all
-/// their items.
+/// Creates the two SQL tables if they don't exist: that of the tables' key attributes, and that of
+/// all their items.
 ///
 /// # Errors
 ///
-/// Returns [`StoreError::Database`] if the database fails, and [`StoreError::OutOfMemory`] if memory
-/// runs out.
+/// Returns [`StoreError::Database`] if the database fails, and [`StoreError::OutOfMemory`] if
+/// memory runs out.
 pub fn make_tables<S: Alter>(conn: &mut Connection<S>) -> Result<(), StoreError> {
     Ok(conn.execute_batch(TABLES)?)
 }

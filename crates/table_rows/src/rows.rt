@@ -52,8 +52,8 @@ pub(crate) fn read_item(alloc: Global, row: &Row) -> Result<Item, StoreError> {
 ///
 /// Returns [`StoreError::Unreadable`] if the text of the item can't be read.
 ///
-/// Returns [`StoreError::Database`] if the database fails, and [`StoreError::OutOfMemory`] if memory
-/// runs out.
+/// Returns [`StoreError::Database`] if the database fails, and [`StoreError::OutOfMemory`] if
+/// memory runs out.
 pub fn get<S: Alter>(
     alloc: Global,
     conn: &mut Connection<S>,
@@ -71,8 +71,8 @@ pub fn get<S: Alter>(
 ///
 /// # Errors
 ///
-/// Returns [`StoreError::Database`] if the database fails, and [`StoreError::OutOfMemory`] if memory
-/// runs out.
+/// Returns [`StoreError::Database`] if the database fails, and [`StoreError::OutOfMemory`] if
+/// memory runs out.
 pub fn put<S: Alter>(
     alloc: Global,
     conn: &mut Connection<S>,
@@ -91,8 +91,8 @@ pub fn put<S: Alter>(
 ///
 /// # Errors
 ///
-/// Returns [`StoreError::Database`] if the database fails, and [`StoreError::OutOfMemory`] if memory
-/// runs out.
+/// Returns [`StoreError::Database`] if the database fails, and [`StoreError::OutOfMemory`] if
+/// memory runs out.
 pub fn delete<S: Alter>(
     conn: &mut Connection<S>,
     id: i64,
@@ -106,8 +106,8 @@ pub fn delete<S: Alter>(
 ///
 /// # Errors
 ///
-/// Returns [`StoreError::Database`] if the database fails, and [`StoreError::OutOfMemory`] if memory
-/// runs out.
+/// Returns [`StoreError::Database`] if the database fails, and [`StoreError::OutOfMemory`] if
+/// memory runs out.
 pub fn count<S: Alter>(conn: &mut Connection<S>, id: i64) -> Result<u64, StoreError> {
     Ok(conn.query_row(COUNT, params![id])?.get(0)?)
 }
@@ -116,8 +116,8 @@ pub fn count<S: Alter>(conn: &mut Connection<S>, id: i64) -> Result<u64, StoreEr
 ///
 /// # Errors
 ///
-/// Returns [`StoreError::Database`] if the database fails, and [`StoreError::OutOfMemory`] if memory
-/// runs out.
+/// Returns [`StoreError::Database`] if the database fails, and [`StoreError::OutOfMemory`] if
+/// memory runs out.
 pub fn run<S: Alter>(conn: &mut Connection<S>, sql: &str) -> Result<(), StoreError> {
     Ok(conn.execute_batch(sql)?)
 }
