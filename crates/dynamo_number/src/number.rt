@@ -12,10 +12,21 @@ use std::alloc::AllocError;
 use std::cmp::Ordering;
 use std::marker::Model;
 
-/// A number as DynamoDB keeps it: zero, or one of at most 38 digits, without its sign from 1E-130 to 9.99..E+125.
+/// A number that DynamoDB keeps.
 ///
-/// Numbers compare by value: `1`, `1.0` and `1e0` are one number, and `-0` is `0`. A contract sees a number as the integer
+/// It is zero, or has at most 38 digits and is, without its sign, from 1E-130 to 9.99..E+125
+/// (DynamoDB's developer guide, "Supported data types and naming rules"). Numbers compare by value:
+/// `1`, `1.0` and `1e0` are one number, and `-0` is `0`. A contract sees a number as the integer
 /// that is 10^167 times the number.
+///
+/// # Examples
+///
+/// ```rust
+/// use dynamo_number::Number;
+///
+/// assert!(rt; Number::parse("1e0") == Number::parse("1.0"));
+/// assert!(rt; Number::parse("-2") < Number::parse("0.5"));
+/// ```
 #[derive(Debug, Drop)]
 pub struct Number {
     negative: bool,
@@ -42,8 +53,21 @@ impl Model for Number {
 const LEAST: u128 = 10_000_000_000_000_000_000_000_000_000_000_000_000;
 
 impl Number {
-    /// The number that a text says: digits, perhaps a sign before them and a point among them, and perhaps an exponent of 32
-    /// bits behind them. `None` where the text says no number or one that DynamoDB doesn't keep.
+    /// Returns the number that a string says, or `None` if it says none, or one that DynamoDB
+    /// doesn't keep.
+    ///
+    /// The string has digits, and may have a sign before them, a point among them and an exponent
+    /// of 32 bits behind them.
+    ///
+    /// # Examples
+    ///
+    /// ```rust
+    /// use dynamo_number::Number;
+    ///
+    /// assert!(rt; Number::parse("-1.5e3") == Number::parse("-1500"));
+    /// assert!(rt; Number::parse("1e126").is_none());
+    /// assert!(rt; Number::parse("one").is_none());
+    /// ```
     pub fn parse(text: &str) -> Option<Number>
         ensures { MatchOption result ((z : ℤ) → ¬ (IsNumber text.now z)) (IsNumber text.now) }
     {
@@ -53,7 +77,7 @@ impl Number {
         Number::decimal(negative, whole, fraction.as_bytes(), exponent)
     }
 
-    /// The least number that DynamoDB keeps: `-9.99..E+125`, with 38 nines.
+    /// Returns the least number that DynamoDB keeps: `-9.99..E+125`, with 38 nines.
     pub fn least() -> Number
         ensures { IsLeast result }
     {
@@ -64,9 +88,19 @@ impl Number {
         }
     }
 
-    /// The least number above this one that DynamoDB keeps, or `None` above the greatest.
+    /// Returns the least number above this one that DynamoDB keeps, or `None` above the greatest.
     ///
-    /// Numbers have 38 digits, so the next after `1` is `1` and 10^-37. The next after `0` is `1E-130`.
+    /// Numbers have 38 digits, so the next after `1` is `1` and 10^-37.
+    ///
+    /// # Examples
+    ///
+    /// ```rust
+    /// use dynamo_number::Number;
+    ///
+    /// let zero = Number::parse("0");
+    /// let next = zero.and_then(|number| number.next());
+    /// assert!(rt; next == Number::parse("1E-130"));
+    /// ```
     pub fn next(&self) -> Option<Number>
         ensures kept { IsKeptNumber self.now }
         ensures next { MatchOption result (IsGreatest self.now) (IsNext self.now) }
@@ -89,7 +123,8 @@ impl Number {
         }
     }
 
-    /// Eighteen bytes, which come in the order of the numbers, as [`laws::bytes_in_order`](crate::laws::bytes_in_order) says.
+    /// Returns the number as eighteen bytes, which are in the order of the numbers
+    /// ([`laws::bytes_in_order`](crate::laws::bytes_in_order)).
     pub fn to_bytes(&self) -> [u8; 18]
         ensures { IsBytesOf self.now result }
     {
@@ -271,7 +306,7 @@ fn pad(mut digits: u128, mut power: i128) -> (u128, i128)
     (digits, power)
 }
 
-/// The same number. It takes no memory.
+/// The clone is the same number, and takes no memory.
 impl Clone for Number {
     ghost is_clone = { λ number copy. copy ≡ number };
 
@@ -310,7 +345,7 @@ impl PartialOrd for Number {
     }
 }
 
-/// By value.
+/// Numbers compare by value.
 impl Ord for Number {
     ghost cmp = { int_cmp };
 

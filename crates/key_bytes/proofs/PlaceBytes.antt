@@ -1,17 +1,13 @@
 -- The bytes of the sort keys of a partition that come from a place on.
-use Rattle.std.proofs.Common.{◌≡◌, ◌∙◌, ℕ, List, [], ◌∷◌, ◌++◌, true, false, Ordering, Less, Equal, Greater, Option, Some, None, refl, sym, ap}
+use Rattle.std.proofs.Common.{◌≡◌, ◌∙◌, ℕ, List, [], ◌∷◌, ◌++◌, true, false, Ordering, Less}
+use Rattle.std.proofs.Common.{Equal, Greater, refl, arith}
 use Rattle.std.proofs.lemmas.Cmp.{alike_right}
-use Rattle.std.specs.Option.{option_cmp}
-use Rattle.std.specs.Ordering.{is_le, is_lt, ordering_then}
-use Rattle.dynamo_value.specs.View.{text_cmp}
 use Rattle.table_key.specs.KeyLaws.{value_total}
 use Rattle.table_key.specs.KeyOrder.{value_cmp}
 use Rattle.table_key.specs.declared.key.Key.{Key}
 use Rattle.table_key.specs.declared.key.KeyValue.{KeyValue}
-use Rattle.table_query.specs.Places.{is_from_place}
 use Rattle.table_query.specs.declared.place.Place.{Place}
 use Rattle.table_query.proofs.NextValues.{empty_first, zero_added}
-use Rattle.table_query.proofs.Partitions.{above_side, below_side, on_side}
 use Rattle.table_query.specs.Ranges.{FindsBetween}
 use Rattle.table_query.specs.declared.key_range.KeyRange.{KeyRange}
 use Rattle.table_query.specs.declared.query.Query.{Query}
@@ -21,41 +17,37 @@ use Rattle.key_bytes.specs.Bytes.{IsSortBytes}
 use Rattle.key_bytes.proofs.InOrder.{sorts}
 
 module _ (partition : KeyValue) (place : Place) where
-  -- how the place's partition compares to that of a key of the partition
-  as_partition : (key : Key) (o : Ordering) → value_cmp key.partition partition ≡ Equal → value_cmp place.key.partition partition ≡ o
-      → is_from_place place key ≡ on_side place.is_behind (ordering_then o (option_cmp value_cmp place.key.sort key.sort))
-  as_partition key o here e =
-      ap (λ p. on_side place.is_behind (ordering_then p (option_cmp value_cmp place.key.sort key.sort)))
-      (alike_right value_total key.partition partition place.key.partition here ∙ e)
+  -- the place's partition compares to that of a key of the partition as to the partition
+  alike : (key : Key) (o : Ordering) → value_cmp key.partition partition ≡ Equal
+      → value_cmp place.key.partition partition ≡ o
+      → value_cmp place.key.partition key.partition ≡ o
+  alike key o here e = alike_right value_total key.partition partition place.key.partition here ∙ e
 
   -- all of the partition comes from a place before it
   pub from_start : value_cmp place.key.partition partition ≡ Less → IsPlaceBytes partition place []
-  from_start e key bytes here is = as_partition key Less here e ∙ above_side place.is_behind ∙ sym (empty_first bytes)
+  from_start e key bytes here is = rw (alike key Less here e) (grind (arith, empty_first bytes))
 
   -- nothing of it comes from a place behind it
-  pub from_end : value_cmp place.key.partition partition ≡ Greater → IsPlaceBytes partition place (3 ∷ [])
-  from_end e key bytes here is = as_partition key Greater here e ∙ below_side place.is_behind ∙ sym (none_behind key.sort bytes is)
-    where
-      none_behind : (sort : Option KeyValue) (bytes : List ℕ) → IsSortBytes sort bytes → is_le (text_cmp (3 ∷ []) bytes) ≡ false
-      none_behind None bytes is = rw is refl
-      none_behind (Some (KeyValue.S text)) bytes is = rw is refl
-      none_behind (Some (KeyValue.N number)) bytes is = rw is.2 refl
-      none_behind (Some (KeyValue.B content)) bytes is = rw is refl
+  pub from_end : value_cmp place.key.partition partition ≡ Greater
+      → IsPlaceBytes partition place (3 ∷ [])
+  from_end e key bytes here is = rw (alike key Greater here e) (grind arith)
 
   -- from a place within it
-  module _ (start : List ℕ) (e : value_cmp place.key.partition partition ≡ Equal) (is_start : IsSortBytes place.key.sort start) where
+  module _ (start : List ℕ) (e : value_cmp place.key.partition partition ≡ Equal)
+      (is_start : IsSortBytes place.key.sort start) where
     pub from_before : place.is_behind ≡ false → IsPlaceBytes partition place start
     from_before before key bytes here is =
-        as_partition key Equal here e ∙ rw before (ap is_le (sym (sorts place.key.sort key.sort start bytes is_start is)))
+        rw (alike key Equal here e, before, sorts place.key.sort key.sort start bytes is_start is)
 
     pub from_behind : place.is_behind ≡ true → IsPlaceBytes partition place (start ++ 0 ∷ [])
     from_behind behind key bytes here is =
-        as_partition key Equal here e ∙ rw behind (ap is_lt (sym (sorts place.key.sort key.sort start bytes is_start is)))
-        ∙ zero_added start bytes
+        rw (alike key Equal here e, behind, ← sorts place.key.sort key.sort start bytes is_start is)
+        (zero_added start bytes)
 
 -- the bytes of both ends of a query's range are its bounds
 pub bounded : (query : Query) (range : KeyRange) (bounds : Bounds) → FindsBetween query range
-    → IsPlaceBytes query.partition.now range.low bounds.low.items → IsPlaceBytes query.partition.now range.high bounds.high.items
+    → IsPlaceBytes query.partition.now range.low bounds.low.items
+    → IsPlaceBytes query.partition.now range.high bounds.high.items
     → AreBounds query bounds
 bounded query range bounds finds_them low high key bytes held here is =
     finds_them key held ∙ rw (low key bytes here is, high key bytes here is) refl

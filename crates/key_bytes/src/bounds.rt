@@ -27,8 +27,21 @@ impl Bounds {
     ///
     /// # Errors
     ///
-    /// [`AllocError`] if memory for the bounds, or for the keys at the ends of the query's range,
-    /// can't be allocated.
+    /// Returns [`AllocError`] if memory runs out.
+    ///
+    /// # Examples
+    ///
+    /// ```rust
+    /// use key_bytes::{Bounds, sort_bytes};
+    /// use table_key::KeySchema;
+    /// use table_query::Query;
+    ///
+    /// let schema = KeySchema::parse(alloc, &["customer:S", "placed_at:N"])?;
+    /// let key = schema.key_from(alloc, "Arthur", Some("2024"))?;
+    /// let sort = sort_bytes(alloc, &key.sort)?;
+    /// let found = Bounds::of_query(alloc, &Query::of(&key.partition))?;
+    /// assert!(rt; matches!(found, Some(bounds) if bounds.low <= sort && sort < bounds.high));
+    /// ```
     pub fn of_query(alloc: Global, query: &Query<'_>) -> Result<Option<Bounds>, AllocError>
         ensures { IfOk result (λ bounds. MatchOption bounds (FindsNone query.now) (AreBounds query.now)) }
     {

@@ -7,23 +7,38 @@ ghost use Rattle.key_bytes.specs.Bytes.{IsKeyBytes, IsSortBytes, IsValueBytes};
 use std::alloc::{AllocError, Global};
 use table_key::{Key, KeyValue};
 
-/// The two byte strings of a key, by which a row is found: rows in the order of the first and then of the second are in the
-/// order of their keys, as [`laws::bytes_in_order`](crate::laws::bytes_in_order) says.
+/// A key as two byte strings, by which a row of a database is found.
+///
+/// Rows in the order of the first and then of the second are in the order of their keys
+/// ([`laws::bytes_in_order`](crate::laws::bytes_in_order)).
+///
+/// # Examples
+///
+/// ```rust
+/// use key_bytes::KeyBytes;
+/// use table_key::KeySchema;
+///
+/// let schema = KeySchema::parse(alloc, &["customer:S", "placed_at:N"])?;
+/// let nine = KeyBytes::of(alloc, &schema.key_from(alloc, "Arthur", Some("9"))?)?;
+/// let ten = KeyBytes::of(alloc, &schema.key_from(alloc, "Arthur", Some("10"))?)?;
+/// assert!(rt; nine.partition == ten.partition);
+/// assert!(rt; nine.sort < ten.sort);
+/// ```
 #[derive(Drop)]
 pub struct KeyBytes {
     /// The bytes of the partition key.
     pub partition: Vec<u8>,
 
-    /// The bytes of the sort key, none where there is no sort key.
+    /// The bytes of the sort key, none if there is no sort key.
     pub sort: Vec<u8>,
 }
 
 impl KeyBytes {
-    /// The bytes of a key.
+    /// Returns the bytes of a key.
     ///
     /// # Errors
     ///
-    /// Want of memory.
+    /// Returns [`AllocError`] if memory runs out.
     pub fn of(alloc: Global, key: &Key) -> Result<KeyBytes, AllocError>
         ensures { IfOk result (IsKeyBytes key.now) }
     {
@@ -33,7 +48,7 @@ impl KeyBytes {
         })
     }
 
-    /// What comes before the bytes of every key.
+    /// Returns bytes that are less than those of each key.
     pub fn before_all(alloc: Global) -> KeyBytes
         ensures { (key : Key) (bytes : KeyBytes) → IsKeyBytes key bytes → text_cmp result.partition.items bytes.partition.items ≡ Less }
     {
@@ -44,11 +59,11 @@ impl KeyBytes {
     }
 }
 
-/// The bytes of a sort key, none where there is no sort key.
+/// Returns the bytes of a sort key, none if there is no sort key.
 ///
 /// # Errors
 ///
-/// Want of memory.
+/// Returns [`AllocError`] if memory runs out.
 pub fn sort_bytes(alloc: Global, sort: &Option<KeyValue>) -> Result<Vec<u8>, AllocError>
     ensures { IfOk result (λ bytes. IsSortBytes sort.now bytes.items) }
 {
@@ -58,11 +73,12 @@ pub fn sort_bytes(alloc: Global, sort: &Option<KeyValue>) -> Result<Vec<u8>, All
     }
 }
 
-/// The bytes of a value: one byte of its kind, and then those of the text, of the number or of the byte string.
+/// Returns the bytes of a value: one byte of its kind, and then those of the string, the number or
+/// the byte string.
 ///
 /// # Errors
 ///
-/// Want of memory.
+/// Returns [`AllocError`] if memory runs out.
 pub fn bytes_of(alloc: Global, value: &KeyValue) -> Result<Vec<u8>, AllocError>
     ensures { IfOk result (λ bytes. IsValueBytes value.now bytes.items) }
 {

@@ -1,4 +1,4 @@
-//! The keys of a DynamoDB table as byte strings, which come in the order of the keys.
+//! The keys of a DynamoDB table as byte strings, which are in the order of the keys.
 #![tactic(auto)]
 
 mod bounds;

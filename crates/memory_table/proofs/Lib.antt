@@ -4,4 +4,3 @@ pub mod Lent
 pub mod Pages
 pub mod Puts
 pub mod Scans
-pub mod Updates

@@ -1,7 +1,7 @@
 -- What the loops of a query and of a scan found, as entries of the table.
-use Rattle.std.proofs.Common.{◌≡◌, ◌∙◌, Bool, true, false, if◌then◌else◌, ℕ, ◌+◌, ◌-◌, ◌<◌}
-use Rattle.std.proofs.Common.{List, [], ◌∷◌, ◌++◌, take, reverse, Bor, refl, sym, ap}
-use Rattle.std.proofs.Common.{append_assoc, arith, suc}
+use Rattle.std.proofs.Common.{◌≡◌, Bool, true, false, if◌then◌else◌, ℕ, ◌+◌, ◌-◌, ◌<◌}
+use Rattle.std.proofs.Common.{List, [], ◌∷◌, ◌++◌, take, reverse, Bor, refl, append_assoc, arith}
+use Rattle.std.proofs.Common.{suc}
 use Rattle.std.proofs.lemmas.List.{append-nil, map-append, take-map}
 use Rattle.std.specs.List.{filter}
 use Rattle.std.specs.List.Sorted.{IsStrictlySortedBy}
@@ -32,12 +32,9 @@ seen_onto : (found more : Lent)
 seen_onto [] more = refl
 seen_onto (x ∷ found) more = seen_onto found (x ∷ more)
 
-pub seen_reversed : (found : Lent) → seen (reverse found) ≡ reverse (seen found)
-seen_reversed found = seen_onto found []
-
 seen_turned : (backward : Bool) (found : Lent)
     → seen (if backward then reverse found else found) ≡ in_direction backward (seen found)
-seen_turned true found = seen_reversed found
+seen_turned true found = seen_onto found []
 seen_turned false found = refl
 
 -- all is found, turned and cut
@@ -46,27 +43,13 @@ pub answered : (query : Query) (entries left : Entries) (found kept all : Lent) 
     → kept ≡ (if query.backward then reverse found else found) → all ≡ take query.limit kept
     → seen all ≡ answer query entries
 answered query entries left found kept all none e turned cut =
-    let whole : seen found ≡ filter (λ x. finds query x.0) entries =
-    sym (append-nil (seen found))
-    ∙ ap (λ (es : Entries). seen found ++ filter (λ x. finds query x.0) es) (sym none) ∙ e in
-    ap seen cut ∙ sym (take-map entry query.limit kept)
-    ∙ ap (take query.limit) (ap seen turned ∙ seen_turned query.backward found
-    ∙ ap (in_direction query.backward) whole)
-
--- nothing is on the page yet, and all is left
-pub all_left : (page : Entries) (n limit : ℕ) (left es : Entries) → page ≡ [] → n ≡ 0 → left ≡ es
-    → page ++ take (limit - n) left ≡ take limit es
-all_left page n limit left es empty none is =
-    let all : limit - n ≡ limit = omega arith in
-    ap (λ xs. xs ++ take (limit - n) left) empty ∙ ap (λ k. take k left) all ∙ ap (take limit) is
+    rw (cut, turned, ← e, none, append-nil, ← take-map, seen_turned query.backward found) refl
 
 -- of the entries up to a limit, one more is found at the front of what is left
-pub one_more : (found more : Lent) (key : Bor Key) (item : Bor Item) (left all : Entries) (m n k : ℕ)
-    → more ≡ found ++ (key, item) ∷ [] → k ≡ n + 1 → n < m
-    → seen found ++ take (m - n) ((key.now, item.now) ∷ left) ≡ all → seen more ++ take (m - k) left ≡ all
-one_more found more key item left all m n k is count h e =
+pub one_more : (found more : Lent) (x : Bor Key × Bor Item) (left : Entries) (m n k : ℕ)
+    → more ≡ found ++ x ∷ [] → k ≡ n + 1 → n < m
+    → seen more ++ take (m - k) left ≡ seen found ++ take (m - n) (entry x ∷ left)
+one_more found more x left m n k is count h =
     let one : m - n ≡ suc (m - k) = omega arith in
-    ap (λ (xs : Lent). seen xs ++ take (m - k) left) is
-    ∙ ap (λ (xs : Entries). xs ++ take (m - k) left) (map-append entry found ((key, item) ∷ []))
-    ∙ append_assoc (seen found) ((key.now, item.now) ∷ []) (take (m - k) left)
-    ∙ ap (λ i. seen found ++ take i ((key.now, item.now) ∷ left)) (sym one) ∙ e
+    rw (one, is, map-append entry found (x ∷ []))
+    (append_assoc (seen found) (entry x ∷ []) (take (m - k) left))

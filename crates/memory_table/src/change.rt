@@ -16,7 +16,7 @@ use table_key::{Key, KeySchema, TableError};
 use table_query::Condition;
 
 impl Table {
-    /// The table without items. It takes no memory.
+    /// Returns an empty table, which takes no memory.
     pub fn new(alloc: Global, schema: KeySchema) -> Self
         ensures schema { schema_of result ≡ schema }
         ensures empty { entries_of result ≡ [] }
@@ -27,21 +27,25 @@ impl Table {
         }
     }
 
-    /// Returns the attributes that are the table's key.
+    /// Returns the attributes of the table's key.
     pub fn schema(&self) -> &KeySchema
         ensures { result.now ≡ schema_of self.now }
     {
         &self.schema
     }
 
-    /// The key of an item of this table, and errors as [`KeySchema::key_of`] has them.
+    /// Returns the key of an item of this table.
+    ///
+    /// # Errors
+    ///
+    /// Returns the error of [`KeySchema::key_of`].
     pub fn key_of(&self, item: &Item) -> Result<Key, TableError>
         ensures { ReadsKey (schema_of self.now) item.now result }
     {
         self.schema.key_of(item)
     }
 
-    /// How many items there are. Every table holds them in the order of their keys, each key once.
+    /// Returns the number of items. They are in the order of their keys, each key once.
     pub fn len(&self) -> usize
         ensures len { result ≡ length (entries_of self.now) }
         ensures ordered { IsOrdered key_cmp (items_of self.now) }
@@ -49,25 +53,27 @@ impl Table {
         self.items.len()
     }
 
-    /// Whether there are no items.
+    /// Returns whether the table is empty.
     pub fn is_empty(&self) -> bool
         ensures { IsTrue result ↔ (length (entries_of self.now) ≡ 0) }
     {
         self.items.is_empty()
     }
 
-    /// The item under a key, where there is one.
+    /// Returns the item under a key, or `None`.
     pub fn get(&self, key: &Key) -> Option<&Item>
         ensures { option_map (λ item. item.now) result ≡ get key_cmp (items_of self.now) key.now }
     {
         self.items.get(key)
     }
 
-    /// Puts an item under its key, and answers the item that was there.
+    /// Puts an item under its key, and returns the item that was there.
     ///
     /// # Errors
     ///
-    /// Those of [`KeySchema::key_of`].
+    /// Returns the error of [`KeySchema::key_of`].
+    ///
+    /// Returns [`TableError::OutOfMemory`] if memory runs out.
     pub fn put(&mut self, item: Item) -> Result<Option<Item>, TableError>
         ensures puts { PutsIf Always item self.old self.new result }
         ensures ordered { OnOk result (IsOrdered key_cmp (items_of self.new)) }
@@ -76,11 +82,31 @@ impl Table {
         self.put_if(Condition::Always, item)
     }
 
-    /// Puts an item under its key where the condition holds there, and answers the item that was there.
+    /// Puts an item under its key if the condition holds there, and returns the item that was
+    /// there.
     ///
     /// # Errors
     ///
-    /// Those of [`KeySchema::key_of`], and then `ConditionFailed` where the condition doesn't hold.
+    /// Returns the error of [`KeySchema::key_of`].
+    ///
+    /// Returns [`TableError::ConditionFailed`] if the condition doesn't hold.
+    ///
+    /// Returns [`TableError::OutOfMemory`] if memory runs out.
+    ///
+    /// # Examples
+    ///
+    /// ```rust
+    /// use memory_table::{Condition, KeySchema, Table};
+    /// use serde_dynamo::{DynamoJson, Item};
+    ///
+    /// let mut users = Table::new(alloc, KeySchema::parse(alloc, &["name:S"])?);
+    /// let text = r#"{"name": {"S": "Arthur"}}"#;
+    /// let user = Item::from_json_text(alloc, text)?;
+    /// assert!(rt; users.put_if(Condition::NotExists, user)?.is_none());
+    ///
+    /// let again = Item::from_json_text(alloc, text)?;
+    /// assert!(rt; users.put_if(Condition::NotExists, again).is_err());
+    /// ```
     pub fn put_if(&mut self, condition: Condition, item: Item) -> Result<Option<Item>, TableError>
         ensures puts { PutsIf condition item self.old self.new result }
         ensures ordered { OnOk result (IsOrdered key_cmp (items_of self.new)) }
@@ -92,6 +118,7 @@ impl Table {
 
     // Puts an item under a key, its own, where the condition holds there, and returns the item that
     // was there.
+    #[tactic(auto, using(crate::proofs::HeldKeys::kept, crate::proofs::HeldKeys::inserted))]
     fn put_under(
         &mut self,
         condition: Condition,
@@ -119,11 +146,13 @@ impl Table {
         }
     }
 
-    /// Puts an item under its key, and returns the key. It drops the item that was there.
+    /// Puts an item under its key, and returns the key. An item that was there is dropped.
     ///
     /// # Errors
     ///
-    /// Those of [`KeySchema::key_of`], and `OutOfMemory`. The table has then the items that it had.
+    /// Returns the error of [`KeySchema::key_of`].
+    ///
+    /// Returns [`TableError::OutOfMemory`] if memory runs out.
     pub fn put_returning_key(&mut self, item: Item) -> Result<Key, TableError>
         ensures puts { PutsItem item self.old self.new result }
         ensures ordered { OnOk result (IsOrdered key_cmp (items_of self.new)) }
@@ -132,13 +161,16 @@ impl Table {
         self.put_if_returning_key(Condition::Always, item)
     }
 
-    /// Puts an item under its key where the condition holds there, and returns the key. It drops the
-    /// item that was there.
+    /// Puts an item under its key if the condition holds there, and returns the key. An item that
+    /// was there is dropped.
     ///
     /// # Errors
     ///
-    /// Those of [`KeySchema::key_of`], `ConditionFailed` where the condition doesn't hold, and
-    /// `OutOfMemory`. The table has then the items that it had.
+    /// Returns the error of [`KeySchema::key_of`].
+    ///
+    /// Returns [`TableError::ConditionFailed`] if the condition doesn't hold.
+    ///
+    /// Returns [`TableError::OutOfMemory`] if memory runs out.
     pub fn put_if_returning_key(
         &mut self,
         condition: Condition,
@@ -154,7 +186,8 @@ impl Table {
         Ok(copy)
     }
 
-    /// Takes out the item under a key, where there is one.
+    /// Deletes the item under a key, and returns it, or `None` if there was none.
+    #[tactic(auto, using(crate::proofs::HeldKeys::removed))]
     pub fn delete(&mut self, key: &Key) -> Option<Item>
         ensures before { result ≡ get key_cmp (items_of self.old) key.now }
         ensures updates { Updates key_cmp (items_of self.old) (items_of self.new) key.now None }
@@ -164,11 +197,13 @@ impl Table {
         self.items.remove(key)
     }
 
-    /// Takes out the item under a key where the condition holds there.
+    /// Deletes the item under a key if the condition holds there, and returns it, or `None` if
+    /// there was none.
     ///
     /// # Errors
     ///
-    /// `ConditionFailed` where the condition doesn't hold.
+    /// Returns [`TableError::ConditionFailed`] if the condition doesn't hold.
+    #[tactic(auto, using(crate::proofs::HeldKeys::removed))]
     pub fn delete_if(&mut self, condition: Condition, key: &Key) -> Result<Option<Item>, TableError>
         ensures deletes { DeletesIf condition key.now self.old self.new result }
         ensures ordered { OnOk result (IsOrdered key_cmp (items_of self.new)) }
@@ -188,14 +223,34 @@ impl Table {
         }
     }
 
-    /// Puts what `change` makes of the item under a key in its place.
+    /// Replaces the item under a key by the item that `change` makes of it.
     ///
-    /// The errors are of any type that an error of the table converts to, such as one of the caller's own.
+    /// The errors are of any type that an error of the table converts to, such as one of the
+    /// caller's own.
     ///
     /// # Errors
     ///
-    /// `NoItem` if the key has no item, the error of `change`, those of [`KeySchema::key_of`] of the changed item, and
-    /// `KeyChanged` if that has another key. The table has then the items that it had.
+    /// Returns [`TableError::NoItem`] if the key has no item.
+    ///
+    /// Returns the error of `change`, or that of [`KeySchema::key_of`] for the changed item.
+    ///
+    /// Returns [`TableError::KeyChanged`] if the changed item has another key.
+    ///
+    /// # Examples
+    ///
+    /// ```rust
+    /// use memory_table::{KeySchema, Table};
+    /// use serde_dynamo::{DynamoJson, Item};
+    ///
+    /// let mut users = Table::new(alloc, KeySchema::parse(alloc, &["name:S"])?);
+    /// let text = r#"{"name": {"S": "Arthur"}}"#;
+    /// let key = users.put_returning_key(Item::from_json_text(alloc, text)?)?;
+    ///
+    /// let text = r#"{"name": {"S": "Arthur"}, "age": {"N": "42"}}"#;
+    /// users.update::<anyhow::Error, _>(&key, |_user| Ok(Item::from_json_text(alloc, text)?))?;
+    /// assert!(rt; matches!(users.get(&key), Some(user) if user.get("age").is_some()));
+    /// ```
+    #[tactic(auto, using(crate::proofs::HeldKeys::kept))]
     pub fn update<E: From<TableError>, F: FnOnce(&Item) -> Result<Item, E>>(
         &mut self,
         key: &Key,

@@ -24,8 +24,28 @@ impl Table {
     ///
     /// # Errors
     ///
-    /// [`AllocError`] if memory for the result, or for the keys at the ends of the range, can't be
-    /// allocated. A table of at most eight items allocates no keys.
+    /// Returns [`AllocError`] if memory runs out. A table of at most eight items allocates no
+    /// memory but that of the result.
+    ///
+    /// # Examples
+    ///
+    /// ```rust
+    /// use memory_table::{KeySchema, Query, Table};
+    /// use serde_dynamo::{DynamoJson, Item};
+    ///
+    /// let schema = KeySchema::parse(alloc, &["customer:S", "placed_at:N"])?;
+    /// let mut orders = Table::new(alloc, schema);
+    /// for year in ["2023", "2024"] {
+    ///     let text = format!(in alloc;
+    ///         "{{\"customer\": {{\"S\": \"Arthur\"}}, \"placed_at\": {{\"N\": \"{year}\"}}}}")?;
+    ///     orders.put(Item::from_json_text(alloc, text.as_str())?)?;
+    /// }
+    ///
+    /// let key = orders.schema().key_from(alloc, "Arthur", Some("2024"))?;
+    /// let newest = Query { backward: true, limit: 1, ..Query::of(&key.partition) };
+    /// let found = orders.query(alloc, &newest)?;
+    /// assert!(rt; matches!(found.as_slice(), [(found_key, _)] if **found_key == key));
+    /// ```
     pub fn query(&self, alloc: Global, query: &Query<'_>) -> Result<Vec<(&Key, &Item)>, AllocError>
         ensures { IfOk result (λ found. seen found.items ≡ answer query.now (entries_of self.now)) }
     {
@@ -86,6 +106,27 @@ impl Table {
 
     /// Returns a page of all items: those behind `start_after`, in the order of their keys, at
     /// most `limit`. The next page starts after the last key of this one.
+    ///
+    /// # Errors
+    ///
+    /// Returns [`AllocError`] if memory runs out.
+    ///
+    /// # Examples
+    ///
+    /// ```rust
+    /// use memory_table::{KeySchema, Table};
+    /// use serde_dynamo::{DynamoJson, Item};
+    ///
+    /// let mut users = Table::new(alloc, KeySchema::parse(alloc, &["name:S"])?);
+    /// for text in [r#"{"name": {"S": "Arthur"}}"#, r#"{"name": {"S": "Ford"}}"#] {
+    ///     users.put(Item::from_json_text(alloc, text)?)?;
+    /// }
+    ///
+    /// let first = users.scan(alloc, 1, None)?;
+    /// let last = first.as_slice().last().map(|(key, _)| *key);
+    /// let second = users.scan(alloc, 1, last)?;
+    /// assert_eq!(rt; second.len(), 1);
+    /// ```
     pub fn scan(
         &self,
         alloc: Global,
@@ -103,6 +144,11 @@ impl Table {
 
     /// Returns all items with their keys, each once, in the order of the keys. It reads page by
     /// page, each of at most `limit` items, and at least one.
+    ///
+    /// # Errors
+    ///
+    /// Returns [`AllocError`] if memory runs out.
+    #[tactic(auto, using(crate::proofs::Scans::rest_of_all))]
     pub fn scan_all(&self, alloc: Global, limit: usize) -> Result<Vec<(&Key, &Item)>, AllocError>
         ensures { IfOk result (λ all. seen all.items ≡ entries_of self.now) }
     {

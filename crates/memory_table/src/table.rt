@@ -6,7 +6,23 @@ use dynamo_value::Item;
 use std::collections::BTreeMap;
 use table_key::{Key, KeySchema};
 
-/// A DynamoDB table in memory: items by their keys, in the keys' order.
+/// A DynamoDB table in memory: items by their keys, in the order of the keys.
+///
+/// # Examples
+///
+/// ```rust
+/// use memory_table::{KeySchema, Query, Table};
+/// use serde_dynamo::{DynamoJson, Item};
+///
+/// let schema = KeySchema::parse(alloc, &["customer:S", "placed_at:N"])?;
+/// let mut orders = Table::new(alloc, schema);
+/// let text = r#"{"customer": {"S": "Arthur"}, "placed_at": {"N": "2024"}}"#;
+/// orders.put(Item::from_json_text(alloc, text)?)?;
+///
+/// let key = orders.schema().key_from(alloc, "Arthur", Some("2024"))?;
+/// assert!(rt; orders.get(&key).is_some());
+/// assert_eq!(rt; orders.query(alloc, &Query::of(&key.partition))?.len(), 1);
+/// ```
 #[derive(Debug, Drop)]
 pub struct Table {
     pub(crate) schema: KeySchema,

@@ -5,31 +5,31 @@ ghost use Rattle.table_key.specs.declared.error.TableError.TheVariants.{OutOfMem
 use std::alloc::{AllocError, AllocFailed};
 use std::fmt;
 
-/// Why a call on a table was refused. The table is then as it was.
+/// An error of a call on a table. The table then has the items that it had.
 #[derive(Clone, Copy, Debug, PartialEq, Eq)]
 pub enum TableError {
     /// An attribute of the key is missing.
     Missing,
 
-    /// A sort key is given, and the table has none.
+    /// A value of a sort key is given, and the table has no sort key.
     NoSortKey,
 
     /// The value of an attribute of the key is of another kind.
     WrongKind,
 
-    /// A text or a byte string of the key is empty.
+    /// A string or a byte string of the key is empty.
     Empty,
 
-    /// The text of a number of the key is no number that DynamoDB keeps.
+    /// A number of the key isn't one that DynamoDB keeps.
     NotANumber,
 
-    /// The word of a byte string of the key is no base64 text.
+    /// The argument for a byte string of the key isn't base64.
     NotBase64,
 
-    /// The word is not that of a key attribute, a name and a kind.
+    /// The argument for a key attribute isn't of the form `NAME:KIND`.
     NotAnAttribute,
 
-    /// No item is there to be updated.
+    /// An update found no item under the key.
     NoItem,
 
     /// An update would give the item another key.
@@ -38,7 +38,7 @@ pub enum TableError {
     /// The condition doesn't hold.
     ConditionFailed,
 
-    /// No memory was found.
+    /// Memory ran out.
     OutOfMemory,
 }
 
@@ -50,7 +50,7 @@ impl From<AllocError> for TableError {
     }
 }
 
-/// What could not be stored is let go.
+/// The value that couldn't be stored is dropped.
 impl<T: Drop> From<AllocFailed<T>> for TableError {
     ghost from_gives = { λ _ e. e ≡ OutOfMemory };
 

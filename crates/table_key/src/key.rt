@@ -9,10 +9,10 @@ use dynamo_number::Number;
 use std::alloc::AllocError;
 use std::cmp::Ordering;
 
-/// The kinds of attributes that can be a part of a key.
+/// The kind of an attribute of a key.
 #[derive(Clone, Copy, Debug, PartialEq, Eq)]
 pub enum KeyKind {
-    /// A text.
+    /// A string.
     S,
 
     /// A number.
@@ -22,13 +22,13 @@ pub enum KeyKind {
     B,
 }
 
-/// The value of a part of a key.
+/// The value of a partition key or a sort key.
 ///
-/// Texts and byte strings compare by their bytes, numbers by value, and any text comes before any number, that before any
-/// byte string.
+/// Strings and byte strings compare by their bytes, numbers by value. A string is less than each
+/// number, and a number less than each byte string.
 #[derive(Debug, Drop)]
 pub enum KeyValue {
-    /// A text.
+    /// A string.
     S(String),
 
     /// A number.
@@ -38,20 +38,31 @@ pub enum KeyValue {
     B(Vec<u8>),
 }
 
-/// The key of an item: its value of the partition key, and of the sort key where the table has one.
+/// The key of an item: its partition key, and its sort key if the table has one.
 ///
 /// Keys compare by the partition key and then by the sort key.
+///
+/// # Examples
+///
+/// ```rust
+/// use table_key::KeySchema;
+///
+/// let schema = KeySchema::parse(alloc, &["customer:S", "placed_at:N"])?;
+/// let first = schema.key_from(alloc, "Arthur", Some("9"))?;
+/// let second = schema.key_from(alloc, "Arthur", Some("10"))?;
+/// assert!(rt; first < second);
+/// ```
 #[derive(Debug, Drop, PartialEq, Eq, PartialOrd, Ord)]
 pub struct Key {
     /// The value of the partition key.
     pub partition: KeyValue,
 
-    /// The value of the sort key, where the table has one.
+    /// The value of the sort key, or `None` if the table has none.
     pub sort: Option<KeyValue>,
 }
 
 impl KeyKind {
-    /// The letter of this kind, as DynamoDB writes it: `S`, `N` or `B`.
+    /// Returns the letter of this kind, as DynamoDB writes it: `S`, `N` or `B`.
     pub fn name(self) -> &'static str
         ensures { result.now ≡ kind_name self }
     {
@@ -62,7 +73,7 @@ impl KeyKind {
         }
     }
 
-    /// The kind of a letter, if it is the letter of one.
+    /// Returns the kind with this letter, or `None` if no kind has it.
     pub fn parse(name: &str) -> Option<KeyKind>
         ensures { MatchOption result ((kind : KeyKind) → name.now ≢ kind_name kind) (λ kind. name.now ≡ kind_name kind) }
     {
@@ -76,7 +87,8 @@ impl KeyKind {
 }
 
 impl KeyValue {
-    /// Where values of this kind stand among those of others: texts first, byte strings last.
+    /// Returns the place of this kind in the order of values: 0 for strings, 1 for numbers, 2 for
+    /// byte strings.
     pub fn rank(&self) -> u8
         ensures { result ≡ kind_rank self.now }
     {
@@ -88,7 +100,7 @@ impl KeyValue {
     }
 }
 
-/// The clone is equal. That of a number takes no memory.
+/// The clone is equal. The clone of a number takes no memory.
 impl Clone for KeyValue {
     ghost is_clone = { λ value copy. value_cmp copy value ≡ Equal };
 
@@ -103,7 +115,7 @@ impl Clone for KeyValue {
     }
 }
 
-/// The clone is equal. Cloning numbers takes no memory.
+/// The clone is equal. The clone of a key of numbers takes no memory.
 impl Clone for Key {
     ghost is_clone = { λ key copy. key_cmp copy key ≡ Equal };
 

@@ -1,4 +1,5 @@
-//! Laws that tie the definitions together. Each is a function that does nothing, whose contract says the law.
+//! Laws that tie the definitions together. Each is a function that does nothing, and its contract
+//! is the law.
 ghost use Rattle.std.specs.Prelude.{◌≡◌, ℕ, ℤ, List, Ok};
 ghost use Rattle.dynamo_value.specs.declared.item.Item.{Item};
 ghost use Rattle.table_key.specs.Held.{IsHeldKey};
@@ -9,10 +10,10 @@ ghost use Rattle.table_key.specs.declared.key.Key.{Key};
 ghost use Rattle.table_key.specs.declared.schema.KeySchema.{KeySchema};
 ghost use Rattle.std.specs.declared.cmp.Ordering.TheVariants.{Equal};
 
-/// All keys that are read from one item are one key, so that what is put is found under every key that is read from it; a text
-/// says one number.
+/// An item has one key, so an item that is put is found under each key that is read from it.
 ///
-/// A key that is equal to an item's is the item's too, and its values are ones that DynamoDB keeps if those of the other are.
+/// A key that is equal to the item's key is the item's too, and DynamoDB keeps its values if it
+/// keeps those of the other. A string says at most one number.
 pub fn one_key()
     ensures key { (schema : KeySchema) (item : Item) (key other : Key)
         → ReadsKey schema item (Ok key) → ReadsKey schema item (Ok other) → key_cmp key other ≡ Equal }

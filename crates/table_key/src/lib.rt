@@ -1,4 +1,5 @@
-//! The keys of a DynamoDB table: which attributes they are, how they are read from an item, and how they compare.
+//! The keys of a DynamoDB table: their attributes, how they are read from an item, and how they
+//! compare.
 #![tactic(auto)]
 
 mod error;

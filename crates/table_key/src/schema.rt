@@ -8,32 +8,48 @@ use dynamo_number::Number;
 use dynamo_value::{AttributeValue, ErrorImpl, Item, base64_text};
 use std::alloc::{AllocError, Global};
 
-/// An attribute that is a part of a table's key.
+/// An attribute of a table's key.
 #[derive(Debug, Drop, PartialEq, Eq)]
 pub struct KeyAttribute {
-    /// Its name.
+    /// The name of the attribute.
     pub name: String,
 
     /// The kind of its values.
     pub kind: KeyKind,
 }
 
-/// What a table's keys are: a partition key, and perhaps a sort key.
+/// The attributes of a table's key: a partition key, and a sort key if the table has one.
+///
+/// # Examples
+///
+/// ```rust
+/// use serde_dynamo::{DynamoJson, Item};
+/// use table_key::{KeySchema, KeyValue, Number};
+///
+/// let schema = KeySchema::parse(alloc, &["customer:S", "placed_at:N"])?;
+/// let text = r#"{"customer": {"S": "Arthur"}, "placed_at": {"N": "2024"}}"#;
+/// let key = schema.key_of(&Item::from_json_text(alloc, text)?)?;
+/// assert!(rt; key.partition == KeyValue::S(String::from_str(alloc, "Arthur")?));
+/// assert!(rt; key.sort == Number::parse("2024").map(|number| KeyValue::N(number)));
+/// ```
 #[derive(Debug, Drop, PartialEq, Eq)]
 pub struct KeySchema {
     /// The partition key.
     pub partition: KeyAttribute,
 
-    /// The sort key, where there is one.
+    /// The sort key, or `None` if the table has none.
     pub sort: Option<KeyAttribute>,
 }
 
 impl KeyAttribute {
-    /// The attribute of a word `NAME:KIND`, as `at:N`. The kind stands behind the last colon.
+    /// Returns the attribute that an argument `NAME:KIND` names, as `at:N`. The kind is behind the
+    /// last colon.
     ///
     /// # Errors
     ///
-    /// `NotAnAttribute` where the word is another, or has no name; want of memory.
+    /// Returns [`TableError::NotAnAttribute`] if the argument has another form, or no name.
+    ///
+    /// Returns [`TableError::OutOfMemory`] if memory runs out.
     pub fn parse(alloc: Global, word: &str) -> Result<KeyAttribute, TableError>
         ensures ok { IfOk result (λ attribute. (word.now ≡ word_of attribute) × IsNamed attribute) }
         ensures err { IfErr result (λ e. (e ≡ OutOfMemory) ⊎ ((e ≡ NotAnAttribute) × IsNoWord word.now)) }
@@ -51,7 +67,11 @@ impl KeyAttribute {
         Ok(KeyAttribute { name, kind })
     }
 
-    /// The word `NAME:KIND` of this attribute, which [`KeyAttribute::parse`] reads.
+    /// Returns this attribute as the argument `NAME:KIND` that [`KeyAttribute::parse`] reads.
+    ///
+    /// # Errors
+    ///
+    /// Returns [`AllocError`] if memory runs out.
     pub fn to_word(&self, alloc: Global) -> Result<String, AllocError>
         ensures { IfOk result (λ word. string_bytes word ≡ word_of self.now) }
     {
@@ -61,12 +81,19 @@ impl KeyAttribute {
         Ok(word)
     }
 
-    /// The value of this attribute of an item.
+    /// Returns the value of this attribute in an item.
     ///
     /// # Errors
     ///
-    /// `Missing` where the item has no such attribute, `WrongKind` where its value is of another kind, `Empty` where it is a
-    /// text or a byte string without bytes, `NotANumber` where it is the text of no number that DynamoDB keeps.
+    /// Returns [`TableError::Missing`] if the item has no such attribute.
+    ///
+    /// Returns [`TableError::WrongKind`] if its value is of another kind.
+    ///
+    /// Returns [`TableError::Empty`] if it is a string or a byte string without bytes.
+    ///
+    /// Returns [`TableError::NotANumber`] if its string isn't a number that DynamoDB keeps.
+    ///
+    /// Returns [`TableError::OutOfMemory`] if memory runs out.
     pub fn value_in(&self, item: &Item) -> Result<KeyValue, TableError>
         ensures reads { Reads self.now item.now result }
         ensures held { IfOk result IsHeld }
@@ -84,12 +111,21 @@ impl KeyAttribute {
         }
     }
 
-    /// The value of this attribute that a word says: a text is itself, a number its text, a byte string its base64 text
-    /// (RFC 4648, section 4).
+    /// Returns the value of this attribute that an argument says: a string as it is, a number in
+    /// digits, a byte string in base64 (RFC 4648, section 4).
     ///
     /// # Errors
     ///
-    /// `NotBase64`, `Empty` and `NotANumber`, by the kind of the attribute, and want of memory.
+    /// Returns [`TableError::Empty`] if the attribute is a string or a byte string and the argument
+    /// has no bytes.
+    ///
+    /// Returns [`TableError::NotANumber`] if the attribute is a number and the argument isn't one
+    /// that DynamoDB keeps.
+    ///
+    /// Returns [`TableError::NotBase64`] if the attribute is a byte string and the argument isn't
+    /// base64.
+    ///
+    /// Returns [`TableError::OutOfMemory`] if memory runs out.
     pub fn value_of(&self, alloc: Global, word: &str) -> Result<KeyValue, TableError>
         ensures { Says self.now.kind word.now result }
     {
@@ -138,12 +174,15 @@ fn bytes_value(alloc: Global, bytes: &[u8]) -> Result<KeyValue, TableError>
 }
 
 impl KeySchema {
-    /// The keys of one word or two, the partition key first, each as [`KeyAttribute::parse`] reads it.
+    /// Returns the keys that one argument or two name, the partition key first, each as
+    /// [`KeyAttribute::parse`] reads it.
     ///
     /// # Errors
     ///
-    /// Those of [`KeyAttribute::parse`], the sort key's before the partition key's, and `NotAnAttribute` where there are no words,
-    /// or more than two.
+    /// Returns [`TableError::NotAnAttribute`] if there is no argument, or more than two.
+    ///
+    /// Otherwise returns the error of [`KeyAttribute::parse`], for the sort key before the
+    /// partition key.
     pub fn parse(alloc: Global, words: &[&str]) -> Result<KeySchema, TableError>
         ensures ok { IfOk result (λ schema. (map (λ w. w.now) words.now ≡ words_of schema) × AreNamed schema) }
         ensures err { IfErr result (λ e. (e ≡ OutOfMemory) ⊎ ((e ≡ NotAnAttribute) × AreNoWords (map (λ w. w.now) words.now))) }
@@ -157,12 +196,27 @@ impl KeySchema {
         Ok(KeySchema { partition, sort })
     }
 
-    /// The key that words say, as [`KeyAttribute::value_of`] reads them: that of the sort key where there is one.
+    /// Returns the key that arguments say, each as [`KeyAttribute::value_of`] reads it. `sort` is
+    /// `None` if the table has no sort key.
     ///
     /// # Errors
     ///
-    /// `NoSortKey` where there is a word for a sort key and the table has none, `Missing` where it has one and there is no word,
-    /// and those of the words.
+    /// Returns [`TableError::Missing`] if the table has a sort key and `sort` is `None`.
+    ///
+    /// Returns [`TableError::NoSortKey`] if the table has no sort key and `sort` is an argument.
+    ///
+    /// Otherwise returns the error of [`KeyAttribute::value_of`].
+    ///
+    /// # Examples
+    ///
+    /// ```rust
+    /// use table_key::KeySchema;
+    ///
+    /// let schema = KeySchema::parse(alloc, &["customer:S", "placed_at:N"])?;
+    /// let key = schema.key_from(alloc, "Arthur", Some("2024"))?;
+    /// assert!(rt; key.sort.is_some());
+    /// assert!(rt; schema.key_from(alloc, "Arthur", None).is_err());
+    /// ```
     pub fn key_from(
         &self,
         alloc: Global,
@@ -181,11 +235,11 @@ impl KeySchema {
         Ok(Key { partition, sort })
     }
 
-    /// The key of an item.
+    /// Returns the key of an item.
     ///
     /// # Errors
     ///
-    /// Those of [`KeyAttribute::value_in`], the partition key's before the sort key's.
+    /// Returns the error of [`KeyAttribute::value_in`], for the partition key before the sort key.
     pub fn key_of(&self, item: &Item) -> Result<Key, TableError>
         ensures reads { ReadsKey self.now item.now result }
         ensures held { IfOk result IsHeldKey }

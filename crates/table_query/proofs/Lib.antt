@@ -1,9 +1,7 @@
 pub mod Meets
 pub mod Narrowed
 pub mod NextValues
-pub mod Orders
 pub mod Partitions
 pub mod PrefixEnds
 pub mod PrefixLists
-pub mod Prefixed
 pub mod TextOrder

@@ -1,10 +1,20 @@
 ghost use Rattle.std.specs.Prelude.{◌≡◌};
 ghost use Rattle.table_query.specs.Conditions.{holds};
 
-/// On what a change depends.
+/// A condition of a put or a delete, on the key whose item it changes.
+///
+/// # Examples
+///
+/// ```rust
+/// use table_query::Condition;
+///
+/// // A put that keeps an item that is there.
+/// assert!(rt; Condition::NotExists.holds(false));
+/// assert!(rt; !Condition::NotExists.holds(true));
+/// ```
 #[derive(Clone, Copy, Debug, PartialEq, Eq)]
 pub enum Condition {
-    /// On nothing.
+    /// No condition: it always holds.
     Always,
 
     /// The key has an item: `attribute_exists` of the partition key.
@@ -15,7 +25,7 @@ pub enum Condition {
 }
 
 impl Condition {
-    /// Whether the condition holds at a key that has an item, or has none.
+    /// Returns whether the condition holds for a key that has an item, or has none.
     pub fn holds(self, exists: bool) -> bool
         ensures { result ≡ holds self exists }
     {

@@ -18,14 +18,14 @@ use table_key::{Key, KeyValue, Number};
 impl Query<'_> {
     /// Returns the range of the keys that the query finds, or `None` if it finds no key.
     ///
-    /// The query finds each key in the range that a table can hold, and no other key. A condition
-    /// without a highest value ends before the first value of the next kind, a prefix before the
-    /// least value above all that begin with it, and the whole partition before the first key of
-    /// the next.
+    /// The query finds each key in the range that a table can hold, and no other key. The range of
+    /// a condition without a greatest value ends before the first value of the next kind. That of a
+    /// prefix ends before the least value above all that begin with it, and that of the whole
+    /// partition before the first key of the next one.
     ///
     /// # Errors
     ///
-    /// [`AllocError`] if memory for the keys at the ends of the range can't be allocated.
+    /// Returns [`AllocError`] if memory runs out.
     pub fn key_range(&self, alloc: Global) -> Result<Option<KeyRange>, AllocError>
         ensures { IfOk result (λ range. MatchOption range (FindsNone self.now) (FindsBetween self.now)) }
     {
@@ -85,10 +85,11 @@ impl Query<'_> {
 
 impl KeyRange {
     // Returns the range between two places, or `None` if no key lies between them.
+    #[tactic(auto, using(crate::proofs::Narrowed::nothing_between))]
     fn between(low: Place, high: Place) -> Option<KeyRange>
         ensures { MatchOption result
             ((key : Key) → (is_from_place low key && not (is_from_place high key)) ≡ false)
-            (λ range. (range.low ≡ low) × (range.high ≡ high)) }
+            (λ range. (key : Key) → (is_from_place low key && not (is_from_place high key)) ≡ lies_between range key) }
     {
         if low.cmp(&high).is_lt() {
             Some(KeyRange { low, high })
@@ -97,7 +98,7 @@ impl KeyRange {
         }
     }
 
-    /// Returns the range as the bounds that a `BTreeMap` takes.
+    /// Returns the range as the bounds that `BTreeMap::range` takes.
     pub fn bounds(&self) -> (Bound<&Key>, Bound<&Key>)
         ensures between { (key : Key) → range_contains key_cmp (bound_map (λ x. x.now) result.0)
             (bound_map (λ x. x.now) result.1) key ≡ lies_between self.now key }
@@ -118,6 +119,7 @@ impl KeyRange {
 // Returns the value that comes next to a value, so that none lies between them: a string or a byte
 // string with a zero byte added, and the next number. Behind the greatest number come the byte
 // strings.
+#[tactic(auto, using(crate::proofs::NextValues::zero_added))]
 fn next_value(alloc: Global, value: &KeyValue) -> Result<KeyValue, AllocError>
     ensures { IfOk result (IsNextValue value.now) }
 {

@@ -1,4 +1,5 @@
-//! What is asked of a DynamoDB table: on what a change depends, and which items a query finds.
+//! Conditions and queries of a DynamoDB table: whether a change is made, and which items a query
+//! finds.
 #![tactic(auto)]
 
 mod condition;

@@ -6,7 +6,7 @@ ghost use Rattle.table_query.specs.Places.{is_from, is_from_place};
 use std::alloc::AllocError;
 use table_key::Key;
 
-/// A place among the keys: just before a key, or just behind it.
+/// A place in the order of keys: just before a key, or just behind it.
 #[derive(Debug, Drop, PartialEq, Eq, PartialOrd, Ord)]
 pub struct Place {
     /// The key.
@@ -18,6 +18,7 @@ pub struct Place {
 
 impl Place {
     // Returns the place before a copy of the key, or behind it.
+    #[tactic(auto, using(crate::proofs::Narrowed::equal_keys))]
     pub(crate) fn at(key: &Key, is_behind: bool) -> Result<Place, AllocError>
         ensures { IfOk result (λ place. (other : Key)
             → is_from_place place other ≡ is_from key_cmp is_behind key.now other) }

@@ -1,4 +1,4 @@
-//! Where what begins with a prefix ends.
+//! The end of the values that begin with a prefix.
 ghost use Rattle.std.specs.List.{All};
 ghost use Rattle.std.specs.Prelude.{◌≡◌, IfOk, IsUtf8, option_map, string_bytes};
 ghost use Rattle.table_key.specs.Held.{IsByte};
@@ -13,7 +13,7 @@ use std::alloc::AllocError;
 ///
 /// # Errors
 ///
-/// [`AllocError`] if memory for the string can't be allocated.
+/// Returns [`AllocError`] if memory runs out.
 pub(crate) fn text_past(prefix: &String) -> Result<Option<String>, AllocError>
     ensures { IfOk result (λ past. BeginsUpTo IsUtf8 (string_bytes prefix.now) (option_map string_bytes past)) }
 {
@@ -32,7 +32,7 @@ pub(crate) fn text_past(prefix: &String) -> Result<Option<String>, AllocError>
 ///
 /// # Errors
 ///
-/// [`AllocError`] if memory for the byte string can't be allocated.
+/// Returns [`AllocError`] if memory runs out.
 pub(crate) fn bytes_past(prefix: &Vec<u8>) -> Result<Option<Vec<u8>>, AllocError>
     ensures { IfOk result (λ past. BeginsUpTo (All IsByte) prefix.now.items (option_map (λ b. b.items) past)) }
 {

@@ -4,10 +4,27 @@ ghost use Rattle.table_query.specs.Queries.{begins_with, compared, finds, is_beh
 use std::cmp::Ordering;
 use table_key::{Key, KeyValue};
 
-/// What is asked of the sort key. Only values of the kind that a condition has meet it.
+/// A condition on the sort key, as DynamoDB's `KeyConditionExpression` has it. Only values of the
+/// condition's kind meet it.
+///
+/// # Examples
+///
+/// ```rust
+/// use table_key::{KeySchema, TableError};
+/// use table_query::{Query, SortCondition};
+///
+/// let schema = KeySchema::parse(alloc, &["customer:S", "placed_at:N"])?;
+/// let low = schema.key_from(alloc, "Arthur", Some("2023"))?;
+/// let high = schema.key_from(alloc, "Arthur", Some("2024"))?;
+/// let from = low.sort.as_ref().ok_or(TableError::Missing)?;
+/// let to = high.sort.as_ref().ok_or(TableError::Missing)?;
+/// let query = Query { sort: SortCondition::Between(from, to), ..Query::of(&low.partition) };
+/// assert!(rt; query.finds(&high));
+/// assert!(rt; !query.finds(&schema.key_from(alloc, "Arthur", Some("2025"))?));
+/// ```
 #[derive(Clone, Copy, Debug)]
 pub enum SortCondition<'a> {
-    /// Nothing: items without a sort key meet this alone.
+    /// No condition. An item without a sort key meets this one alone.
     Any,
 
     /// `sort = :value`.
@@ -28,31 +45,48 @@ pub enum SortCondition<'a> {
     /// `sort BETWEEN :low AND :high`, both included.
     Between(&'a KeyValue, &'a KeyValue),
 
-    /// `begins_with(sort, :prefix)`, of texts and of byte strings. No number begins with another.
+    /// `begins_with(sort, :prefix)`, of strings and byte strings. No number begins with another.
     BeginsWith(&'a KeyValue),
 }
 
 /// A query of the items under one partition key.
+///
+/// # Examples
+///
+/// ```rust
+/// use table_key::KeySchema;
+/// use table_query::Query;
+///
+/// let schema = KeySchema::parse(alloc, &["customer:S", "placed_at:N"])?;
+/// let key = schema.key_from(alloc, "Arthur", Some("2024"))?;
+///
+/// // The newest ten, and the page after that with `key`.
+/// let newest = Query { backward: true, limit: 10, ..Query::of(&key.partition) };
+/// assert!(rt; newest.finds(&key));
+/// let next = Query { start_after: Some(&key), ..newest };
+/// assert!(rt; !next.finds(&key));
+/// ```
 #[derive(Clone, Copy, Debug)]
 pub struct Query<'a> {
     /// The value of the partition key.
     pub partition: &'a KeyValue,
 
-    /// What is asked of the sort key.
+    /// The condition on the sort key.
     pub sort: SortCondition<'a>,
 
-    /// Whether the greatest key comes first.
+    /// Whether the greatest sort key comes first, as with DynamoDB's `ScanIndexForward` false.
     pub backward: bool,
 
-    /// How many items are answered at most.
+    /// The greatest number of items to return.
     pub limit: usize,
 
-    /// The key behind which the answer begins, as the last of the page before.
+    /// The key after which the page begins: the last of the page before, or `None` for the first
+    /// page.
     pub start_after: Option<&'a Key>,
 }
 
 impl<'a> Query<'a> {
-    /// The query of all items under a partition key, the least sort key first.
+    /// Returns the query of all items under a partition key, the least sort key first.
     pub fn of(partition: &'a KeyValue) -> Self
         ensures partition { result.partition.now ≡ partition.now }
         ensures all { result.sort ≡ SortCondition.Any }
@@ -69,7 +103,7 @@ impl<'a> Query<'a> {
         }
     }
 
-    /// Whether the query finds the item under this key.
+    /// Returns whether the query finds the item under this key. The limit isn't considered.
     pub fn finds(&self, key: &Key) -> bool
         ensures { result ≡ finds self.now key.now }
     {
@@ -140,7 +174,7 @@ pub(crate) fn begins_with(value: &KeyValue, prefix: &KeyValue) -> bool
     }
 }
 
-/// Whether a key comes behind the one after which to start, in a direction. Every key does where there is none to start after.
+/// Returns whether a key is behind `start` in a direction. If `start` is `None`, each key is.
 pub fn is_behind(backward: bool, start: Option<&Key>, key: &Key) -> bool
     ensures { result ≡ is_behind backward start.entry key.now }
 {

@@ -30,8 +30,7 @@ impl SortCondition<'_> {
     ///
     /// # Errors
     ///
-    /// [`AllocError`] if memory for the values at the ends of the range can't be allocated.
-    #[tactic(auto, using(crate::proofs::Meets::between_range))]
+    /// Returns [`AllocError`] if memory runs out.
     pub(crate) fn range(self, alloc: Global) -> Result<Option<SortRange>, AllocError>
         ensures { IfOk result (λ range. MatchOption range (MeetsNone self.entry) (MeetsBetween self.entry)) }
     {
@@ -123,6 +122,7 @@ impl SortPlace {
     }
 
     // Returns the place just before a value, or just behind it.
+    #[tactic(auto, using(crate::proofs::Meets::equal_values))]
     fn at(value: &KeyValue, is_behind: bool) -> Result<SortPlace, AllocError>
         ensures { IfOk result (IsPlaceAt is_behind value.now) }
     {

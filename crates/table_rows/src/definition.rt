@@ -13,22 +13,25 @@ const ADD: &str = "INSERT INTO dynamo_table (name, partition_key, sort_key) VALU
 
 const FIND: &str = "SELECT id, partition_key, sort_key FROM dynamo_table WHERE name = ?1";
 
-/// A table of a database. Its key attributes are kept as words, a name and a kind.
+/// A table of a database: its number and its key attributes, which are kept as `NAME:KIND`.
 #[derive(Drop)]
 pub struct Definition {
-    /// Its number, by which its items are found.
+    /// The number of the table, by which its items are found.
     pub id: i64,
 
-    /// What its keys are.
+    /// The attributes of its keys.
     pub schema: KeySchema,
 }
 
 impl Definition {
-    /// The table of a name, where there is one.
+    /// Returns the table with a name, or `None` if there is none.
     ///
     /// # Errors
     ///
-    /// `Unreadable` where its key attributes don't read, `Database` and `OutOfMemory`.
+    /// Returns [`StoreError::Unreadable`] if its key attributes can't be read.
+    ///
+    /// Returns [`StoreError::Database`] if the database fails, and [`StoreError::OutOfMemory`] if
+    /// memory runs out.
     pub fn find<S: Alter>(
         alloc: Global,
         conn: &mut Connection<S>,
@@ -41,11 +44,12 @@ impl Definition {
         }
     }
 
-    /// Writes a table of a name that no table has.
+    /// Adds a table with a name that no table has.
     ///
     /// # Errors
     ///
-    /// `Database`, also where a table has the name, and `OutOfMemory`.
+    /// Returns [`StoreError::Database`] if the database fails or a table has the name, and
+    /// [`StoreError::OutOfMemory`] if memory runs out.
     pub fn add<S: Alter>(
         alloc: Global,
         conn: &mut Connection<S>,
@@ -86,11 +90,13 @@ fn attribute(alloc: Global, word: String) -> Result<KeyAttribute, StoreError> {
     }
 }
 
-/// Makes the two SQL tables where they are not there: that of the tables' key attributes, and that of all their items.
+/// Creates the two SQL tables if they don't exist: that of the tables' key attributes, and that of
+/// all their items.
 ///
 /// # Errors
 ///
-/// `Database` and `OutOfMemory`.
+/// Returns [`StoreError::Database`] if the database fails, and [`StoreError::OutOfMemory`] if
+/// memory runs out.
 pub fn make_tables<S: Alter>(conn: &mut Connection<S>) -> Result<(), StoreError> {
     Ok(conn.execute_batch(TABLES)?)
 }

@@ -7,10 +7,10 @@ use std::alloc::{AllocError, AllocFailed};
 use std::fmt;
 use table_key::TableError;
 
-/// Why a call on a table in a database was refused.
+/// An error of a call on a table in a database.
 #[derive(Clone, Copy, Debug, PartialEq, Eq)]
 pub enum StoreError {
-    /// The table refuses the item or the key, as a table in memory does.
+    /// The item or the key has an error that a table in memory also reports.
     Key(TableError),
 
     /// The database failed.
@@ -19,7 +19,7 @@ pub enum StoreError {
     /// Lists and maps nest in the item to more than the 32 levels that DynamoDB keeps.
     TooDeep,
 
-    /// The text that is kept of an item, or of a table, doesn't read.
+    /// The text of an item or of a table in the database can't be read.
     Unreadable,
 
     /// The database has no table of this name.
@@ -28,7 +28,7 @@ pub enum StoreError {
     /// The database has a table of this name with other keys.
     OtherSchema,
 
-    /// No memory was found.
+    /// Memory ran out.
     OutOfMemory,
 }
 
@@ -40,7 +40,7 @@ impl From<AllocError> for StoreError {
     }
 }
 
-/// What could not be stored is let go.
+/// The value that couldn't be stored is dropped.
 impl<T: Drop> From<AllocFailed<T>> for StoreError {
     ghost from_gives = { λ _ e. e ≡ StoreError.OutOfMemory };
 
@@ -49,7 +49,7 @@ impl<T: Drop> From<AllocFailed<T>> for StoreError {
     }
 }
 
-/// Want of memory is the same fault wherever it comes from.
+/// Out of memory becomes [`StoreError::OutOfMemory`].
 impl From<TableError> for StoreError {
     ghost from_gives = { λ error e. e ≡ of_table error };
 
@@ -61,7 +61,7 @@ impl From<TableError> for StoreError {
     }
 }
 
-/// Want of memory is the same fault wherever it comes from.
+/// Out of memory becomes [`StoreError::OutOfMemory`].
 impl From<Error> for StoreError {
     ghost from_gives = { λ error e. e ≡ of_database error };
 

@@ -1,4 +1,5 @@
-//! The rows of DynamoDB tables in a SQLite database. Each call is one statement.
+//! The rows of DynamoDB tables in a SQLite database. Each call on items runs one SQL statement, and
+//! [`page`] at most two.
 #![tactic(auto)]
 
 mod definition;

@@ -32,7 +32,13 @@ fn item_of(alloc: Global, text: &[u8]) -> Result<Item, StoreError> {
     }
 }
 
-/// The item of a row, whose first column is its text.
+/// Returns the item of a row, whose first column is its text.
+///
+/// # Errors
+///
+/// Returns [`StoreError::Unreadable`] if the text can't be read.
+///
+/// Returns [`StoreError::OutOfMemory`] if memory runs out.
 pub(crate) fn read_item(alloc: Global, row: &Row) -> Result<Item, StoreError> {
     match row.get_ref(0) {
         Ok(ValueRef::Text(text)) => item_of(alloc, text),
@@ -40,11 +46,14 @@ pub(crate) fn read_item(alloc: Global, row: &Row) -> Result<Item, StoreError> {
     }
 }
 
-/// The item under a key, where there is one.
+/// Returns the item under a key, or `None` if there is none.
 ///
 /// # Errors
 ///
-/// `Unreadable` where its text doesn't read, `Database` and `OutOfMemory`.
+/// Returns [`StoreError::Unreadable`] if the text of the item can't be read.
+///
+/// Returns [`StoreError::Database`] if the database fails, and [`StoreError::OutOfMemory`] if
+/// memory runs out.
 pub fn get<S: Alter>(
     alloc: Global,
     conn: &mut Connection<S>,
@@ -58,11 +67,12 @@ pub fn get<S: Alter>(
     }
 }
 
-/// Puts an item under a key.
+/// Puts an item under a key. An item that was there is replaced.
 ///
 /// # Errors
 ///
-/// `Database` and `OutOfMemory`.
+/// Returns [`StoreError::Database`] if the database fails, and [`StoreError::OutOfMemory`] if
+/// memory runs out.
 pub fn put<S: Alter>(
     alloc: Global,
     conn: &mut Connection<S>,
@@ -77,11 +87,12 @@ pub fn put<S: Alter>(
     Ok(())
 }
 
-/// Takes out the item under a key.
+/// Deletes the item under a key, if there is one.
 ///
 /// # Errors
 ///
-/// `Database` and `OutOfMemory`.
+/// Returns [`StoreError::Database`] if the database fails, and [`StoreError::OutOfMemory`] if
+/// memory runs out.
 pub fn delete<S: Alter>(
     conn: &mut Connection<S>,
     id: i64,
@@ -91,11 +102,12 @@ pub fn delete<S: Alter>(
     Ok(())
 }
 
-/// How many items a table has.
+/// Returns the number of items of a table.
 ///
 /// # Errors
 ///
-/// `Database` and `OutOfMemory`.
+/// Returns [`StoreError::Database`] if the database fails, and [`StoreError::OutOfMemory`] if
+/// memory runs out.
 pub fn count<S: Alter>(conn: &mut Connection<S>, id: i64) -> Result<u64, StoreError> {
     Ok(conn.query_row(COUNT, params![id])?.get(0)?)
 }
@@ -104,7 +116,8 @@ pub fn count<S: Alter>(conn: &mut Connection<S>, id: i64) -> Result<u64, StoreEr
 ///
 /// # Errors
 ///
-/// `Database` and `OutOfMemory`.
+/// Returns [`StoreError::Database`] if the database fails, and [`StoreError::OutOfMemory`] if
+/// memory runs out.
 pub fn run<S: Alter>(conn: &mut Connection<S>, sql: &str) -> Result<(), StoreError> {
     Ok(conn.execute_batch(sql)?)
 }

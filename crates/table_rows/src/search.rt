@@ -26,14 +26,18 @@ const FOLLOWING: &str = "SELECT item FROM dynamo_item WHERE table_id = ?1 AND pa
 /// Returns the items that a query finds in a table, in its direction and up to its limit.
 ///
 /// They are read from the rows under the bytes of its partition key and within bounds of the sort
-/// key. Bounds of the query hold the rows that it finds and no others. So one statement reads the
-/// rows of the answer, and one row more if a key of the table lies at an end that the query leaves
-/// out: the bound of `<`, or the key after which a backward query starts.
+/// key. [`Bounds::of_query`] returns bounds that hold the rows that the query finds and no others.
+/// So one statement reads these rows, and one row more if a key of the table is at an end that the
+/// query excludes: the bound of `<`, or the key after which a backward query starts.
 ///
 /// # Errors
 ///
-/// `Unreadable` if the text of an item doesn't read, `Key` if it lacks its key, `Database` and
-/// `OutOfMemory`.
+/// Returns [`StoreError::Unreadable`] if the text of an item can't be read.
+///
+/// Returns [`StoreError::Key`] if an item lacks its key.
+///
+/// Returns [`StoreError::Database`] if the database fails, and [`StoreError::OutOfMemory`] if
+/// memory runs out.
 pub fn find<S: Alter>(
     alloc: Global,
     conn: &mut Connection<S>,
@@ -65,12 +69,15 @@ pub fn find<S: Alter>(
     Ok(found)
 }
 
-/// The items behind a key of a table, in the order of the keys, at most `limit`: the rest of its partition, and then the
-/// partitions that follow.
+/// Returns the items behind a key of a table, in the order of the keys, at most `limit`: the rest
+/// of its partition, and then the partitions that follow.
 ///
 /// # Errors
 ///
-/// `Unreadable` where the text of an item doesn't read, `Database` and `OutOfMemory`.
+/// Returns [`StoreError::Unreadable`] if the text of an item can't be read.
+///
+/// Returns [`StoreError::Database`] if the database fails, and [`StoreError::OutOfMemory`] if
+/// memory runs out.
 pub fn page<S: Alter>(
     alloc: Global,
     conn: &mut Connection<S>,

@@ -1,20 +1,31 @@
-use Rattle.std.proofs.Common.{string_bytes, subst}
-use Rattle.std.specs.Prelude.{IsUtf8, option_map}
-use Rattle.table_query.specs.Prefixes.{BeginsUpTo}
-use Rattle.table_query.proofs.Prefixed.{texts_to_last, texts_up_to}
+use Rattle.std.proofs.Common.{arith, string_bytes, refl, None, Some}
+use Rattle.std.proofs.lemmas.Str.{IsUtf8-string_bytes}
+use Rattle.table_key.specs.declared.key.KeyValue.{KeyValue}
 use Rattle.table_query.proofs.sort_range.prefixed.Goals as goal
 
 pub returns-in-Some : goal.returns-in-Some
-returns-in-Some c = λ sort held.
-    let text = c.in-S.text in
-    let low = c.in_ok-low in
-    let up_to = subst (λ o. BeginsUpTo IsUtf8 (string_bytes text) (option_map string_bytes o)) c.in-Some.is c.in_ok-past-in-S.ensures in
-    rw (c.first_at.ensures.0, c.first_at.ensures.1)
-    (texts_up_to text c.args.prefix c.in-S.is low.low low.ensures c.in-Some.past up_to sort held)
+returns-in-Some c None held = rw (c.in_ok-low.ensures None) refl
+returns-in-Some c (Some (KeyValue.S w)) held =
+    let up_to = rw c.in-Some.is at c.in_ok-past-in-S.ensures in
+    rw (
+      c.in-S.is,
+      c.in_ok-low.ensures (Some (KeyValue.S w)),
+      c.first_at.ensures.0,
+      c.first_at.ensures.1,
+    )
+    (grind (arith, up_to (string_bytes w) (IsUtf8-string_bytes w)))
+returns-in-Some c (Some w) held =
+    rw (c.in_ok-low.ensures (Some w), c.first_at.ensures.0, c.first_at.ensures.1, c.in-S.is) refl
 
 pub returns-in-None : goal.returns-in-None
-returns-in-None c =
-    let text = c.in-S.text in
-    let low = c.in_ok-low in
-    let up_to = subst (λ o. BeginsUpTo IsUtf8 (string_bytes text) (option_map string_bytes o)) c.in-None.is c.in_ok-past-in-S.ensures in
-    texts_to_last text c.args.prefix c.in-S.is low.low low.ensures c.past_kind.result up_to c.past_kind.ensures
+returns-in-None c None held = rw (c.in_ok-low.ensures None) refl
+returns-in-None c (Some (KeyValue.S w)) held =
+    let up_to = rw c.in-None.is at c.in_ok-past-in-S.ensures in
+    rw (
+      c.in-S.is,
+      c.in_ok-low.ensures (Some (KeyValue.S w)),
+      c.past_kind.ensures (Some (KeyValue.S w)) held,
+    )
+    (grind (arith, up_to (string_bytes w) (IsUtf8-string_bytes w)))
+returns-in-None c (Some w) held =
+    rw (c.in_ok-low.ensures (Some w), c.past_kind.ensures (Some w) held, c.in-S.is) refl

@@ -1,4 +1,4 @@
-use Rattle.std.proofs.Common.{◌≡◌, ap, ◌∙◌, sym, reverse, if◌then◌else◌}
+use Rattle.std.proofs.Common.{◌≡◌, reverse, if◌then◌else◌, arith}
 use Rattle.memory_table.specs.Content.{entries_of}
 use Rattle.memory_table.proofs.Pages.{answered}
 use Rattle.memory_table.proofs.table.Table.found_among_few.Goals.{then-query, else-query}
@@ -10,10 +10,8 @@ returns c =
     let found = c.loop-key.found.items in
     let kept = c.if-query.found.items in
     let turned : kept ≡ (if query.backward then reverse found else found) = elim c.if-query.branch [
-      | then-query w ↦ (λ i. (w.found-is i).items) ∙ w.reverse.ensures.items
-          ∙ ap (λ b. if b then reverse found else found) (sym w.if-query.true)
-      | else-query w ↦ (λ i. (w.found-is i).items)
-          ∙ ap (λ b. if b then reverse found else found) (sym w.if-query.false)
+      | then-query w ↦ grind (arith, w.found-is, w.reverse.ensures.items, w.if-query.true)
+      | else-query w ↦ grind (arith, w.found-is, w.if-query.false)
     ] in
     answered query (entries_of c.args.self.now) _ found kept c.truncate.new.self.items
     c.in-None.ensures.steps.0 c.loop-key.invariant turned c.truncate.ensures.items

@@ -1,33 +1,24 @@
-use Rattle.std.proofs.Common.{◌≡◌, ◌∙◌, ◌++◌, length, take, refl, sym, ap, arith, Some, None}
-use Rattle.std.proofs.lemmas.List.{map-append, append-nil, length-map}
+use Rattle.std.proofs.Common.{◌∙◌, ◌++◌, length, refl, sym, ap, arith, Some}
+use Rattle.std.proofs.lemmas.List.{map-append, append-nil}
 use Rattle.std.proofs.lemmas.Slice.{pushed}
 use Rattle.memory_table.specs.Content.{entries_of}
 use Rattle.table_query.specs.Queries.{rest, seen}
-use Rattle.memory_table.proofs.Pages.{Entries, Lent, entry}
-use Rattle.memory_table.proofs.Scans.{page_left, page_none, rest_of_all}
+use Rattle.memory_table.proofs.Pages.{Entries, entry}
+use Rattle.memory_table.proofs.Scans.{page_left, page_none}
 use Rattle.memory_table.proofs.table.Table.scan_all.Goals as goal
-
-pub loop-all-init : goal.loop-all-init
-loop-all-init c =
-    let es = entries_of c.args.self.now in
-    ap (λ (xs : Lent). seen xs ++ rest None es) c.in_ok-all.ensures.items ∙ rest_of_all es
 
 pub returns-in_default : goal.returns-in_default
 returns-in_default c =
-    let es = entries_of c.args.self.now in
-    let all = c.loop-all.all.items in
-    let page = c.in_ok-page.page.items in
-    let count : length (take c.max.result (rest c.loop-all.start es)) ≡ 0 =
-    ap length (sym c.in_ok-page.ensures) ∙ length-map page entry
-    ∙ ap length (sym c.as_slice.ensures.value) ∙ c.in_default.ensures.cases in
-    let limit = c.max.result in
-    let none = page_none (rest c.loop-all.start es) limit (omega (arith, c.max.ensures)) count in
-    sym (append-nil (seen all)) ∙ ap (λ (xs : Entries). seen all ++ xs) (sym none)
-    ∙ c.loop-all.invariant
+    let left = rest c.loop-all.start (entries_of c.args.self.now) in
+    let none = page_none left c.max.result c.in_ok-page.page.items
+    (omega (arith, c.max.ensures)) c.in_ok-page.ensures
+    (ap length (sym c.as_slice.ensures.value) ∙ c.in_default.ensures.cases) in
+    sym (append-nil (seen c.loop-all.all.items)) ∙ rw none at c.loop-all.invariant
 
 pub loop-all-smaller : goal.loop-all-smaller
 loop-all-smaller c =
-    (page_left (entries_of c.args.self.now) c.loop-all.all.items c.in_ok-page.page.items c.in-Some.field-0-1.now
+    (page_left (entries_of c.args.self.now) c.loop-all.all.items c.in_ok-page.page.items
+    c.in-Some.field-0-1.now
     c.in-Some.field-0-0.now c.loop-all.start c.max.result c.len.ensures.ordered c.in_ok-page.ensures
     (sym c.as_slice.ensures.value ∙ c.in-Some.ensures.cases.0) c.loop-all.invariant).1
 
@@ -39,5 +30,6 @@ loop-all-preserved c =
     let all = c.loop-all.all.items in
     let items = pushed page refl c.in_ok-append.was c.append.ensures.items in
     ap (λ (xs : Entries). xs ++ rest (Some x.0) es) (ap seen items ∙ map-append entry all page)
-    ∙ (page_left es all page c.in-Some.field-0-1.now x c.loop-all.start c.max.result c.len.ensures.ordered
-    c.in_ok-page.ensures (sym c.as_slice.ensures.value ∙ c.in-Some.ensures.cases.0) c.loop-all.invariant).0
+    ∙ (page_left es all page c.in-Some.field-0-1.now x c.loop-all.start c.max.result
+    c.len.ensures.ordered c.in_ok-page.ensures
+    (sym c.as_slice.ensures.value ∙ c.in-Some.ensures.cases.0) c.loop-all.invariant).0
