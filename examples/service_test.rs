@@ -27,6 +27,7 @@ impl AsItem for Booking {
 
 impl Keyed for Booking {
     fn key_schema(alloc: Global) -> std::result::Result<KeySchema, AllocError> {
+        // Both are key attributes, so `parse` fails only if memory runs out.
         KeySchema::parse(alloc, &["guest:S", "night:N"]).map_err(|_: TableError| AllocError)
     }
 }

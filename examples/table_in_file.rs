@@ -1,11 +1,12 @@
 //! Loads items into a table in a file, asks a query, and opens the file once more.
-//! In crates.txt: `table_in_file: dynamo_value fixtures memory_table serde_dynamo table_store anyhow`
+//! In crates.txt: `table_in_file: dynamo_value fixtures serde_dynamo table_key table_query table_store anyhow`
 #![tactic(auto)]
 
 use dynamo_value::Item;
 use fixtures::Lines;
-use memory_table::{KeySchema, Query, SortCondition};
 use serde_dynamo::DynamoJson;
+use table_key::KeySchema;
+use table_query::{Query, SortCondition};
 use table_store::{create_at, open_at};
 
 // The lines of a full export to S3, or of `dynamo_table export`.
