@@ -12,7 +12,7 @@ use std::hash::Hash;
 /// A type with a shape, which describes the data that its values serialize to.
 ///
 /// If the shape is clear, every value that was written reads back: `serde_dynamo::reread` promises
-/// it.
+/// it. The documents of `dynamo_shape` say which shapes are clear.
 ///
 /// Don't implement it by hand for a struct or an enum: `dynamo_derive` prints the implementation,
 /// by the traits of `dynamo_record`.

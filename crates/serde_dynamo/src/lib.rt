@@ -33,9 +33,8 @@
 //!
 //! [`to_item`] writes a value as an item and [`to_attribute_value`] as an attribute value.
 //! [`from_item`] and [`from_attribute_value`] read them, [`from_items`] reads a list of items, and
-//! [`from_item_ref`] borrows its item. They take every type that implements [`ser::Serialize`] and
-//! [`de::Deserialize`]: the types below, maps and lists of them, and the types of your own that are
-//! described.
+//! [`from_item_ref`] borrows its item. Writing takes every type that implements [`ser::Serialize`],
+//! reading every type that implements [`de::Deserialize`]: those below and types of your own.
 //!
 //! ```rust
 //! use serde_dynamo::samples::User;
@@ -104,7 +103,8 @@
 //! **Describe** a type to have the promise that its values read back, without a proof of your own.
 //! `dynamo_derive` reads the declaration from a file and prints the implementations. The documents
 //! of `dynamo_record` show them for a struct, and [`samples`] has three such types. The promise is
-//! [`reread`]'s.
+//! [`reread`]'s, for shapes that are clear: `dynamo_shape` defines which are. One with an option in
+//! an option isn't.
 //!
 //! ```rust
 //! use serde_dynamo::samples::Event;

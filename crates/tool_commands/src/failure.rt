@@ -11,10 +11,10 @@ pub enum Failure {
     /// The reader failed, or its end didn't come.
     Read,
 
-    /// What was read is no JSON text.
+    /// The input isn't JSON.
     NotJson,
 
-    /// What was read has a fault, or there is no memory.
+    /// The input is JSON with an error, or memory ran out.
     Fault(Error),
 }
 
@@ -37,7 +37,7 @@ impl From<AllocError> for Failure {
     }
 }
 
-/// What is no JSON, or JSON of a fault.
+/// [`TextError::NotJson`] becomes [`Failure::NotJson`], and a fault becomes [`Failure::Fault`].
 impl From<TextError> for Failure {
     ghost use Rattle.dynamo_json.specs.OfText.{fault_in};
     ghost use Rattle.tool_commands.specs.Failed.{failed_by};
