@@ -101,7 +101,7 @@
 //! ```
 //!
 //! **Describe** a type to have the promise that its values read back, without a proof of your own.
-//! `dynamo_derive` reads the declaration from a file and prints the implementations. The documents
+//! The program `dynamo_derive` reads the declaration and prints the implementations. The documents
 //! of `dynamo_record` show them for a struct, and [`samples`] has three such types. The promise is
 //! [`reread`]'s, for shapes that are clear: `dynamo_shape` defines which are. One with an option in
 //! an option isn't.
