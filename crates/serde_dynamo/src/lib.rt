@@ -225,9 +225,9 @@
 //! # Errors
 //!
 //! Each call returns a [`Result`] with an [`Error`], whose [`kind`](Error::kind) is an
-//! [`ErrorImpl`]. It prints the message that the Rust crate prints. `?` carries it into
-//! `anyhow::Error`, or into an error of your own with a `From`. Reading a map returns the first
-//! error in the order of the bytes of the keys.
+//! [`ErrorImpl`]. It prints its message, and `?` carries it into `anyhow::Error`, or into an error
+//! of your own with a `From`. Reading a map returns the first error in the order of the bytes of
+//! the keys.
 //!
 //! ```rust
 //! use serde_dynamo::samples::User;
