@@ -12,8 +12,8 @@ use dynamo_value::{AttributeValue, Result};
 use serde::{Described, Serialize, Serializer};
 use std::alloc::Global;
 
-/// Any attribute value, which is written as it is: `#[serde(with =
-/// "dynamo_serde::attribute_value")]` does the same for a field.
+/// Any attribute value, which is written as it is:
+/// `#[serde(with = "dynamo_serde::attribute_value")]` does the same for a field.
 #[derive(Drop)]
 pub struct Any(pub AttributeValue);
 

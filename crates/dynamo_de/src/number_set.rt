@@ -6,8 +6,8 @@ use std::alloc::Global;
 
 /// Reads a value of any type: a list reads from `Ns` as from `L`.
 ///
-/// It is the counterpart of [`serialize`](dynamo_ser::number_set::serialize), for an `impl
-/// Deserialize` that reads its own set.
+/// It is the counterpart of [`serialize`](dynamo_ser::number_set::serialize), for an
+/// `impl Deserialize` that reads its own set.
 ///
 /// # Errors
 ///

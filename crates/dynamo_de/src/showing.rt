@@ -76,8 +76,8 @@ pub enum Inside<L, M> {
 }
 
 impl<D, L, M, C> Showing<D, L, M, C> {
-    /// Returns the error for data that a type doesn't take, as `invalid type: string, expected a
-    /// boolean`. The data is dropped.
+    /// Returns the error for data that a type doesn't take, as
+    /// `invalid type: string, expected a boolean`. The data is dropped.
     #[inline(always)]
     pub fn refused<E: Error>(self, alloc: Global, expecting: &str) -> E
     where

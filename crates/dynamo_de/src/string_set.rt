@@ -6,8 +6,8 @@ use std::alloc::Global;
 
 /// Reads a value of any type: a list reads from `Ss` as from `L`.
 ///
-/// It is the counterpart of [`serialize`](dynamo_ser::string_set::serialize), for an `impl
-/// Deserialize` that reads its own set.
+/// It is the counterpart of [`serialize`](dynamo_ser::string_set::serialize), for an
+/// `impl Deserialize` that reads its own set.
 ///
 /// # Errors
 ///

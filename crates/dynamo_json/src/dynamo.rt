@@ -23,14 +23,14 @@ use std::alloc::{AllocError, Global};
 /// Conversion to and from DynamoDB JSON, the JSON of DynamoDB's low-level API, for attribute values
 /// and items.
 ///
-/// An attribute value is an object of one member, whose key is a data type descriptor: `{"S":
-/// "Hello"}`, `{"N": "123.45"}`, `{"BOOL": true}`, `{"NULL": true}`, `{"M": {"Name": {"S":
-/// "Joe"}}}`, `{"L": [{"S": "Cookies"}]}`, `{"SS": ["Giraffe", "Hippo"]}`, `{"NS": ["42.2",
-/// "-19"]}`. The string of a number isn't checked. Byte strings are base64 strings of RFC 4648,
-/// section 4, with padding: `{"B": "AQI="}`, `{"BS": ["U3Vubnk=", "UmFpbnk="]}`.
+/// An attribute value is an object of one member, whose key is a data type descriptor:
+/// `{"S": "Hello"}`, `{"N": "123.45"}`, `{"BOOL": true}`, `{"NULL": true}`,
+/// `{"M": {"Name": {"S": "Joe"}}}`, `{"L": [{"S": "Cookies"}]}`, `{"SS": ["Giraffe", "Hippo"]}`,
+/// `{"NS": ["42.2", "-19"]}`. The string of a number isn't checked. Byte strings are base64 strings
+/// of RFC 4648, section 4, with padding: `{"B": "AQI="}`, `{"BS": ["U3Vubnk=", "UmFpbnk="]}`.
 ///
-/// An item is the object of its attributes: `{"Id": {"N": "103"}, "InPublication": {"BOOL":
-/// false}}`.
+/// An item is the object of its attributes:
+/// `{"Id": {"N": "103"}, "InPublication": {"BOOL": false}}`.
 ///
 /// # Examples
 ///
@@ -115,8 +115,8 @@ pub trait DynamoJson: Sized + Drop {
     /// Returns an [`ErrorImpl::Message`](dynamo_value::ErrorImpl::Message) for the first fault in
     /// the order of arrays and of the bytes of the keys of objects:
     ///
-    /// - an attribute value isn't an object: `invalid type: expected an object with a single key
-    ///   ..`;
+    /// - an attribute value isn't an object:
+    ///   `invalid type: expected an object with a single key ..`;
     /// - it has no key: `Expected exactly one key in the object, found none`;
     /// - it has several keys: `Expected exactly one key in the object, found multiple keys`;
     /// - its key isn't a data type descriptor: `The key 'X' is not a known DynamoDB prefix`;

@@ -20,8 +20,8 @@ fn read_content<T: Deserialize, R: Reader>(alloc: Global, reader: R) -> Result<T
     }
 }
 
-/// Reads the field of a newtype struct with this name, for `Ok(Count(read_newtype(alloc,
-/// deserializer, "Count")?))`.
+/// Reads the field of a newtype struct with this name, for
+/// `Ok(Count(read_newtype(alloc, deserializer, "Count")?))`.
 ///
 /// # Errors
 ///
@@ -36,8 +36,8 @@ pub fn read_newtype<T: Shaped, D: Deserializer>(
     read_content(alloc, deserializer)
 }
 
-/// Writes the field of a newtype struct with this name, as in `write_newtype("Count", &self.0,
-/// serializer)`.
+/// Writes the field of a newtype struct with this name, as in
+/// `write_newtype("Count", &self.0, serializer)`.
 ///
 /// # Errors
 ///

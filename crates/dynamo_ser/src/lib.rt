@@ -12,8 +12,8 @@
 //!
 //! A `serde_json::Value` is written as serde_json does: null as a unit, a whole number as a `u64`,
 //! or as an `i64` if it is negative, an array as a sequence, an object as a map in the order of its
-//! keys. This data model has no floats, so a float is refused with the message `JSON floats are not
-//! supported`.
+//! keys. This data model has no floats, so a float is refused with the message
+//! `JSON floats are not supported`.
 //!
 //! An `AttributeValue` is written as its DynamoDB JSON: a map of one entry, whose key is the prefix
 //! of its kind, as in `{"S": "Hello"}`. A number is written as its string, a byte string as its

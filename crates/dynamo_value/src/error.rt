@@ -14,8 +14,9 @@ pub type Result<T, E = Error> = std::result::Result<T, E>;
 
 /// The reason why a value could not be written or read.
 ///
-/// An error prints the message that the Rust crate prints, and [`Error::kind`] returns its kind. It
-/// implements `std::error::Error`, so `?` carries it into `anyhow::Error`.
+/// An error prints its message, and [`Error::kind`] returns its kind. The kinds that the Rust crate
+/// has print its messages. An error implements `std::error::Error`, so `?` carries it into
+/// `anyhow::Error`.
 ///
 /// # Examples
 ///

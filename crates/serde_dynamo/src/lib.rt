@@ -101,7 +101,7 @@
 //! ```
 //!
 //! **Describe** a type to have the promise that its values read back, without a proof of your own.
-//! `dynamo_derive` reads the declaration from a file and prints the implementations. The documents
+//! The program `dynamo_derive` reads the declaration and prints the implementations. The documents
 //! of `dynamo_record` show them for a struct, and [`samples`] has three such types. The promise is
 //! [`reread`]'s, for shapes that are clear: `dynamo_shape` defines which are. One with an option in
 //! an option isn't.
@@ -225,9 +225,9 @@
 //! # Errors
 //!
 //! Each call returns a [`Result`] with an [`Error`], whose [`kind`](Error::kind) is an
-//! [`ErrorImpl`]. It prints the message that the Rust crate prints. `?` carries it into
-//! `anyhow::Error`, or into an error of your own with a `From`. Reading a map returns the first
-//! error in the order of the bytes of the keys.
+//! [`ErrorImpl`]. It prints its message, and `?` carries it into `anyhow::Error`, or into an error
+//! of your own with a `From`. Reading a map returns the first error in the order of the bytes of
+//! the keys.
 //!
 //! ```rust
 //! use serde_dynamo::samples::User;

@@ -18,7 +18,9 @@ use std::alloc::Global;
 /// A gauge at some river, and what it read last.
 #[derive(Debug, Drop)]
 pub struct Gauge {
+    /// The name of the gauge.
     pub id: String,
+    /// The last reading, if there is one.
     pub reading: Option<u8>,
 }
 

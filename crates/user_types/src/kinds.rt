@@ -48,7 +48,9 @@ impl Serialize for Pair {
 /// A struct that writes its field `a` twice.
 #[derive(Drop)]
 pub struct Twice<T, U> {
+    /// The first value of the field.
     pub first: T,
+    /// The second value of the field.
     pub second: U,
 }
 

@@ -11,7 +11,9 @@ use std::alloc::Global;
 /// A station of some network, and what it read last.
 #[derive(Debug, Drop)]
 pub struct Station {
+    /// The name of the station.
     pub id: String,
+    /// The last reading, if there is one.
     pub reading: Option<u8>,
 }
 

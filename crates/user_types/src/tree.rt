@@ -11,8 +11,11 @@ use std::alloc::Global;
 /// A tree whose leaves are numbers.
 #[derive(Debug, Drop)]
 pub enum Tree {
+    /// A leaf with a number.
     Leaf(u64),
+    /// A node with one tree.
     Only(Box<Tree>),
+    /// A node with several trees.
     Many(Vec<Tree>),
 }
 

@@ -1,5 +1,5 @@
-//! A field that is an `AttributeValue` of any kind: `#[serde(with =
-//! "dynamo_serde::attribute_value")]`.
+//! A field that is an `AttributeValue` of any kind:
+//! `#[serde(with = "dynamo_serde::attribute_value")]`.
 //!
 //! For an optional one or for several, put the attribute in a newtype struct: `Option<Any>` or
 //! `Vec<Any>`.

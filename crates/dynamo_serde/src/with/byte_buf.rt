@@ -1,5 +1,5 @@
-//! A field of type `ByteBuf` that is a byte string, `B`: `#[serde(with =
-//! "dynamo_serde::byte_buf")]`.
+//! A field of type `ByteBuf` that is a byte string, `B`:
+//! `#[serde(with = "dynamo_serde::byte_buf")]`.
 use dynamo_value::ByteBuf;
 use serde::{Deserializer, Format, Serializer};
 use std::alloc::Global;

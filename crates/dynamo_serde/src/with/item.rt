@@ -1,5 +1,5 @@
-//! A field that is an `Item`, as the map of its attributes, `M`: `#[serde(with =
-//! "dynamo_serde::item")]`.
+//! A field that is an `Item`, as the map of its attributes, `M`:
+//! `#[serde(with = "dynamo_serde::item")]`.
 ghost use Rattle.std.specs.Prelude.{OnOk};
 ghost use Rattle.dynamo_value.specs.Av as av;
 ghost use Rattle.dynamo_value.specs.Item.{item_view};

@@ -1,5 +1,5 @@
-//! A field that is a list of numbers, as a set of numbers, `NS`: `#[serde(with =
-//! "dynamo_serde::number_set")]`.
+//! A field that is a list of numbers, as a set of numbers, `NS`:
+//! `#[serde(with = "dynamo_serde::number_set")]`.
 use serde::{Case, DeserializeOwned, Deserializer, Format, Serialize, Serializer};
 use std::alloc::Global;
 

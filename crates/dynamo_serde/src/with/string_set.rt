@@ -1,5 +1,5 @@
-//! A field that is a list of strings, as a set of strings, `SS`: `#[serde(with =
-//! "dynamo_serde::string_set")]`.
+//! A field that is a list of strings, as a set of strings, `SS`:
+//! `#[serde(with = "dynamo_serde::string_set")]`.
 use serde::{Case, DeserializeOwned, Deserializer, Format, Serialize, Serializer};
 use std::alloc::Global;
 
