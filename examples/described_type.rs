@@ -80,7 +80,10 @@ impl Shaped for Station {
 }
 
 /// Returns what was stored of a station: its attribute value, its DynamoDB JSON, and the station that was read from it.
-pub fn stored(alloc: Global, station: &Station) -> serde_dynamo::Result<(AttributeValue, Value, Station)>
+pub fn stored(
+    alloc: Global,
+    station: &Station,
+) -> serde_dynamo::Result<(AttributeValue, Value, Station)>
     ensures id { MatchResult result (λ parts. string_bytes station.now.id ≡ string_bytes parts.2.id) (λ e. fault_of e ≡ out_of_memory) }
     ensures reading { MatchResult result (λ parts. station.now.reading ≡ parts.2.reading) (λ e. fault_of e ≡ out_of_memory) }
 {

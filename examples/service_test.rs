@@ -54,7 +54,11 @@ mod tests {
     fn a_guest_has_one_room_a_night(rt: HostRuntime) -> anyhow::Result<()> {
         let alloc = rt.alloc();
         let guest = String::from_str(alloc, "Arthur")?;
-        let booking = Booking { guest, night: 12, room: 101 };
+        let booking = Booking {
+            guest,
+            night: 12,
+            room: 101,
+        };
         let mut bookings = TypedTable::new(alloc)?;
         let key = book(&mut bookings, &booking)?;
         assert!(rt; book(&mut bookings, &booking).is_err());

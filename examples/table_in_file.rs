@@ -10,7 +10,8 @@ use table_query::{Query, SortCondition};
 use table_store::{create_at, open_at};
 
 // The lines of a full export to S3, or of `dynamo_table export`.
-const EXPORT: &str = r#"{"Item":{"Artist":{"S":"Acme Band"},"Year":{"N":"2015"},"Song":{"S":"Happy Day"}}}
+const EXPORT: &str =
+    r#"{"Item":{"Artist":{"S":"Acme Band"},"Year":{"N":"2015"},"Song":{"S":"Happy Day"}}}
 {"Item":{"Artist":{"S":"Acme Band"},"Year":{"N":"2019"},"Song":{"S":"Blue Hour"}}}
 {"Item":{"Artist":{"S":"No One You Know"},"Year":{"N":"2009"},"Song":{"S":"Call Me Today"}}}
 "#;

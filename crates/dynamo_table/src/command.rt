@@ -1,6 +1,6 @@
 //! The commands, as their words say them.
 use crate::print::Form;
-use crate::words::{Flags, flags_of, split_flags};
+use crate::words::{Flags, split_flags};
 
 /// A command on a file of tables.
 #[derive(Clone, Copy, Drop)]
@@ -72,7 +72,7 @@ impl<'a> Command<'a> {
 impl<'a> Asked<'a> {
     // What a name and the words behind the table's name ask of a table.
     fn of(name: &str, words: &'a [&'a str]) -> Option<Asked<'a>> {
-        let (words, flags) = split_flags(words, flags_of(name));
+        let (words, flags) = split_flags(words, name);
         match (name, words) {
             ("count", []) => Some(Asked::Count),
             ("put", []) => Some(Asked::Put(None)),

@@ -70,30 +70,38 @@ impl Flags {
     }
 }
 
-/// The flags that the command of a name takes.
-pub fn flags_of(command: &str) -> &'static [&'static str] {
+// Whether a command takes this flag.
+fn takes(command: &str, flag: &str) -> bool {
     match command {
-        "load" => &["--keep-going", "--max-line", "--plain"],
-        "query" => &["--backward", "--pretty"],
-        "get" | "scan" => &["--pretty"],
-        "export" => &["--plain"],
-        _ => &[],
+        "load" => matches!(flag, "--keep-going" | "--max-line" | "--plain"),
+        "query" => matches!(flag, "--backward" | "--pretty"),
+        "get" | "scan" => flag == "--pretty",
+        "export" => flag == "--plain",
+        _ => false,
     }
 }
 
-/// The words before the flags at their end, and the flags. Each of those that are taken may stand once.
-pub fn split_flags<'a>(words: &'a [&'a str], taken: &[&str]) -> (&'a [&'a str], Flags) {
+/// Returns the words before the flags at their end, and the flags. Each flag that the command takes may be given once.
+pub fn split_flags<'a>(words: &'a [&'a str], command: &str) -> (&'a [&'a str], Flags) {
     let mut flags = Flags::NONE;
-    let mut rest = words;
-    for _ in 0..words.len() {
-        rest = match rest {
-            [before @ .., word] if taken.contains(word) && flags.set(word) => before,
-            [before @ .., flag, bytes] if taken.contains(flag) && flags.set_max_line(flag, bytes) =>
-                { before }
-            _ => break,
-        };
+    let mut length = words.len();
+    // A word that is the value of the flag before it, if there is one.
+    let mut value = None;
+    for word in words.iter().rev() {
+        match value {
+            None if takes(command, word) && flags.set(word) => length = length.saturating_sub(1),
+            None => value = Some(*word),
+            Some(bytes) if takes(command, word) && flags.set_max_line(word, bytes) => {
+                value = None;
+                length = length.saturating_sub(2);
+            }
+            Some(_) => break,
+        }
     }
-    (rest, flags)
+    match words.split_at_checked(length) {
+        Some((words, _)) => (words, flags),
+        None => (words, flags),
+    }
 }
 
 /// The words of a line, which blanks separate. A word that begins with a quote goes up to the next quote, and may hold blanks.
