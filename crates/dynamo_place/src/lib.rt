@@ -5,12 +5,15 @@
 //! same for any [`Reader`](dynamo_de::Reader).
 #![tactic(auto)]
 
+mod json;
 mod located;
 mod located_error;
 mod place;
 mod read;
 mod way;
+mod without_indexes;
 
+pub use json::DynamoJsonLocated;
 pub use located::{Located, LocatedChoice, LocatedElements, LocatedEntries};
 pub use located_error::LocatedError;
 pub use place::{Place, Step};
@@ -18,3 +21,4 @@ pub use read::{
     from_attribute_value_located, from_item_located, from_item_ref_located, from_items_located,
     read_located,
 };
+pub use without_indexes::WithoutIndexes;

@@ -53,7 +53,8 @@ type Outer<R> = Showing<Located<R>, LocatedElements<R>, LocatedEntries<R>, Locat
 
 // The same, with located readers around what is inside.
 fn raise<R: Reader>(alloc: Global, shown: Inner<R>, way: Way) -> Outer<R>
-    ensures { seen (λ d. R.source d.reader) (λ l. R.elements l.rest) (λ m. R.entries m.rest) (λ c. R.chosen c.choice) result ≡ seen R.source R.elements R.entries R.chosen shown }
+    ensures { seen (λ d. R.source d.reader) (λ l. R.elements l.rest) (λ m. R.entries m.rest)
+        (λ c. R.chosen c.choice) result ≡ seen R.source R.elements R.entries R.chosen shown }
 {
     match shown {
         Showing::Bool(v) => Showing::Bool(v),

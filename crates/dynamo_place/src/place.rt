@@ -1,6 +1,9 @@
 ghost use Rattle.std.specs.Prelude.{◌≡◌, [], option_map};
-ghost use Rattle.dynamo_place.specs.Found.{IsAt, IsPart, steps_of};
+ghost use Rattle.std.specs.Fmt.{DisplaysOnOk};
+ghost use Rattle.dynamo_place.specs.Found.{IsAt, IsPart, IsUnder, IsUnderName, steps_of};
+ghost use Rattle.dynamo_place.specs.PlaceText.{further_text, further_texts, is_plain_char, is_plain_name, place_text, step_text};
 
+use crate::WithoutIndexes;
 use dynamo_value::AttributeValue;
 use std::alloc::Global;
 use std::fmt;
@@ -37,30 +40,93 @@ pub enum Step {
 /// ```
 #[derive(Debug, Drop, PartialEq, Eq)]
 pub struct Place {
-    steps: Vec<Step>,
+    // None of the whole value, so that its place takes no memory.
+    steps: Option<Vec<Step>>,
 }
 
 impl Place {
     /// Returns the place of a whole value. It allocates nothing.
-    pub fn new(alloc: Global) -> Place
+    pub fn new() -> Place
         ensures { steps_of result ≡ [] }
     {
-        Place {
-            steps: Vec::new(alloc),
-        }
+        Place { steps: None }
     }
 
     pub(crate) fn of_steps(steps: Vec<Step>) -> Place
         ensures { steps_of result ≡ steps.items }
     {
-        Place { steps }
+        if steps.is_empty() {
+            Place::new()
+        } else {
+            Place { steps: Some(steps) }
+        }
     }
 
     /// Returns the steps, from the whole value on.
     pub fn steps(&self) -> &[Step]
         ensures { result.now ≡ steps_of self.now }
     {
-        self.steps.as_slice()
+        match &self.steps {
+            Some(steps) => steps.as_slice(),
+            None => &[],
+        }
+    }
+
+    /// Returns the place in a list of a part of its element at `index`, given the place in the element. It is
+    /// that of the whole list if memory runs out.
+    ///
+    /// # Examples
+    ///
+    /// ```rust
+    /// use dynamo_place::Place;
+    ///
+    /// let place = Place::new().in_attribute(alloc, "price").in_element(alloc, 3);
+    /// assert_eq!(rt; place.in_attribute(alloc, "orders").to_string(alloc)?.as_str(), "orders[3].price");
+    /// ```
+    pub fn in_element(self, alloc: Global, index: usize) -> Place
+        ensures { IsUnder (Step.Element index) self result }
+    {
+        self.under(alloc, Step::Element(index))
+    }
+
+    /// Returns the place in an item or a map of a part of the attribute of this name, given the place in the
+    /// attribute. It is that of the whole item if memory runs out.
+    pub fn in_attribute(self, alloc: Global, name: &str) -> Place
+        ensures { IsUnderName name.now self result }
+    {
+        match String::from_str(alloc, name) {
+            Ok(name) => self.under(alloc, Step::Attribute(name)),
+            Err(_) => Place::new(),
+        }
+    }
+
+    fn under(self, alloc: Global, step: Step) -> Place
+        ensures { IsUnder step self result }
+    {
+        let mut steps = match self.steps {
+            Some(steps) => steps,
+            None => Vec::new(alloc),
+        };
+        match steps.insert(0, step) {
+            Ok(()) => Place::of_steps(steps),
+            Err(_) => Place::new(),
+        }
+    }
+
+    /// Returns what prints the place without the indexes of elements, as `orders[].price`.
+    ///
+    /// # Examples
+    ///
+    /// ```rust
+    /// use dynamo_place::Place;
+    ///
+    /// let place = Place::new().in_attribute(alloc, "price").in_element(alloc, 3);
+    /// assert_eq!(rt; place.without_indexes().to_string(alloc)?.as_str(), "[].price");
+    /// ```
+    pub fn without_indexes(&self) -> WithoutIndexes<'_>
+        ensures { result.place.now ≡ self.now }
+    {
+        WithoutIndexes { place: self }
     }
 
     /// Returns the part of a value at this place, or `None` if there is none. The elements of a set and the keys of a
@@ -73,12 +139,12 @@ impl Place {
     /// use serde_dynamo::AttributeValue;
     ///
     /// let value = AttributeValue::Bool(true);
-    /// assert!(rt; matches!(Place::new(alloc).find(&value), Some(AttributeValue::Bool(true))));
+    /// assert!(rt; matches!(Place::new().find(&value), Some(AttributeValue::Bool(true))));
     /// ```
     pub fn find<'a>(&self, value: &'a AttributeValue) -> Option<&'a AttributeValue>
         ensures { IsAt (steps_of self.now) value.now (option_map (λ a. a.now) result) }
     {
-        part_at(self.steps.as_slice(), value)
+        part_at(self.steps(), value)
     }
 }
 
@@ -106,32 +172,61 @@ impl Step {
 }
 
 impl fmt::Display for Place {
+    ghost output = { λ place. place_text (steps_of place) };
+
     fn fmt<W: fmt::Write>(&self, f: &mut fmt::Formatter<W>) -> fmt::Result {
-        let mut is_first = true;
-        for step in self.steps.iter() {
-            match step {
-                Step::Element(index) => write!(f, "[{index}]")?,
-                Step::Attribute(name) => {
-                    if !is_first {
-                        f.write_str(".")?;
-                    }
-                    if is_plain(name.as_str()) {
-                        f.write_str(name.as_str())?;
-                    } else {
-                        write!(f, "{name:?}")?;
-                    }
-                }
+        match self.steps() {
+            [] => Ok(()),
+            [first, further @ ..] => {
+                first.write(f)?;
+                write_further(further, f)
             }
-            is_first = false;
         }
-        Ok(())
+    }
+}
+
+// Writes the steps behind the first one.
+fn write_further<W: fmt::Write>(steps: &[Step], f: &mut fmt::Formatter<W>) -> fmt::Result
+    ensures { DisplaysOnOk W.write_str_gives f.old result (further_texts steps.now) f.new }
+{
+    for step in steps {
+        step.write_further(f)?;
+    }
+    Ok(())
+}
+
+impl Step {
+    // Writes the step as the first one.
+    pub(crate) fn write<W: fmt::Write>(&self, f: &mut fmt::Formatter<W>) -> fmt::Result
+        ensures { DisplaysOnOk W.write_str_gives f.old result (step_text self.now) f.new }
+    {
+        match self {
+            Step::Attribute(name) if is_plain(name) => f.write_str(name),
+            Step::Attribute(name) => write!(f, "{name:?}"),
+            Step::Element(index) => write!(f, "[{index}]"),
+        }
+    }
+
+    // Writes the step behind another one.
+    pub(crate) fn write_further<W: fmt::Write>(&self, f: &mut fmt::Formatter<W>) -> fmt::Result
+        ensures { DisplaysOnOk W.write_str_gives f.old result (further_text self.now) f.new }
+    {
+        if matches!(self, Step::Attribute(_)) {
+            f.write_str(".")?;
+        }
+        self.write(f)
     }
 }
 
 // Whether a name is printed as it is.
-fn is_plain(name: &str) -> bool {
-    !name.is_empty()
-        && name
-            .chars()
-            .all(|c| c.is_alphanumeric() || c == '_' || c == '-')
+fn is_plain(name: &str) -> bool
+    ensures { result ≡ is_plain_name name.now }
+{
+    !name.is_empty() && name.chars().all(is_plain_char)
+}
+
+fn is_plain_char(c: char) -> bool
+    ensures { result ≡ is_plain_char c }
+{
+    c.is_alphanumeric() || c == '_' || c == '-'
 }

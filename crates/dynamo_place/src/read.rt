@@ -99,7 +99,7 @@ pub fn from_items_located<T: Deserialize>(
     match as_values(alloc, Vec::from(items)) {
         Ok(values) => from_attribute_value_located(alloc, AttributeValue::L(values)),
         Err(error) => Err(LocatedError {
-            place: Place::new(alloc),
+            place: Place::new(),
             error: Error::from(error),
         }),
     }

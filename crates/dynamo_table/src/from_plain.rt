@@ -1,6 +1,6 @@
 //! Items of plain JSON.
 use dynamo_value::{AttributeValue, Item, refusal};
-use fixtures::Fault;
+use fixtures::{Fault, Position, json_of};
 use json::{Error, Scratch, Value};
 use std::alloc::{AllocError, Global};
 use std::collections::HashMap;
@@ -16,12 +16,20 @@ use std::collections::HashMap;
 pub fn item_of_plain(alloc: Global, scratch: &mut Scratch, text: &[u8]) -> Result<Item, Fault> {
     match Value::from_slice(alloc, text, scratch) {
         Ok(Value::Object(members)) => Ok(Item::from(attributes(alloc, &members)?)),
-        Ok(_) => Err(Fault::Form(refusal::message(
+        Ok(_) => Err(Fault::from(refusal::message(
             alloc,
             "invalid type: expected an object of attributes",
         ))),
         Err(Error::OutOfMemory) => Err(Fault::from(AllocError)),
-        Err(_) => Err(Fault::NotJson),
+        Err(_) => Err(broken(alloc, text)),
+    }
+}
+
+// Where a text is no JSON.
+fn broken(alloc: Global, text: &[u8]) -> Fault {
+    match json_of(alloc, text) {
+        Ok(_) => Fault::NotJson(Position { line: 1, column: 0 }),
+        Err(fault) => fault,
     }
 }
 

@@ -8,9 +8,11 @@ use crate::refusal::{Answer, Outcome, Refusal};
 use crate::teller::Teller;
 use crate::text::{first_value, line_feeds, unmarked};
 use crate::words::{Flags, MAX_LINE};
-use dynamo_json::DynamoJson;
+use dynamo_place::DynamoJsonLocated;
 use dynamo_value::Item;
-use fixtures::{Fault, Lines, Request, change_of, item_alone, json_of, one_request};
+use fixtures::{
+    Fault, Lines, Position, Request, change_of, item_alone, json_of, one_request_located,
+};
 use json::{Scratch, is_valid};
 use serde_json::Value;
 use sqlite::Alter;
@@ -191,7 +193,7 @@ impl<'r, 'a, 'i, S: Alter + Drop> Loading<'r, 'a, 'i, S> {
         match json_of(alloc, text) {
             Ok(json) => self.take_json(line, &json),
             Err(fault) => {
-                self.tell_broken(line, text, fault);
+                self.tell_broken(line, fault);
                 Ok(())
             }
         }
@@ -333,28 +335,26 @@ impl<'r, 'a, 'i, S: Alter + Drop> Loading<'r, 'a, 'i, S> {
         self.tell(place, refusal);
     }
 
-    // Tells that a text is no JSON, and where in it, if it has several lines.
-    fn tell_broken(&mut self, line: u64, text: &[u8], fault: Fault) {
-        let place = self.at(line);
-        match Value::from_slice(self.alloc(), text.trim_ascii_end()) {
-            Err(error) if error.line() > 1 && !error.is_memory() => {
-                let lines = u64::try_from(error.line()).unwrap_or(u64::MAX);
-                let at = line.saturating_add(lines).saturating_sub(1);
-                let column = error.column();
-                self.teller.tell(format_args!("{place}: {fault} (line {at}, column {column})"));
-                self.broken = self.broken.saturating_add(1);
+    // Tells that a text is no JSON, and where in the input.
+    fn tell_broken(&mut self, line: u64, fault: Fault) {
+        let fault = match fault {
+            Fault::NotJson(position) if position.line > 1 => {
+                let before = usize::try_from(line).unwrap_or(usize::MAX).saturating_sub(1);
+                let line = position.line.saturating_add(before);
+                Fault::NotJson(Position { line, ..position })
             }
-            _ => self.tell(place, Refusal::from(fault)),
-        }
+            fault => fault,
+        };
+        self.tell(self.at(line), Refusal::from(fault));
     }
 }
 
 // The put of an item in a list.
 fn put_of(alloc: Global, json: &Value) -> Result<Request, Fault> {
-    Ok(Request::Put(Item::from_json(alloc, json)?))
+    Ok(Request::Put(Item::from_json_located(alloc, json)?))
 }
 
 // The request in a list.
 fn request_of(alloc: Global, json: &Value) -> Result<Request, Fault> {
-    Ok(one_request(alloc, json)?)
+    Ok(one_request_located(alloc, json)?)
 }

@@ -2,6 +2,7 @@
 use crate::key_words::item_refusal;
 use crate::refusal::Answer;
 use dynamo_json::DynamoJson;
+use dynamo_place::DynamoJsonLocated;
 use dynamo_value::Item;
 use fixtures::json_of;
 use serde_json::Value;
@@ -42,5 +43,5 @@ fn read_item<S: Alter + Drop>(alloc: Global, store: &TableStore<S>, json: &Value
 }
 
 fn item_of(alloc: Global, json: &Value) -> Result<Item, fixtures::Fault> {
-    Ok(Item::from_json(alloc, json)?)
+    Ok(Item::from_json_located(alloc, json)?)
 }

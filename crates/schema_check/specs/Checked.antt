@@ -4,17 +4,21 @@ use Rattle.dynamo_value.specs.Av as av
 use Rattle.dynamo_value.specs.Fault.{Fault, out_of_memory}
 use Rattle.dynamo_value.specs.Item.{item_view}
 use Rattle.dynamo_value.specs.Kind.{fault_of}
+use Rattle.dynamo_value.specs.declared.error.Error.{Error}
 use Rattle.dynamo_de.specs.Source.{Source, attribute}
+use Rattle.dynamo_place.specs.declared.located_error.LocatedError.{LocatedError}
 use Rattle.fixtures.specs.declared.lines.Line.{Line}
 use Rattle.fixtures.specs.declared.lines.LineFault.{LineFault}
-use Rattle.schema_check.specs.declared.Finding.{Finding}
-use Rattle.schema_check.specs.declared.Problem.{Problem}
+use Rattle.schema_check.specs.declared.finding.Finding.{Finding}
+use Rattle.schema_check.specs.declared.finding.Problem.{Problem}
 
 -- the item of the line is read as the type permits
 abbrev pub ChecksLine : {T : Type 0} → (Source → Result T Fault → Type 0) → Line → Result T Finding → Type 0
 ChecksLine reads line (Ok value) = reads (attribute (av.M (item_view line.item))) (Ok value)
-ChecksLine reads line (Err finding) = (error : _) × (finding ≡ record { number = line.number; problem = Problem.Value error })
-    × ((fault_of error ≡ out_of_memory) ⊎ reads (attribute (av.M (item_view line.item))) (Err (fault_of error)))
+ChecksLine reads line (Err finding) =
+    (located : LocatedError Error) × (finding ≡ record { number = line.number; problem = Problem.Value located })
+    × ((fault_of located.error ≡ out_of_memory)
+        ⊎ reads (attribute (av.M (item_view line.item))) (Err (fault_of located.error)))
 
 -- what is told of a line that was given, by the fault of a broken one
 abbrev pub Checks : {T : Type 0} → (Source → Result T Fault → Type 0) → Option (Result Line LineFault) → Option (Result T Finding) → Type 0

@@ -6,6 +6,7 @@
 
 mod change;
 mod error;
+mod located;
 mod store;
 
 pub use error::TypedStoreError;

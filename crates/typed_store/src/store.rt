@@ -7,6 +7,8 @@ ghost use Rattle.typed_store.specs.Stored.{WasRead, WereFound, WereRead, schema_
 
 use crate::TypedStoreError;
 use crate::change::{Failed, changed};
+use crate::located::place_among;
+use dynamo_place::{LocatedError, Place};
 use dynamo_value::Item;
 use sqlite::{Alter, Connection};
 use std::alloc::Global;
@@ -14,7 +16,7 @@ use std::marker::PhantomData;
 use table_key::Key;
 use table_query::{Condition, Query};
 use table_store::TableStore;
-use typed_table::{AsItem, Keyed};
+use typed_table::{AsItem, Keyed, place_in};
 
 /// A table in a SQLite database of values of one type, each an item under its key.
 ///
@@ -200,6 +202,28 @@ impl<T: AsItem + Keyed, S: Alter + Drop> TypedStore<T, S> {
         }
     }
 
+    /// Returns the value under a key as [`get`](Self::get) does, and says where an error was found.
+    /// The item is read again to find the place.
+    ///
+    /// # Errors
+    ///
+    /// Returns the error of [`get`](Self::get), with the place in the item of an error of reading it.
+    pub fn get_located(&mut self, key: &Key) -> Result<Option<T>, LocatedError<TypedStoreError>>
+        ensures read { IfOk result (λ found. IfSome found (WasRead T.reads_item)) }
+        ensures schema { schema_of self.new ≡ schema_of self.old }
+    {
+        match self.get(key) {
+            Ok(found) => Ok(found),
+            Err(error) => {
+                let place = match (&error, self.store.get(key)) {
+                    (TypedStoreError::Value(_), Ok(Some(item))) => place_in::<T>(self.alloc, &item),
+                    _ => Place::new(),
+                };
+                Err(LocatedError { place, error })
+            }
+        }
+    }
+
     /// Deletes the value under a key, and returns whether there was one.
     ///
     /// # Errors
@@ -275,6 +299,33 @@ impl<T: AsItem + Keyed, S: Alter + Drop> TypedStore<T, S> {
         self.values_from(found)
     }
 
+    /// Returns the values that a query finds as [`query`](Self::query) does, and says where an error was
+    /// found. The place begins with the index of the value, as `[7].orders[3].price`.
+    ///
+    /// # Errors
+    ///
+    /// Returns the error of [`query`](Self::query), with the place of an error of reading an item.
+    pub fn query_located(
+        &mut self,
+        query: &Query<'_>,
+    ) -> Result<Vec<T>, LocatedError<TypedStoreError>>
+        ensures found { IfOk result (λ values. WereFound T.reads_item (schema_of self.old) query.now values.items) }
+        ensures schema { schema_of self.new ≡ schema_of self.old }
+    {
+        match self.query(query) {
+            Ok(values) => Ok(values),
+            Err(error) => {
+                let place = match (&error, self.store.query(query)) {
+                    (TypedStoreError::Value(_), Ok(found)) => {
+                        place_among::<T>(self.alloc, found.as_slice())
+                    }
+                    _ => Place::new(),
+                };
+                Err(LocatedError { place, error })
+            }
+        }
+    }
+
     /// Returns a page of all values: those after `start_after` in the order of their keys, at most
     /// `limit`. The next page starts after the key of the last value of this one, which
     /// [`key_of`](Self::key_of) returns.
@@ -294,6 +345,34 @@ impl<T: AsItem + Keyed, S: Alter + Drop> TypedStore<T, S> {
     {
         let found = self.store.scan(limit, start_after)?;
         self.values_from(found)
+    }
+
+    /// Returns a page of all values as [`scan`](Self::scan) does, and says where an error was found.
+    /// The place begins with the index of the value in the page.
+    ///
+    /// # Errors
+    ///
+    /// Returns the error of [`scan`](Self::scan), with the place of an error of reading an item.
+    pub fn scan_located(
+        &mut self,
+        limit: usize,
+        start_after: Option<&Key>,
+    ) -> Result<Vec<T>, LocatedError<TypedStoreError>>
+        ensures read { IfOk result (λ values. WereRead T.reads_item values.items) }
+        ensures schema { schema_of self.new ≡ schema_of self.old }
+    {
+        match self.scan(limit, start_after) {
+            Ok(values) => Ok(values),
+            Err(error) => {
+                let place = match (&error, self.store.scan(limit, start_after)) {
+                    (TypedStoreError::Value(_), Ok(found)) => {
+                        place_among::<T>(self.alloc, found.as_slice())
+                    }
+                    _ => Place::new(),
+                };
+                Err(LocatedError { place, error })
+            }
+        }
     }
 
     /// Returns all values in the order of their keys.

@@ -11,21 +11,22 @@ ghost use Rattle.dynamo_shape.specs.Clear.{Clear};
 ghost use Rattle.typed_table.specs.Written.{IsItemOf};
 
 use crate::item::{item_of, value_from, value_of};
+use dynamo_place::{LocatedError, Place, from_item_ref_located};
 use dynamo_types::Shaped;
-use dynamo_value::{Item, Result};
+use dynamo_value::{Error, Item, Result};
 use std::alloc::Global;
 
 /// A type whose values are written as items and read from items.
 ///
 /// Every [`Shaped`] type is one. If its shape is clear, its values read back the same. A type that
-/// derives serde's traits becomes one by two methods that call `dynamo_serde`. Nothing is promised
-/// of what they write and read.
+/// derives serde's traits becomes one by two methods that call `dynamo_serde`, and by a third one if
+/// errors should have places. Nothing is promised of what they write and read.
 ///
 /// # Examples
 ///
 /// ```rust
 /// use serde::{Deserialize, Serialize};
-/// use serde_dynamo::{Item, Result};
+/// use serde_dynamo::{Error, Item, LocatedError, Result};
 /// use std::alloc::Global;
 /// use typed_table::AsItem;
 ///
@@ -41,6 +42,10 @@ use std::alloc::Global;
 ///
 ///     fn read_item(alloc: Global, item: &Item) -> Result<Order> {
 ///         dynamo_serde::read_item(alloc, item)
+///     }
+///
+///     fn read_item_located(alloc: Global, item: &Item) -> Result<Order, LocatedError<Error>> {
+///         dynamo_serde::read_item_located(alloc, item)
 ///     }
 /// }
 ///
@@ -86,6 +91,24 @@ pub trait AsItem: Sized + Drop {
         ensures clear { reads_back → (value : Self) → written value item.now
             → MatchResult result (alike value) (λ e. fault_of e ≡ out_of_memory) };
 
+    /// Reads a value from a borrowed item as [`read_item`](Self::read_item) does, and says where an
+    /// error was found. Unless the type has a method of its own, that is the whole item.
+    ///
+    /// # Errors
+    ///
+    /// Returns an error that [`read_item`](Self::read_item) may return, with its place in the item.
+    fn read_item_located(alloc: Global, item: &Item) -> Result<Self, LocatedError<Error>>
+        ensures { Meets (λ e. fault_of e.error) (reads_item item.now) result }
+    {
+        match Self::read_item(alloc, item) {
+            Ok(value) => Ok(value),
+            Err(error) => Err(LocatedError {
+                place: Place::new(),
+                error,
+            }),
+        }
+    }
+
     /// Reads a value from an item, as [`read_item`](Self::read_item) does. It may move parts of the
     /// item.
     ///
@@ -118,6 +141,10 @@ impl<T: Shaped> AsItem for T {
 
     fn read_item(alloc: Global, item: &Item) -> Result<T> {
         value_of(alloc, item)
+    }
+
+    fn read_item_located(alloc: Global, item: &Item) -> Result<T, LocatedError<Error>> {
+        from_item_ref_located(alloc, item)
     }
 
     fn from_item(alloc: Global, item: Item) -> Result<T> {

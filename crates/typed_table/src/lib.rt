@@ -9,10 +9,12 @@ mod error;
 mod item;
 mod keyed;
 pub mod laws;
+mod located;
 mod table;
 
 pub use as_item::AsItem;
 pub use error::TypedTableError;
 pub use item::{item_of, value_from, value_of};
 pub use keyed::Keyed;
+pub use located::place_in;
 pub use table::TypedTable;

@@ -9,13 +9,15 @@ ghost use Rattle.table_query.specs.Conditions.{holds};
 ghost use Rattle.table_query.specs.Queries.{answer};
 ghost use Rattle.memory_table.specs.Content.{entries_of, items_of, schema_of};
 ghost use Rattle.typed_table.specs.Stored.{DeletesIf, FailsCondition, FailsToPut, FailsToRead, Holds, IsKeyOf};
-ghost use Rattle.typed_table.specs.Stored.{OthersStay, ReadEach, ReadsAt, page, table_of};
+ghost use Rattle.typed_table.specs.Stored.{OthersStay, ReadEach, ReadsAt, page, table_of, unlocated};
 ghost use Rattle.typed_table.specs.Updated.{FailsToUpdate, UpdatesValue};
 
 use crate::change::{Failed, changed};
 use crate::item::values_of;
+use crate::located::{place_among, place_in};
 use crate::{AsItem, Keyed, TypedTableError};
-use dynamo_value::Result;
+use dynamo_place::{LocatedError, Place};
+use dynamo_value::{Error, Result};
 use memory_table::Table;
 use std::alloc::{AllocError, Global};
 use std::marker::PhantomData;
@@ -229,6 +231,28 @@ impl<T: AsItem + Keyed> TypedTable<T> {
         }
     }
 
+    /// Returns the value under a key as [`get`](Self::get) does, and says where an error was found.
+    /// The item is read again to find the place.
+    ///
+    /// # Errors
+    ///
+    /// Returns the error of [`get`](Self::get), with its place in the item.
+    pub fn get_located(&self, key: &Key) -> std::result::Result<Option<T>, LocatedError<Error>>
+        ensures read { ReadsAt T.reads_item (get key_cmp (items_of (table_of self.now)) key.now) (unlocated result) }
+        ensures clear { T.reads_back → (value : T) → Holds T.written (table_of self.now) key.now value
+            → MatchResult result (λ found. MatchOption found ⊥ (T.alike value))
+                (λ e. fault_of e.error ≡ out_of_memory) }
+    {
+        match self.get(key) {
+            Ok(found) => Ok(found),
+            Err(error) => {
+                let item = self.table.get(key);
+                let place = item.map_or(Place::new(), |item| place_in::<T>(self.alloc, item));
+                Err(LocatedError { place, error })
+            }
+        }
+    }
+
     /// Deletes the value under a key, and returns whether there was one.
     pub fn delete(&mut self, key: &Key) -> bool
         ensures answer { result ≡ is_some (get key_cmp (items_of (table_of self.old)) key.now) }
@@ -309,6 +333,31 @@ impl<T: AsItem + Keyed> TypedTable<T> {
         values_of(self.alloc, found.as_slice())
     }
 
+    /// Returns the values that a query finds as [`query`](Self::query) does, and says where an error was
+    /// found. The place begins with the index of the value, as `[7].orders[3].price`.
+    ///
+    /// # Errors
+    ///
+    /// Returns the error of [`query`](Self::query), with its place.
+    pub fn query_located(
+        &self,
+        query: &Query<'_>,
+    ) -> std::result::Result<Vec<T>, LocatedError<Error>>
+        ensures read { IfOk result (λ values. ReadEach T.reads_item (answer query.now (entries_of (table_of self.now))) values.items) }
+        ensures err { IfErr result (λ e. FailsToRead T.reads_item (answer query.now (entries_of (table_of self.now))) e.error) }
+    {
+        match self.query(query) {
+            Ok(values) => Ok(values),
+            Err(error) => {
+                let place = match self.table.query(self.alloc, query) {
+                    Ok(found) => place_among::<T>(self.alloc, found.as_slice()),
+                    Err(_) => Place::new(),
+                };
+                Err(LocatedError { place, error })
+            }
+        }
+    }
+
     /// Returns a page of all values: those after `start_after` in the order of their keys, at most
     /// `limit`. The next page starts after the key of the last value of this one, which
     /// [`key_of`](Self::key_of) returns.
@@ -324,6 +373,32 @@ impl<T: AsItem + Keyed> TypedTable<T> {
     {
         let found = self.table.scan(self.alloc, limit, start_after)?;
         values_of(self.alloc, found.as_slice())
+    }
+
+    /// Returns a page of all values as [`scan`](Self::scan) does, and says where an error was found.
+    /// The place begins with the index of the value in the page.
+    ///
+    /// # Errors
+    ///
+    /// Returns the error of [`scan`](Self::scan), with its place.
+    pub fn scan_located(
+        &self,
+        limit: usize,
+        start_after: Option<&Key>,
+    ) -> std::result::Result<Vec<T>, LocatedError<Error>>
+        ensures read { IfOk result (λ values. ReadEach T.reads_item (page limit start_after.entry (table_of self.now)) values.items) }
+        ensures err { IfErr result (λ e. FailsToRead T.reads_item (page limit start_after.entry (table_of self.now)) e.error) }
+    {
+        match self.scan(limit, start_after) {
+            Ok(values) => Ok(values),
+            Err(error) => {
+                let place = match self.table.scan(self.alloc, limit, start_after) {
+                    Ok(found) => place_among::<T>(self.alloc, found.as_slice()),
+                    Err(_) => Place::new(),
+                };
+                Err(LocatedError { place, error })
+            }
+        }
     }
 
     /// Returns all values in the order of their keys.
