@@ -1,3 +1,5 @@
+ghost use Rattle.dynamo_place.specs.PlaceText.{located_text};
+
 use crate::Place;
 use std::fmt;
 
@@ -14,6 +16,8 @@ pub struct LocatedError<E> {
 }
 
 impl<E: fmt::Display> fmt::Display for LocatedError<E> {
+    ghost output = { located_text E.output };
+
     fn fmt<W: fmt::Write>(&self, f: &mut fmt::Formatter<W>) -> fmt::Result {
         if !self.place.steps().is_empty() {
             write!(f, "{}: ", self.place)?;

@@ -1,5 +1,7 @@
 ghost use Rattle.std.specs.Prelude.{◌≡◌, [], option_map};
+ghost use Rattle.std.specs.Fmt.{DisplaysOnOk};
 ghost use Rattle.dynamo_place.specs.Found.{IsAt, IsPart, steps_of};
+ghost use Rattle.dynamo_place.specs.PlaceText.{further_text, further_texts, is_plain_char, is_plain_name, place_text, step_text};
 
 use dynamo_value::AttributeValue;
 use std::alloc::Global;
@@ -106,32 +108,61 @@ impl Step {
 }
 
 impl fmt::Display for Place {
+    ghost output = { λ place. place_text (steps_of place) };
+
     fn fmt<W: fmt::Write>(&self, f: &mut fmt::Formatter<W>) -> fmt::Result {
-        let mut is_first = true;
-        for step in self.steps.iter() {
-            match step {
-                Step::Element(index) => write!(f, "[{index}]")?,
-                Step::Attribute(name) => {
-                    if !is_first {
-                        f.write_str(".")?;
-                    }
-                    if is_plain(name.as_str()) {
-                        f.write_str(name.as_str())?;
-                    } else {
-                        write!(f, "{name:?}")?;
-                    }
-                }
+        match self.steps.as_slice() {
+            [] => Ok(()),
+            [first, further @ ..] => {
+                first.write(f)?;
+                write_further(further, f)
             }
-            is_first = false;
         }
-        Ok(())
+    }
+}
+
+// Writes the steps behind the first one.
+fn write_further<W: fmt::Write>(steps: &[Step], f: &mut fmt::Formatter<W>) -> fmt::Result
+    ensures { DisplaysOnOk W.write_str_gives f.old result (further_texts steps.now) f.new }
+{
+    for step in steps {
+        step.write_further(f)?;
+    }
+    Ok(())
+}
+
+impl Step {
+    // Writes the step as the first one.
+    fn write<W: fmt::Write>(&self, f: &mut fmt::Formatter<W>) -> fmt::Result
+        ensures { DisplaysOnOk W.write_str_gives f.old result (step_text self.now) f.new }
+    {
+        match self {
+            Step::Attribute(name) if is_plain(name) => f.write_str(name),
+            Step::Attribute(name) => write!(f, "{name:?}"),
+            Step::Element(index) => write!(f, "[{index}]"),
+        }
+    }
+
+    // Writes the step behind another one.
+    fn write_further<W: fmt::Write>(&self, f: &mut fmt::Formatter<W>) -> fmt::Result
+        ensures { DisplaysOnOk W.write_str_gives f.old result (further_text self.now) f.new }
+    {
+        if matches!(self, Step::Attribute(_)) {
+            f.write_str(".")?;
+        }
+        self.write(f)
     }
 }
 
 // Whether a name is printed as it is.
-fn is_plain(name: &str) -> bool {
-    !name.is_empty()
-        && name
-            .chars()
-            .all(|c| c.is_alphanumeric() || c == '_' || c == '-')
+fn is_plain(name: &str) -> bool
+    ensures { result ≡ is_plain_name name.now }
+{
+    !name.is_empty() && name.chars().all(is_plain_char)
+}
+
+fn is_plain_char(c: char) -> bool
+    ensures { result ≡ is_plain_char c }
+{
+    c.is_alphanumeric() || c == '_' || c == '-'
 }
