@@ -53,6 +53,9 @@ pub trait SerializeMap<S: Outcomes<Ok = Self::Ok, Error = Self::Error>>: Sized +
         ensures pending { pending self.new ≡ None }
         ensures keeps { Keeps gives self.old self.new };
 
+    /// Says of which key the value is written next. A builder that has no use for it does nothing.
+    fn begin_value(&self, _key: &str) {}
+
     /// Returns the serializer of the next value.
     fn value_serializer(&self) -> S
         ensures same { result ≡ writer self.now }
@@ -127,6 +130,7 @@ pub trait SerializeMap<S: Outcomes<Ok = Self::Ok, Error = Self::Error>>: Sized +
                 Err(self.refused(error))
             }
             Some(key) => {
+                self.begin_value(key.as_str());
                 let written = value.serialize(self.value_serializer())?;
                 self.push_entry(key, written)
             }
@@ -151,6 +155,7 @@ pub trait SerializeMap<S: Outcomes<Ok = Self::Ok, Error = Self::Error>>: Sized +
     {
         match key.serialize(MapKeySerializer::new(self.alloc())) {
             Ok(text) => {
+                self.begin_value(text.as_str());
                 let written = value.serialize(self.value_serializer())?;
                 self.push_entry(text, written)
             }

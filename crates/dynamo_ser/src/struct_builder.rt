@@ -19,6 +19,9 @@ pub trait StructBuilder<S: Outcomes<Ok = Self::Ok, Error = Self::Error>>: Sized 
     // The serializer of each field.
     ghost writer: { Self → S };
 
+    /// Says which field is written next. A builder that has no use for it does nothing.
+    fn begin_field(&self, _key: &'static str) {}
+
     /// Returns the serializer of the next field.
     fn field_serializer(&self) -> S
         ensures same { result ≡ writer self.now }
@@ -46,6 +49,7 @@ pub trait StructBuilder<S: Outcomes<Ok = Self::Ok, Error = Self::Error>>: Sized 
         S: Serializer,
         ensures { TakesPiece Self.gives self.old self.new (field key.now (T.tells value.now)) result }
     {
+        self.begin_field(key);
         let written = value.serialize(self.field_serializer())?;
         self.push_field(key, written)
     }
