@@ -2,7 +2,7 @@
 use Rattle.std.proofs.Common.{◌≡◌, ◌∙◌, ℕ, ◌+◌, ◌<◌, List, [], ◌∷◌, ◌++◌, length, get_or, take, Option, Some, None, refl, sym, ap, append-nil}
 use Rattle.std.specs.Fmt.{◌++?◌}
 use Rattle.std.proofs.lemmas.List.{take_more}
-use Rattle.core.proofs.fmt.Output.{then_text_assoc}
+use Rattle.std.proofs.Output.{then_text_assoc}
 use Rattle.dynamo_place.specs.PlaceText.{further_text, further_texts}
 use Rattle.dynamo_place.specs.declared.place.Step.{Step}
 

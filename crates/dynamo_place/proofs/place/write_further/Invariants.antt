@@ -1,6 +1,6 @@
 use Rattle.std.proofs.Common.{take}
 use Rattle.std.specs.Fmt.{IsPlainFormatter}
-use Rattle.core.proofs.fmt.Debugs.{Shows}
+use Rattle.std.proofs.Debugs.{Shows}
 use Rattle.dynamo_place.specs.PlaceText.{further_texts}
 use Rattle.dynamo_place.proofs.place.write_further.Given as goal
 
