@@ -1,4 +1,6 @@
-//! Places of errors of reading.
+//! Places of errors of reading and writing.
 
+mod kinds;
 mod rows;
 mod turned;
+mod writing;

@@ -3,15 +3,22 @@
 //! [`from_attribute_value_located`], [`from_item_located`], [`from_item_ref_located`] and [`from_items_located`]
 //! return what their namesakes in `dynamo_read` return, with the [`Place`] of an error. [`read_located`] does the
 //! same for any [`Reader`](dynamo_de::Reader).
+//!
+//! [`to_attribute_value_located`] and [`to_item_located`] return what their namesakes in `dynamo_write` return, with
+//! the [`Place`] of an error in the value that is written.
 #![tactic(auto)]
 
 mod json;
 mod located;
 mod located_error;
+mod locating;
+mod locating_parts;
 mod place;
 mod read;
+mod trail;
 mod way;
 mod without_indexes;
+mod write;
 
 pub use json::DynamoJsonLocated;
 pub use located::{Located, LocatedChoice, LocatedElements, LocatedEntries};
@@ -22,3 +29,4 @@ pub use read::{
     read_located,
 };
 pub use without_indexes::WithoutIndexes;
+pub use write::{to_attribute_value_located, to_item_located};

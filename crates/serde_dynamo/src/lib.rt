@@ -239,8 +239,8 @@
 //! assert_eq!(rt; error.to_string(alloc)?.as_str(), "missing field `id`");
 //! ```
 //!
-//! [`from_item_located`] and its namesakes return an error with its [`Place`], and are otherwise the
-//! same calls:
+//! [`from_item_located`], [`to_item_located`] and their namesakes return an error with its [`Place`],
+//! and are otherwise the same calls:
 //!
 //! ```rust
 //! use serde_dynamo::samples::User;
@@ -349,7 +349,7 @@ pub use dynamo_leaf::{
 };
 pub use dynamo_place::{
     LocatedError, Place, Step, from_attribute_value_located, from_item_located,
-    from_item_ref_located, from_items_located,
+    from_item_ref_located, from_items_located, to_attribute_value_located, to_item_located,
 };
 pub use dynamo_read::{
     Deserializer, DeserializerEnum, DeserializerMap, DeserializerSeq, DeserializerVariant,
