@@ -1,6 +1,13 @@
 //! Places of errors of reading and writing.
 
+mod derived_enums;
+mod derived_items;
+mod derived_rows;
+mod derived_turned;
 mod kinds;
 mod rows;
+mod rows;
 mod turned;
+mod turned;
+mod turning;
 mod writing;

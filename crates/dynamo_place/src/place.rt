@@ -52,7 +52,17 @@ impl Place {
         Place { steps: None }
     }
 
-    pub(crate) fn of_steps(steps: Vec<Step>) -> Place
+    /// Returns the place at the end of these steps, of which the first goes from the whole value.
+    ///
+    /// # Examples
+    ///
+    /// ```rust
+    /// use dynamo_place::{Place, Step};
+    ///
+    /// let steps = vec![in alloc; Step::Attribute(String::from_str(alloc, "orders")?), Step::Element(3)]?;
+    /// assert!(rt; Place::of_steps(steps).to_string(alloc)?.as_str() == "orders[3]");
+    /// ```
+    pub fn of_steps(steps: Vec<Step>) -> Place
         ensures { steps_of result ≡ steps.items }
     {
         if steps.is_empty() {

@@ -67,7 +67,7 @@ impl Trail {
     }
 
     /// Returns the place that writing has come to, or the empty one if memory for it ran out.
-    pub(crate) fn into_place(self, alloc: Global) -> Place {
+    pub(crate) fn into_place(self) -> Place {
         match self.steps.into_inner() {
             Some(steps) => Place::of_steps(steps),
             None => Place::new(),

@@ -82,7 +82,7 @@ fn located<T: Serialize>(alloc: Global, value: &T, error: Error) -> LocatedError
 {
     let trail = Trail::new(alloc);
     let place = match value.serialize(LocatingSerializer::new(alloc, &trail)) {
-        Err(again) if again.kind() == error.kind() => trail.into_place(alloc),
+        Err(again) if again.kind() == error.kind() => trail.into_place(),
         _ => Place::new(),
     };
     LocatedError { place, error }

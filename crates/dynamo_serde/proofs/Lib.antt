@@ -2,6 +2,7 @@ mod Laying
 pub mod Logged
 pub mod Machine
 pub mod Names
+pub mod Places
 pub mod Read
 mod Sending
 pub mod Sends

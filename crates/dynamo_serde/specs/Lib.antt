@@ -4,6 +4,7 @@ pub mod Sent
 pub mod Building
 pub mod Called
 pub mod Laid
+pub mod Located
 pub mod Tape
 pub mod Told
 pub mod Value

@@ -5,6 +5,9 @@
 //! and [`read_attribute_value`] borrow what they read. Floats and serde's attributes work:
 //! renaming, defaults, skipping, flattening, and all four forms of enums.
 //!
+//! [`from_item_located`] and its namesakes also say where an error was found, as in
+//! `orders[3].price: Expected num`.
+//!
 //! A field that is a byte string, a set or an attribute value says so, as in the example:
 //! [`bytes`], [`byte_buf`], [`string_set`], [`number_set`], [`binary_set`], [`attribute_value`] and
 //! [`item`].
@@ -47,13 +50,19 @@ mod events;
 mod fault;
 mod format;
 mod kinds;
+mod located;
+mod located_tape;
 mod open;
 mod symbol;
 mod tape;
+mod trail;
 mod typed;
 mod with;
 mod writer;
 
+pub use located::{
+    from_attribute_value_located, from_item_located, from_items_located, read_item_located,
+};
 pub use tape::{Mark, Tape};
 pub use typed::{
     from_attribute_value, from_item, from_items, read_attribute_value, read_item,

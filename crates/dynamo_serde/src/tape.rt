@@ -216,6 +216,16 @@ impl<'v> Tape<'v> {
         }
     }
 
+    // How many tokens were passed over: the index of the one that comes.
+    pub(crate) fn index(&self) -> usize {
+        self.at
+    }
+
+    // All tokens, also those that were passed over.
+    pub(crate) fn tokens(&self) -> &[Token<'v>] {
+        self.tokens.as_slice()
+    }
+
     // Whether the kind of the next value was asked for just before.
     pub(crate) fn is_told(&self) -> bool
         ensures { result ≡ (place self.now).told }

@@ -1,0 +1,192 @@
+// Reading with the places of errors.
+ghost use Rattle.std.specs.Prelude.{◌≡◌, [], length, IfErr, IfOk};
+ghost use Rattle.dynamo_place.specs.Found.{steps_of};
+ghost use Rattle.dynamo_value.specs.Item.{items_view};
+ghost use Rattle.dynamo_serde.specs.Located.{IsInItem, IsInItems};
+
+use crate::{Tape, fault};
+use crate::located_tape::LocatedTape;
+use crate::trail::{self, Focus};
+use dynamo_place::{LocatedError, Place};
+use dynamo_value::{AttributeValue, Error, Item, Items};
+use serde::{DeserializeOwned, Deserializer};
+use std::alloc::Global;
+use std::collections::HashMap;
+
+/// Reads a value from an attribute value as [`from_attribute_value`](crate::from_attribute_value)
+/// does, and says where an error was found.
+///
+/// The place of a missing or unknown field, of an unknown variant and of a wrong length is that of
+/// the struct, the enum or the list. The place of a key that can't be read is its entry. The content
+/// of a variant is at the variant's name. The place is that of the whole enum if an untagged enum
+/// has no variant that fits, or if the tag beside a content can't be read, and that of the whole
+/// value if it has more than 127 levels of lists and maps.
+///
+/// # Errors
+///
+/// Returns the error of `from_attribute_value`, with its place in the attribute value.
+///
+/// # Examples
+///
+/// ```rust
+/// use serde_dynamo::AttributeValue;
+///
+/// let texts = vec![in alloc; String::from_str(alloc, "1")?, String::from_str(alloc, "300")?]?;
+/// let value = AttributeValue::Ns(texts);
+/// let Err(error) = dynamo_serde::from_attribute_value_located::<Vec<u8>>(alloc, value) else {
+///     anyhow::bail!("300 is no u8");
+/// };
+/// assert!(rt; error.place.to_string(alloc)?.as_str() == "[1]");
+/// ```
+pub fn from_attribute_value_located<T: DeserializeOwned>(
+    alloc: Global,
+    value: AttributeValue,
+) -> Result<T, LocatedError<Error>> {
+    read_laid(alloc, None, Tape::new(alloc, &value))
+}
+
+/// Reads a value from a borrowed item as [`read_item`](crate::read_item) does, and says where an
+/// error was found, as [`from_attribute_value_located`] does.
+///
+/// # Errors
+///
+/// Returns the error of `read_item`, with its place in the item.
+///
+/// # Examples
+///
+/// ```rust
+/// use serde::Deserialize;
+/// use serde_dynamo::{DynamoJson, Item};
+///
+/// #[derive(Drop, Deserialize)]
+/// struct Order {
+///     prices: Vec<u32>,
+/// }
+///
+/// let item = Item::from_json_text(alloc, r#"{"prices": {"L": [{"N": "4"}, {"S": "5"}]}}"#)?;
+/// let Err(error) = dynamo_serde::read_item_located::<Order>(alloc, &item) else {
+///     anyhow::bail!("a price isn't a string");
+/// };
+/// assert!(rt; error.to_string(alloc)?.as_str() == "prices[1]: Expected num");
+/// ```
+pub fn read_item_located<T: DeserializeOwned>(
+    alloc: Global,
+    item: &Item,
+) -> Result<T, LocatedError<Error>> {
+    read_laid(alloc, None, Tape::of_map(alloc, item.inner()))
+}
+
+/// Reads a value from an item as [`from_item`](crate::from_item) does, and says where an error was
+/// found, as [`from_attribute_value_located`] does.
+///
+/// # Errors
+///
+/// Returns the error of `from_item`, with its place in the item.
+///
+/// # Examples
+///
+/// ```rust
+/// use serde::Deserialize;
+/// use serde_dynamo::{DynamoJson, Item};
+///
+/// #[derive(Drop, Deserialize)]
+/// struct Order {
+///     home: Home,
+/// }
+///
+/// #[derive(Drop, Deserialize)]
+/// struct Home {
+///     city: String,
+/// }
+///
+/// let item = Item::from_json_text(alloc, r#"{"home": {"M": {}}}"#)?;
+/// let Err(error) = dynamo_serde::from_item_located::<Order>(alloc, item) else {
+///     anyhow::bail!("the home has no city");
+/// };
+/// assert!(rt; error.to_string(alloc)?.as_str() == "home: missing field `city`");
+/// ```
+pub fn from_item_located<T: DeserializeOwned>(
+    alloc: Global,
+    item: Item,
+) -> Result<T, LocatedError<Error>> {
+    read_item_located(alloc, &item)
+}
+
+/// Reads a list of values from a list of items as [`from_items`](crate::from_items) does, and says
+/// where an error was found, as [`from_attribute_value_located`] does. The place begins with the
+/// index of the item, as in `[7].orders[3].price`.
+///
+/// # Errors
+///
+/// Returns the error of `from_items`, with its place in the list.
+///
+/// # Examples
+///
+/// ```rust
+/// use serde::Deserialize;
+/// use serde_dynamo::{DynamoJson, Item, Items};
+///
+/// #[derive(Drop, Deserialize)]
+/// struct Point {
+///     x: i32,
+/// }
+///
+/// let good = Item::from_json_text(alloc, r#"{"x": {"N": "1"}}"#)?;
+/// let bad = Item::from_json_text(alloc, r#"{"x": {"N": "one"}}"#)?;
+/// let items = Items::from(vec![in alloc; good.into_inner(), bad.into_inner()]?);
+/// let Err(error) = dynamo_serde::from_items_located::<Point>(alloc, items) else {
+///     anyhow::bail!("one is no number");
+/// };
+/// assert!(rt; error.place.to_string(alloc)?.as_str() == "[1].x");
+/// ```
+pub fn from_items_located<T: DeserializeOwned>(
+    alloc: Global,
+    items: Items,
+) -> Result<Vec<T>, LocatedError<Error>>
+    ensures each { IfOk result (λ values. length values.items ≡ length (items_view items)) }
+    ensures place { IfErr result (λ e. IsInItems (length (items_view items)) (steps_of e.place)) }
+{
+    let maps: Vec<HashMap<String, AttributeValue>> = items.into();
+    let mut values = Vec::with_capacity(alloc, maps.len()).map_err(|_| no_memory(alloc))?;
+    for (index, map) in maps.iter().enumerate() {
+        let value = read_laid(alloc, Some(index), Tape::of_map(alloc, map))?;
+        values.push(value).map_err(|_| no_memory(alloc))?;
+    }
+    Ok(values)
+}
+
+// Reads a value from a tape, if it could be laid. It is of the item with this index, if there are
+// several.
+fn read_laid<T: DeserializeOwned>(
+    alloc: Global,
+    item: Option<usize>,
+    laid: Result<Tape<'_>, Error>,
+) -> Result<T, LocatedError<Error>>
+    ensures { IfErr result (λ e. IsInItem item (steps_of e.place)) }
+{
+    let tape = match laid {
+        Ok(tape) => tape,
+        Err(error) => {
+            let place = trail::place(alloc, item, &[], Focus::Token(0));
+            return Err(LocatedError { place, error });
+        }
+    };
+    let mut tape = LocatedTape::new(tape);
+    match T::deserialize_owned(alloc, &mut Deserializer::new(&[], &mut tape)) {
+        Ok(value) => Ok(value),
+        Err(error) => {
+            let place = tape.place(alloc, item);
+            Err(LocatedError { place, error })
+        }
+    }
+}
+
+// Memory ran out for the list of what is read.
+fn no_memory(alloc: Global) -> LocatedError<Error>
+    ensures { steps_of result.place ≡ [] }
+{
+    LocatedError {
+        place: Place::new(),
+        error: fault::no_memory(),
+    }
+}

@@ -1,0 +1,199 @@
+//! Items of derived types, each with one part that is turned into something else: the place that an error says is the place
+//! that was turned.
+use crate::turning::{Done, Turned, Turning, first_wrong, none_wrong, order, page, told_place};
+use dynamo_serde::{from_item_located, from_items_located, read_item_located};
+use dynamo_value::Items;
+use serde::{Deserialize, DeserializeOwned};
+use std::alloc::{AllocError, Global};
+use std::collections::{BTreeMap, HashMap};
+
+#[derive(Drop, Deserialize)]
+struct Order {
+    id: String,
+    count: u32,
+    tags: Vec<String>,
+    stock: HashMap<String, u64>,
+    home: Home,
+}
+
+#[derive(Drop, Deserialize)]
+struct Home {
+    city: String,
+    zip: Option<u32>,
+}
+
+#[derive(Drop, Deserialize)]
+struct Page {
+    items: Vec<Order>,
+}
+
+#[derive(Drop, Deserialize)]
+struct Parcel {
+    name: String,
+    #[serde(with = "dynamo_serde::number_set")]
+    lots: Vec<u8>,
+    #[serde(with = "dynamo_serde::bytes")]
+    seal: Vec<u8>,
+    shelves: BTreeMap<u8, (u16, String)>,
+    ways: Vec<Way>,
+    #[serde(flatten)]
+    size: Size,
+    shape: Shape,
+}
+
+#[derive(Drop, Deserialize)]
+enum Way {
+    Road(u8),
+    Rail { cars: u8, owner: String },
+    Sea(String, u8),
+}
+
+#[derive(Drop, Deserialize)]
+struct Size {
+    w: u8,
+    h: u8,
+}
+
+#[derive(Drop, Deserialize)]
+#[serde(tag = "kind")]
+enum Shape {
+    Box { a: u8, b: u8 },
+}
+
+fn parcel_text(it: &mut Turning, at: &str) -> Done {
+    it.push("{\"M\":{")?;
+    it.field(at, "name", |it, at| it.string(at))?;
+    it.push(",")?;
+    it.field(at, "lots", lots)?;
+    it.push(",")?;
+    it.field(at, "seal", |it, at| it.part(at, r#"{"B":"AQI="}"#, r#"{"S":"AQI="}"#))?;
+    it.push(",")?;
+    it.field(at, "shelves", shelves)?;
+    it.push(",")?;
+    it.field(at, "ways", ways)?;
+    it.push(",")?;
+    it.field(at, "w", |it, at| it.number(at))?;
+    it.push(",")?;
+    it.field(at, "h", |it, at| it.number(at))?;
+    it.push(",")?;
+    it.field(at, "shape", |it, at| {
+        it.push(r#"{"M":{"kind":"#)?;
+        let kind = it.inside(at, "kind")?;
+        it.part(kind.as_str(), r#"{"S":"Box"}"#, r#"{"N":"1"}"#)?;
+        it.push(",")?;
+        it.field(at, "a", |it, at| it.number(at))?;
+        it.push(",")?;
+        it.field(at, "b", |it, at| it.number(at))?;
+        it.push("}}")
+    })?;
+    it.push("}}")
+}
+
+fn lots(it: &mut Turning, at: &str) -> Done {
+    it.push(r#"{"NS":["#)?;
+    for number in 0..it.draw.below(4) + 1 {
+        let place = format!(in it.alloc; "{at}[{number}]")?;
+        let turned = [r#""300""#, r#""-1""#, r#""x""#][it.draw.below(3)];
+        it.push(if number == 0 { "" } else { "," })?;
+        let text = format!(in it.alloc; "\"{number}\"")?;
+        it.part(place.as_str(), text.as_str(), turned)?;
+    }
+    it.push("]}")
+}
+
+// The keys are numbers. One that is turned is a number that is too great, or none.
+fn shelves(it: &mut Turning, at: &str) -> Done {
+    it.push("{\"M\":{")?;
+    for number in 0..it.draw.below(4) {
+        let name = format!(in it.alloc; "{number}")?;
+        let turned = ["256", "x"][it.draw.below(2)];
+        let comma = if number == 0 { "" } else { "," };
+        let key = format!(in it.alloc; "{comma}\"{name}\":")?;
+        let turned_key = format!(in it.alloc; "{comma}\"{turned}\":")?;
+        let turned_place = it.inside(at, turned)?;
+        let place = it.inside(at, name.as_str())?;
+        it.part(turned_place.as_str(), key.as_str(), turned_key.as_str())?;
+        it.push("{\"L\":[")?;
+        it.number(element(it, place.as_str(), 0)?.as_str())?;
+        it.push(",")?;
+        it.string(element(it, place.as_str(), 1)?.as_str())?;
+        it.push("]}")?;
+    }
+    it.push("}}")
+}
+
+fn element(it: &Turning, at: &str, index: usize) -> Result<String, AllocError> {
+    format!(in it.alloc; "{at}[{index}]")
+}
+
+fn ways(it: &mut Turning, at: &str) -> Done {
+    it.push("{\"L\":[")?;
+    for number in 0..it.draw.below(4) {
+        it.push(if number == 0 { "" } else { "," })?;
+        let place = element(it, at, number)?;
+        way_text(it, place.as_str())?;
+    }
+    it.push("]}")
+}
+
+// A variant whose name is turned is unknown, and then the whole enum is what is wrong.
+fn way_text(it: &mut Turning, at: &str) -> Done {
+    let variant = it.draw.below(3);
+    let name = ["Road", "Rail", "Sea"][variant];
+    it.push("{\"M\":{")?;
+    let inside = it.inside(at, name)?;
+    it.name(at, name)?;
+    match variant {
+        0 => it.number(inside.as_str())?,
+        1 => rail(it, inside.as_str())?,
+        _ => {
+            it.push("{\"L\":[")?;
+            it.string(element(it, inside.as_str(), 0)?.as_str())?;
+            it.push(",")?;
+            it.number(element(it, inside.as_str(), 1)?.as_str())?;
+            it.push("]}")?;
+        }
+    }
+    it.push("}}")
+}
+
+fn rail(it: &mut Turning, at: &str) -> Done {
+    it.push("{\"M\":{")?;
+    it.field(at, "cars", |it, at| it.number(at))?;
+    it.push(",")?;
+    it.field(at, "owner", |it, at| it.string(at))?;
+    it.push("}}")
+}
+
+// The place of the error of reading, where it is the same of the item, of the borrowed item, and of the second of two items.
+fn place_of<T: DeserializeOwned>(alloc: Global, it: Turned) -> anyhow::Result<String> {
+    let borrowed = told_place(alloc, &read_item_located::<T>(alloc, &it.turned))?;
+    let maps = vec![in alloc; it.whole.into_inner(), it.turned.clone()?.into_inner()]?;
+    let second = told_place(alloc, &from_items_located::<T>(alloc, Items::from(maps)))?;
+    let owned = told_place(alloc, &from_item_located::<T>(alloc, it.turned))?;
+    let dot = if owned.is_empty() { "" } else { "." };
+    let in_items = format!(in alloc; "[1]{dot}{owned}")?;
+    if owned == borrowed && second == in_items {
+        Ok(owned)
+    } else {
+        Ok(format!(in alloc; "{owned}, but {borrowed} of the borrowed item and {second} of the items")?)
+    }
+}
+
+#[test]
+fn derived_orders_say_what_was_turned(rt: HostRuntime) {
+    let alloc = rt.alloc();
+    none_wrong(&rt, first_wrong(alloc, order, |it| place_of::<Order>(alloc, it)));
+}
+
+#[test]
+fn derived_pages_of_orders_say_what_was_turned(rt: HostRuntime) {
+    let alloc = rt.alloc();
+    none_wrong(&rt, first_wrong(alloc, page, |it| place_of::<Page>(alloc, it)));
+}
+
+#[test]
+fn derived_parcels_say_what_was_turned(rt: HostRuntime) {
+    let alloc = rt.alloc();
+    none_wrong(&rt, first_wrong(alloc, parcel_text, |it| place_of::<Parcel>(alloc, it)));
+}
