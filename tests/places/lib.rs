@@ -6,8 +6,6 @@ mod derived_rows;
 mod derived_turned;
 mod kinds;
 mod rows;
-mod rows;
-mod turned;
 mod turned;
 mod turning;
 mod writing;

@@ -147,10 +147,10 @@ pub fn from_items_located<T: DeserializeOwned>(
     ensures place { IfErr result (λ e. IsInItems (length (items_view items)) (steps_of e.place)) }
 {
     let maps: Vec<HashMap<String, AttributeValue>> = items.into();
-    let mut values = Vec::with_capacity(alloc, maps.len()).map_err(|_| no_memory(alloc))?;
+    let mut values = Vec::with_capacity(alloc, maps.len()).map_err(|_| no_memory())?;
     for (index, map) in maps.iter().enumerate() {
         let value = read_laid(alloc, Some(index), Tape::of_map(alloc, map))?;
-        values.push(value).map_err(|_| no_memory(alloc))?;
+        values.push(value).map_err(|_| no_memory())?;
     }
     Ok(values)
 }
@@ -182,7 +182,7 @@ fn read_laid<T: DeserializeOwned>(
 }
 
 // Memory ran out for the list of what is read.
-fn no_memory(alloc: Global) -> LocatedError<Error>
+fn no_memory() -> LocatedError<Error>
     ensures { steps_of result.place ≡ [] }
 {
     LocatedError {
