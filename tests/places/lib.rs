@@ -5,6 +5,7 @@ mod derived_items;
 mod derived_rows;
 mod derived_turned;
 mod kinds;
+mod lines;
 mod rows;
 mod turned;
 mod turning;

@@ -1,5 +1,6 @@
 //! A booking: a type that derives serde's traits.
-use dynamo_value::{Item, Result};
+use dynamo_place::LocatedError;
+use dynamo_value::{Error, Item, Result};
 use memory_table::{KeyAttribute, KeyKind, KeySchema};
 use serde::{Deserialize, Serialize};
 use std::alloc::{AllocError, Global};
@@ -46,6 +47,10 @@ impl AsItem for Booking {
 
     fn read_item(alloc: Global, item: &Item) -> Result<Booking> {
         dynamo_serde::read_item(alloc, item)
+    }
+
+    fn read_item_located(alloc: Global, item: &Item) -> Result<Booking, LocatedError<Error>> {
+        dynamo_serde::read_item_located(alloc, item)
     }
 }
 

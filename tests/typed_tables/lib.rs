@@ -5,5 +5,6 @@ mod booking;
 mod guest;
 mod in_database;
 mod in_memory;
+mod places;
 mod texts;
 mod unlike_dynamo;

@@ -76,14 +76,28 @@ pub fn to_item_located<T: Serialize + Drop>(
     }
 }
 
-// The error of writing a value, with the place where it is met if the value is written again.
+// The error of writing a value, with its place.
 fn located<T: Serialize>(alloc: Global, value: &T, error: Error) -> LocatedError<Error>
     ensures { result.error ≡ error }
 {
-    let trail = Trail::new(alloc);
-    let place = match value.serialize(LocatingSerializer::new(alloc, &trail)) {
-        Err(again) if again.kind() == error.kind() => trail.into_place(),
-        _ => Place::new(),
-    };
+    let place = place_of(alloc, value, &error);
     LocatedError { place, error }
+}
+
+// The place where an error is met when a value is written again, or the empty one if it isn't met again.
+fn place_of<T: Serialize>(alloc: Global, value: &T, error: &Error) -> Place {
+    let trail = Trail::new(alloc);
+    if meets(alloc, value, error, &trail) {
+        trail.into_place()
+    } else {
+        Place::new()
+    }
+}
+
+// Whether an error is met when a value is written along a trail.
+fn meets<T: Serialize>(alloc: Global, value: &T, error: &Error, trail: &Trail) -> bool {
+    match value.serialize(LocatingSerializer::new(alloc, trail)) {
+        Ok(_written) => false,
+        Err(again) => again.kind() == error.kind(),
+    }
 }

@@ -1,0 +1,160 @@
+//! Lines of exports and request files with one fault each, and what is said of it.
+use described_types::Order;
+use fixtures::{Lines, requests_in_file};
+use schema_check::{Groups, next_value, value_of};
+use std::alloc::{AllocError, Global};
+use std::process::Abort;
+use std::test::Fail;
+
+const ORDER: &str = r#""id":{"S":"a"},"count":{"N":"1"},"tags":{"L":[{"S":"x"}]},"stock":{"M":{"l":{"N":"2"}}}"#;
+
+const HOME: &str = r#""home":{"M":{"city":{"S":"b"},"zip":{"N":"10115"}}}"#;
+
+// The line of an order, with one text in place of another.
+fn line(alloc: Global, from: &str, to: &str) -> Result<String, AllocError> {
+    let whole = format!(in alloc; "{{\"Item\":{{{ORDER},{HOME}}}}}")?;
+    whole.replace(alloc, from, to)
+}
+
+// What is said of a line that is the third one, behind a blank one.
+fn told(alloc: Global, line: &str) -> Result<String, AllocError> {
+    let text = format!(in alloc; "{{\"Item\":{{{ORDER},{HOME}}}}}\n\n{line}\n")?;
+    let mut lines = Lines::new(alloc, text.as_str().as_bytes());
+    let first = next_value::<Order, &[u8]>(alloc, &mut lines);
+    if !matches!(first, Some(Ok(_))) {
+        return String::from_str(alloc, "the first line isn't read");
+    }
+    match next_value::<Order, &[u8]>(alloc, &mut lines) {
+        Some(Ok(_)) => String::from_str(alloc, "read"),
+        Some(Err(finding)) => finding.to_string(alloc),
+        None => String::from_str(alloc, "no line"),
+    }
+}
+
+#[test]
+fn a_finding_says_the_line_and_the_place(rt: HostRuntime) -> Result<(), Fail> {
+    let alloc = rt.alloc();
+    let rows = [
+        ("a", "a", "read"),
+        (r#""S":"x""#, r#""N":"1""#, "line 3: tags[0]: Expected string"),
+        (r#""N":"2""#, r#""N":"-1""#, "line 3: stock.l: Failed to parse '-1' as an integer"),
+        (r#""city":{"S":"b"},"#, "", "line 3: home: missing field `city`"),
+        (r#""id":{"S":"a"},"#, "", "line 3: missing field `id`"),
+        (r#"{"N":"10115"}"#, r#"{"X":"1"}"#, "line 3: home.zip: The key 'X' is not a known DynamoDB prefix"),
+        (r#"[{"S":"x"}]"#, r#"[{"S":"x"},{}]"#, "line 3: tags[1]: Expected exactly one key in the object, found none"),
+        (r#""Item""#, r#""Other""#, "line 3: it has no Item"),
+    ];
+    for (from, to, wanted) in rows {
+        let told = told(alloc, line(alloc, from, to)?.as_str())?;
+        assert!(rt; told.as_str().starts_with(wanted), "{told}, not {wanted}");
+    }
+    Ok(())
+}
+
+#[test]
+fn a_text_that_ends_too_early_says_its_length(rt: HostRuntime) -> Result<(), Fail> {
+    let alloc = rt.alloc();
+    let whole = line(alloc, "a", "a")?;
+    for end in [1, 8, 20, whole.len() - 1] {
+        let cut = whole.as_str().get(..end).unwrap_or("");
+        let wanted = format!(in alloc; "line 3: it is not JSON (column {end})")?;
+        assert_eq!(rt; told(alloc, cut)?.as_str(), wanted.as_str());
+    }
+    Ok(())
+}
+
+#[test]
+fn an_item_without_its_line_is_located_too(rt: HostRuntime) -> Result<(), Fail> {
+    let alloc = rt.alloc();
+    let text = line(alloc, r#""S":"x""#, r#""N":"1""#)?;
+    let mut lines = Lines::new(alloc, text.as_str().as_bytes());
+    let Some(Ok(line)) = lines.next_line() else {
+        assert!(rt; false, "the line has an item");
+        return Ok(());
+    };
+    let read = value_of::<Order>(alloc, line);
+    assert!(rt; matches!(read, Err(finding) if finding.to_string(alloc)?.as_str() == "line 1: tags[0]: Expected string"));
+    Ok(())
+}
+
+#[test]
+fn a_request_file_says_the_table_and_the_request(rt: HostRuntime) -> Result<(), Fail> {
+    let alloc = rt.alloc();
+    let rows = [
+        (r#"{"Music": [{"PutRequest": {"Item": {"a": {"M": {"b": {"X": 1}}}}}}]}"#,
+            "Music[0].PutRequest.Item.a.b: The key 'X' is not a known DynamoDB prefix"),
+        (r#"{"A": [], "B": [{"DeleteRequest": {"Key": {"k": {"S": "a"}}}}, {"DeleteRequest": {"Key": {"k": 1}}}]}"#,
+            "B[1].DeleteRequest.Key.k: invalid type"),
+        (r#"{"A": [], "B C": 1}"#, "\"B C\": expected a list of requests"),
+        (r#"{"A": [{"PutRequest": {}}]}"#, "A[0]: a request lacks its Item or its Key"),
+        ("[]", "expected an object with a list of requests for each table"),
+        ("{\n\"A\": [\n", "it is not JSON (line 2, column 6)"),
+    ];
+    for (text, wanted) in rows {
+        let told = match requests_in_file(alloc, text.as_bytes()) {
+            Ok(_) => String::from_str(alloc, "read")?,
+            Err(fault) => fault.to_string(alloc)?,
+        };
+        assert!(rt; told.as_str().starts_with(wanted), "{told}, not {wanted}");
+    }
+    Ok(())
+}
+
+// The groups of an export's findings.
+fn groups(alloc: Global, export: &str, limit: usize) -> Result<Groups, AllocError> {
+    let mut lines = Lines::new(alloc, export.as_bytes());
+    let mut groups = Groups::new(alloc, limit);
+    for _ in 0..u64::MAX {
+        match next_value::<Order, &[u8]>(alloc, &mut lines) {
+            Some(Ok(_)) => {}
+            Some(Err(finding)) => groups.add(&finding)?,
+            None => break,
+        }
+    }
+    Ok(groups)
+}
+
+// So many times each of these lines.
+fn push_lines(text: &mut String, times: usize, lines: &[&str]) -> Result<(), AllocError> {
+    for _ in 0..times {
+        for line in lines {
+            text.push_str(line)?;
+            text.push('\n')?;
+        }
+    }
+    Ok(())
+}
+
+#[test]
+fn findings_are_grouped_by_place_and_kind(rt: HostRuntime) -> Result<(), Fail> {
+    let alloc = rt.alloc();
+    let good = line(alloc, "a", "a")?;
+    let tag = line(alloc, r#"[{"S":"x"}]"#, r#"[{"S":"x"},{"N":"1"}]"#)?;
+    let first_tag = line(alloc, r#""S":"x""#, r#""N":"1""#)?;
+    let count = line(alloc, r#"{"N":"1"}"#, r#"{"N":"one"}"#)?;
+    let other_count = line(alloc, r#"{"N":"1"}"#, r#"{"N":"two"}"#)?;
+    let mut export = String::new(alloc);
+    push_lines(&mut export, 3, &[good.as_str(), tag.as_str(), first_tag.as_str(), "{}", "no JSON", "[1"])?;
+    push_lines(&mut export, 1, &[count.as_str(), other_count.as_str(), count.as_str(), count.as_str()])?;
+    let wanted = "4 lines at count: Failed to parse an integer\n6 lines at tags[]: Expected string\n\
+        3 lines: it has no Item\n6 lines: it is not JSON\n";
+    let told = groups(alloc, export.as_str(), 10)?;
+    assert_eq!(rt; told.to_string(alloc)?.as_str(), wanted);
+    assert_eq!(rt; told.others(), 0);
+    Ok(())
+}
+
+#[test]
+fn groups_are_bounded(rt: HostRuntime) -> Result<(), Fail> {
+    let alloc = rt.alloc();
+    let mut export = String::new(alloc);
+    for number in 0..2_000 {
+        let named = format!(in alloc; "\"stock\":{{\"M\":{{\"l{number}\":{{\"S\":\"x\"}}")?;
+        let line = line(alloc, r#""stock":{"M":{"l":{"N":"2"}"#, named.as_str())?;
+        push_lines(&mut export, 1, &[line.as_str()])?;
+    }
+    let told = groups(alloc, export.as_str(), 2)?;
+    let wanted = "1 line at stock.l0: Expected num\n1 line at stock.l1: Expected num\n1998 lines at other places\n";
+    assert_eq!(rt; told.to_string(alloc)?.as_str(), wanted);
+    Ok(())
+}
