@@ -173,7 +173,7 @@ impl<'a, B: StructBuilder<Serializer, Ok = AttributeValue, Error = Error>>
 
     ghost writer = { λ b. b.serializer };
 
-    fn begin_field(&self, key: &'static str) {
+    fn begin_field(&self, key: &str) {
         self.go_to(key);
     }
 

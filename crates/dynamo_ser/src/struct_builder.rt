@@ -20,7 +20,7 @@ pub trait StructBuilder<S: Outcomes<Ok = Self::Ok, Error = Self::Error>>: Sized 
     ghost writer: { Self → S };
 
     /// Says which field is written next. A builder that has no use for it does nothing.
-    fn begin_field(&self, _key: &'static str) {}
+    fn begin_field(&self, _key: &str) {}
 
     /// Returns the serializer of the next field.
     fn field_serializer(&self) -> S

@@ -70,10 +70,12 @@ impl Groups {
         ensures limit { limit_of self.new ≡ limit_of self.old }
     {
         let name = name_of(self.alloc, &finding.problem)?;
-        match self.counts.get_mut(name.as_str()) {
-            Some(count) => *count = count.saturating_add(1),
-            None if self.counts.len() < self.limit => drop(self.counts.insert(name, 1)?),
-            None => self.others = self.others.saturating_add(1),
+        if let Some(count) = self.counts.get_mut(&name) {
+            *count = count.saturating_add(1);
+        } else if self.counts.len() < self.limit {
+            drop(self.counts.insert(name, 1)?);
+        } else {
+            self.others = self.others.saturating_add(1);
         }
         Ok(())
     }
