@@ -4,6 +4,7 @@ mod derived_enums;
 mod derived_items;
 mod derived_rows;
 mod derived_turned;
+mod json;
 mod kinds;
 mod lines;
 mod rows;

@@ -8,7 +8,8 @@
 //! the [`Place`] of an error in the value that is written.
 #![tactic(auto)]
 
-mod json;
+mod fault;
+mod from_json;
 mod located;
 mod located_error;
 mod locating;
@@ -20,7 +21,7 @@ mod way;
 mod without_indexes;
 mod write;
 
-pub use json::DynamoJsonLocated;
+pub use from_json::DynamoJsonLocated;
 pub use located::{Located, LocatedChoice, LocatedElements, LocatedEntries};
 pub use located_error::LocatedError;
 pub use place::{Place, Step};

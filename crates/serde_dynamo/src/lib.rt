@@ -239,8 +239,8 @@
 //! assert_eq!(rt; error.to_string(alloc)?.as_str(), "missing field `id`");
 //! ```
 //!
-//! [`from_item_located`], [`to_item_located`] and their namesakes return an error with its [`Place`],
-//! and are otherwise the same calls:
+//! [`from_item_located`], [`to_item_located`] and [`DynamoJsonLocated`] return an error with its
+//! [`Place`], and are otherwise the same calls as their namesakes:
 //!
 //! ```rust
 //! use serde_dynamo::samples::User;
@@ -348,7 +348,7 @@ pub use dynamo_leaf::{
     DeserializerSeqNumbers, DeserializerSeqStrings, StringDeserializer, is_float_text,
 };
 pub use dynamo_place::{
-    LocatedError, Place, Step, from_attribute_value_located, from_item_located,
+    DynamoJsonLocated, LocatedError, Place, Step, from_attribute_value_located, from_item_located,
     from_item_ref_located, from_items_located, to_attribute_value_located, to_item_located,
 };
 pub use dynamo_read::{
