@@ -6,6 +6,7 @@ mod both;
 mod derived;
 mod json;
 mod leaf_readers;
+mod located;
 mod reading;
 mod without_memory;
 mod writing;
@@ -13,7 +14,7 @@ mod writing;
 use refused_rows::{Stopped, end_line, word};
 use std::io;
 
-const ROWS: [&str; 22] = [
+const ROWS: [&str; 27] = [
     "write",
     "write_no_key",
     "custom",
@@ -23,6 +24,11 @@ const ROWS: [&str; 22] = [
     "texts_read",
     "ignored_map",
     "derived",
+    "located_taken",
+    "located_lent",
+    "located_json",
+    "located_written",
+    "located_derived",
     "json",
     "json_refused",
     "leaf_readers",
@@ -49,6 +55,11 @@ fn run(rt: &HostRuntime, row: &str) -> Result<(), Stopped> {
         "texts_read" => reading::texts(rt),
         "ignored_map" => reading::ignored_map(rt),
         "derived" => derived::order(rt),
+        "located_taken" => located::taken(rt),
+        "located_lent" => located::lent(rt),
+        "located_json" => located::json(rt),
+        "located_written" => located::written(rt),
+        "located_derived" => located::derived(rt),
         "json" => json::ten_kinds(rt),
         "json_refused" => json::refused(rt),
         "leaf_readers" => leaf_readers::shown(rt),

@@ -3,8 +3,8 @@ use crate::by_hand::{self, Maps};
 use crate::users::{items, users};
 use serde_dynamo::samples::User;
 use serde_dynamo::{
-    AttributeValue, Item, Items, Result, from_item, from_items, to_attribute_value, to_item,
-    to_json_value,
+    AttributeValue, Item, Items, Result, from_item, from_item_located, from_item_ref,
+    from_item_ref_located, from_items, to_attribute_value, to_item, to_item_located, to_json_value,
 };
 use std::alloc::Global;
 use std::collections::HashMap;
@@ -22,6 +22,7 @@ pub fn run(rt: &HostRuntime, word: &str, repeats: u32) -> io::Result<()> {
 fn repeat(alloc: Global, word: &str, repeats: u32) -> Result<usize> {
     let users = users(alloc)?;
     let items = items(alloc, users.as_slice())?;
+    let lent_items = each_item(items.clone()?, alloc)?;
     let maps = Maps::of(alloc, users.as_slice())?;
     let mut seen: usize = 0;
     for _ in 0..repeats {
@@ -32,6 +33,10 @@ fn repeat(alloc: Global, word: &str, repeats: u32) -> Result<usize> {
             "clone" => copied(&items)?,
             "from_item" => read(alloc, items.clone()?)?,
             "from_items" => read_all(alloc, items.clone()?)?,
+            "from_item_located" => read_located(alloc, items.clone()?)?,
+            "from_item_ref" => lent(alloc, &lent_items)?,
+            "from_item_ref_located" => lent_located(alloc, &lent_items)?,
+            "to_item_located" => written_located(alloc, users.as_slice())?,
             "to_item_by_hand" => by_hand::written(alloc, users.as_slice())?,
             "to_attribute_value_by_hand" => by_hand::listed(alloc, users.as_slice())?,
             "clone_by_hand" => by_hand::copied(&maps)?,
@@ -71,6 +76,63 @@ fn read(alloc: Global, items: Items) -> Result<usize> {
     for map in maps {
         let user: User = from_item(alloc, Item::from(map))?;
         count = count.wrapping_add(user.id.len());
+    }
+    Ok(count)
+}
+
+// Each as an item.
+fn each_item(items: Items, alloc: Global) -> Result<Vec<Item>> {
+    let maps: Vec<HashMap<String, AttributeValue>> = items.into();
+    let mut each = Vec::with_capacity(alloc, maps.len())?;
+    for map in maps {
+        each.push(Item::from(map))?;
+    }
+    Ok(each)
+}
+
+#[inline(never)]
+fn read_located(alloc: Global, items: Items) -> Result<usize> {
+    let mut count: usize = 0;
+    let maps: Vec<HashMap<String, AttributeValue>> = items.into();
+    for map in maps {
+        match from_item_located::<User>(alloc, Item::from(map)) {
+            Ok(user) => count = count.wrapping_add(user.id.len()),
+            Err(located) => return Err(located.error),
+        }
+    }
+    Ok(count)
+}
+
+#[inline(never)]
+fn lent(alloc: Global, items: &Vec<Item>) -> Result<usize> {
+    let mut count: usize = 0;
+    for item in items {
+        let user: User = from_item_ref(alloc, item)?;
+        count = count.wrapping_add(user.id.len());
+    }
+    Ok(count)
+}
+
+#[inline(never)]
+fn lent_located(alloc: Global, items: &Vec<Item>) -> Result<usize> {
+    let mut count: usize = 0;
+    for item in items {
+        match from_item_ref_located::<User>(alloc, item) {
+            Ok(user) => count = count.wrapping_add(user.id.len()),
+            Err(located) => return Err(located.error),
+        }
+    }
+    Ok(count)
+}
+
+#[inline(never)]
+fn written_located(alloc: Global, users: &[User]) -> Result<usize> {
+    let mut count: usize = 0;
+    for user in users {
+        match to_item_located(alloc, user) {
+            Ok(item) => count = count.wrapping_add(item.inner().len()),
+            Err(located) => return Err(located.error),
+        }
     }
     Ok(count)
 }

@@ -1,0 +1,74 @@
+//! Rows of located calls, each of a value with one fault.
+
+use refused_rows::{Stopped, values};
+use serde_dynamo::{
+    AttributeValue, DynamoJsonLocated, ErrorImpl, LocatedError, StringSet,
+    from_attribute_value_located, from_item_ref_located, to_attribute_value_located,
+};
+use std::collections::HashMap;
+use std::fmt::{self, Debug, Formatter, Write};
+
+// What a located call answers: a value, or the place and the kind of the fault. Printing takes no memory.
+#[derive(Drop)]
+struct At<'a, T>(&'a Result<T, LocatedError<serde_dynamo::Error>>);
+
+impl<T: Debug> fmt::Display for At<'_, T> {
+    fn fmt<W: Write>(&self, f: &mut Formatter<W>) -> fmt::Result {
+        let error = match self.0 {
+            Ok(value) => return write!(f, "{value:?}"),
+            Err(error) => error,
+        };
+        if !error.place.steps().is_empty() {
+            write!(f, "{}: ", error.place)?;
+        }
+        match error.error.kind() {
+            ErrorImpl::OutOfMemory => f.write_str("out of memory"),
+            kind => write!(f, "{kind:?}"),
+        }
+    }
+}
+
+type Lists = HashMap<String, Vec<u8>>;
+
+const TEXT: &str = r#"{"a":{"L":[{"N":"1"},{"S":"x"}]}}"#;
+
+/// A string in a list of numbers, by the reader of what is taken.
+pub fn taken(rt: &HostRuntime) -> Result<(), Stopped> {
+    let value = AttributeValue::M(values::map(rt.alloc(), TEXT)?);
+    let read = from_attribute_value_located::<Lists>(rt.alloc(), value);
+    println!(rt; "read: {}", At(&read))?;
+    Ok(())
+}
+
+/// The same, by the reader of what is lent.
+pub fn lent(rt: &HostRuntime) -> Result<(), Stopped> {
+    let item = values::item(rt.alloc(), TEXT)?;
+    let read = from_item_ref_located::<Lists>(rt.alloc(), &item);
+    println!(rt; "read: {}", At(&read))?;
+    Ok(())
+}
+
+/// JSON with a key that is no data type descriptor.
+pub fn json(rt: &HostRuntime) -> Result<(), Stopped> {
+    let json = values::json(rt.alloc(), r#"{"M":{"a":{"L":[{"N":"1"},{"X":"x"}]}}}"#)?;
+    let read = AttributeValue::from_json_located(rt.alloc(), &json);
+    println!(rt; "from_json: {}", At(&read.map(|_| "a value")))?;
+    Ok(())
+}
+
+/// A number in a set of strings, written.
+pub fn written(rt: &HostRuntime) -> Result<(), Stopped> {
+    let numbers = vec![in rt.alloc(); 1u8]?;
+    let value = (true, StringSet(&numbers));
+    let written = to_attribute_value_located(rt.alloc(), &value);
+    println!(rt; "write: {}", At(&written.map(|_| "a value")))?;
+    Ok(())
+}
+
+/// A string in a list of numbers, by `dynamo_serde`.
+pub fn derived(rt: &HostRuntime) -> Result<(), Stopped> {
+    let item = values::item(rt.alloc(), TEXT)?;
+    let read = dynamo_serde::read_item_located::<Lists>(rt.alloc(), &item);
+    println!(rt; "read: {}", At(&read))?;
+    Ok(())
+}
