@@ -2,11 +2,11 @@
 ghost use Rattle.std.specs.Prelude.{◌≡◌, [], length, IfErr, IfOk};
 ghost use Rattle.dynamo_place.specs.Found.{steps_of};
 ghost use Rattle.dynamo_value.specs.Item.{items_view};
-ghost use Rattle.dynamo_serde.specs.Located.{IsInItem, IsInItems};
+ghost use Rattle.dynamo_serde.specs.Located.{IsInItems};
 
-use crate::{Tape, fault};
+use crate::Tape;
+use crate::fault::no_memory;
 use crate::located_tape::LocatedTape;
-use crate::trail::{self, Focus};
 use dynamo_place::{LocatedError, Place};
 use dynamo_value::{AttributeValue, Error, Item, Items};
 use serde::{DeserializeOwned, Deserializer};
@@ -16,11 +16,15 @@ use std::collections::HashMap;
 /// Reads a value from an attribute value as [`from_attribute_value`](crate::from_attribute_value)
 /// does, and says where an error was found.
 ///
-/// The place of a missing or unknown field, of an unknown variant and of a wrong length is that of
-/// the struct, the enum or the list. The place of a key that can't be read is its entry. The content
-/// of a variant is at the variant's name. The place is that of the whole enum if an untagged enum
-/// has no variant that fits, or if the tag beside a content can't be read, and that of the whole
-/// value if it has more than 127 levels of lists and maps.
+/// - A missing, unknown or doubled field is the struct's, an unknown variant is the enum's, and a
+///   wrong length is the list's. What a variant holds is at the variant's name.
+/// - A key that can't be read, as one of a map with integer keys, is at its entry.
+/// - The fields of a flattened struct and of a variant with a tag inside are those of the map that
+///   they share with others, and so is a tag that can't be read.
+/// - The place is that of the whole enum if an untagged enum has no variant that fits, and if a tag
+///   beside a content can't be read.
+/// - The error of a type's own conversion is at the value that was converted.
+/// - More than 127 levels of lists and maps are at the whole value.
 ///
 /// # Errors
 ///
@@ -42,7 +46,7 @@ pub fn from_attribute_value_located<T: DeserializeOwned>(
     alloc: Global,
     value: AttributeValue,
 ) -> Result<T, LocatedError<Error>> {
-    read_laid(alloc, None, Tape::new(alloc, &value))
+    read_laid(alloc, Tape::new(alloc, &value))
 }
 
 /// Reads a value from a borrowed item as [`read_item`](crate::read_item) does, and says where an
@@ -73,7 +77,7 @@ pub fn read_item_located<T: DeserializeOwned>(
     alloc: Global,
     item: &Item,
 ) -> Result<T, LocatedError<Error>> {
-    read_laid(alloc, None, Tape::of_map(alloc, item.inner()))
+    read_laid(alloc, Tape::of_map(alloc, item.inner()))
 }
 
 /// Reads a value from an item as [`from_item`](crate::from_item) does, and says where an error was
@@ -144,49 +148,47 @@ pub fn from_items_located<T: DeserializeOwned>(
     items: Items,
 ) -> Result<Vec<T>, LocatedError<Error>>
     ensures each { IfOk result (λ values. length values.items ≡ length (items_view items)) }
-    ensures place { IfErr result (λ e. IsInItems (length (items_view items)) (steps_of e.place)) }
+    ensures place { IfErr result (λ e. IsInItems (length (items_view items)) e.place) }
 {
     let maps: Vec<HashMap<String, AttributeValue>> = items.into();
-    let mut values = Vec::with_capacity(alloc, maps.len()).map_err(|_| no_memory())?;
+    let mut values = Vec::with_capacity(alloc, maps.len()).map_err(|_| at_whole(no_memory()))?;
     for (index, map) in maps.iter().enumerate() {
-        let value = read_laid(alloc, Some(index), Tape::of_map(alloc, map))?;
-        values.push(value).map_err(|_| no_memory())?;
+        match read_laid(alloc, Tape::of_map(alloc, map)) {
+            Ok(value) => values.push(value).map_err(|_| at_whole(no_memory()))?,
+            Err(LocatedError { place, error }) => {
+                let place = place.in_element(alloc, index);
+                return Err(LocatedError { place, error });
+            }
+        }
     }
     Ok(values)
 }
 
-// Reads a value from a tape, if it could be laid. It is of the item with this index, if there are
-// several.
+// Reads a value from a tape, if it could be laid.
 fn read_laid<T: DeserializeOwned>(
     alloc: Global,
-    item: Option<usize>,
     laid: Result<Tape<'_>, Error>,
-) -> Result<T, LocatedError<Error>>
-    ensures { IfErr result (λ e. IsInItem item (steps_of e.place)) }
-{
+) -> Result<T, LocatedError<Error>> {
     let tape = match laid {
         Ok(tape) => tape,
-        Err(error) => {
-            let place = trail::place(alloc, item, &[], Focus::Token(0));
-            return Err(LocatedError { place, error });
-        }
+        Err(error) => return Err(at_whole(error)),
     };
     let mut tape = LocatedTape::new(tape);
     match T::deserialize_owned(alloc, &mut Deserializer::new(&[], &mut tape)) {
         Ok(value) => Ok(value),
         Err(error) => {
-            let place = tape.place(alloc, item);
+            let place = tape.place(alloc);
             Err(LocatedError { place, error })
         }
     }
 }
 
-// Memory ran out for the list of what is read.
-fn no_memory() -> LocatedError<Error>
+// An error of the whole.
+fn at_whole(error: Error) -> LocatedError<Error>
     ensures { steps_of result.place ≡ [] }
 {
     LocatedError {
         place: Place::new(),
-        error: fault::no_memory(),
+        error,
     }
 }

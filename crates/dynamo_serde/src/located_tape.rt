@@ -1,8 +1,6 @@
 // A tape that says what its last step was about, so that the place of an error is known.
 ghost use Rattle.std.specs.Prelude.{◌≡◌};
-ghost use Rattle.dynamo_place.specs.Found.{steps_of};
 ghost use Rattle.dynamo_serde.specs.Laid.{Reads, Picks, Stays};
-ghost use Rattle.dynamo_serde.specs.Located.{IsInItem};
 ghost use Rattle.dynamo_serde.specs.Tape.{place};
 
 use crate::tape::{Mark, Tape};
@@ -28,11 +26,9 @@ impl<'v> LocatedTape<'v> {
         }
     }
 
-    // The place of what is in focus, in the item with this index if there are several.
-    pub(crate) fn place(&self, alloc: Global, item: Option<usize>) -> Place
-        ensures { IsInItem item (steps_of result) }
-    {
-        trail::place(alloc, item, self.tape.tokens(), self.focus)
+    // The place of what is in focus.
+    pub(crate) fn place(&self, alloc: Global) -> Place {
+        trail::place(alloc, self.tape.tokens(), self.focus)
     }
 
     // The next step is about the value or the key that comes.

@@ -1,8 +1,4 @@
 // The way from a whole attribute value to a token of its tape.
-ghost use Rattle.std.specs.Prelude.{◌≡◌, []};
-ghost use Rattle.dynamo_place.specs.Found.{steps_of};
-ghost use Rattle.dynamo_serde.specs.Located.{IsInItem, Pushes};
-
 use crate::tape::Token;
 use dynamo_place::{Place, Step};
 use std::alloc::{AllocError, Global};
@@ -23,35 +19,13 @@ enum Open<'v> {
     Entries(&'v str),
 }
 
-// The place of what is in focus, in the item with this index if there are several. If memory runs
-// out, the last steps are left out.
-pub(crate) fn place(
-    alloc: Global,
-    item: Option<usize>,
-    tokens: &[Token<'_>],
-    focus: Focus,
-) -> Place
-    ensures { IsInItem item (steps_of result) }
-{
+// The place of what is in focus. If memory runs out, the last steps are left out.
+pub(crate) fn place(alloc: Global, tokens: &[Token<'_>], focus: Focus) -> Place {
     let mut steps = Vec::new(alloc);
-    let _ = push_steps(alloc, item, tokens, focus, &mut steps);
-    Place::of_steps(steps)
-}
-
-fn push_steps(
-    alloc: Global,
-    item: Option<usize>,
-    tokens: &[Token<'_>],
-    focus: Focus,
-    steps: &mut Vec<Step>,
-) -> Result<(), AllocError>
-    ensures { steps.old.items ≡ [] → IsInItem item steps.new.items }
-{
-    if let Some(index) = item {
-        steps.push(Step::Element(index))?;
+    if let Ok(open) = open_at(alloc, tokens, focus) {
+        let _ = push_steps(alloc, &open, &mut steps);
     }
-    let open = open_at(alloc, tokens, focus)?;
-    push_open(alloc, &open, steps)
+    Place::of_steps(steps)
 }
 
 // The lists, sets and maps that what is in focus is in, the outermost first.
@@ -105,13 +79,11 @@ fn end_value(open: &mut Vec<Open<'_>>) {
 }
 
 // Pushes the step into each of them.
-fn push_open(
+fn push_steps(
     alloc: Global,
     open: &[Open<'_>],
     steps: &mut Vec<Step>,
-) -> Result<(), AllocError>
-    ensures { Pushes steps.old.items steps.new.items }
-{
+) -> Result<(), AllocError> {
     for one in open {
         let step = match one {
             Open::Elements(index) => Step::Element(*index),
