@@ -143,6 +143,7 @@ pub fn from_item_located<T: DeserializeOwned>(
 /// };
 /// assert!(rt; error.place.to_string(alloc)?.as_str() == "[1].x");
 /// ```
+#[tactic(auto, using(crate::proofs::Places::in_items))]
 pub fn from_items_located<T: DeserializeOwned>(
     alloc: Global,
     items: Items,
@@ -151,10 +152,16 @@ pub fn from_items_located<T: DeserializeOwned>(
     ensures place { IfErr result (λ e. IsInItems (length (items_view items)) e.place) }
 {
     let maps: Vec<HashMap<String, AttributeValue>> = items.into();
-    let mut values = Vec::with_capacity(alloc, maps.len()).map_err(|_| at_whole(no_memory()))?;
+    let Ok(mut values) = Vec::with_capacity(alloc, maps.len()) else {
+        return Err(at_whole(no_memory()));
+    };
     for (index, map) in maps.iter().enumerate() {
         match read_laid(alloc, Tape::of_map(alloc, map)) {
-            Ok(value) => values.push(value).map_err(|_| at_whole(no_memory()))?,
+            Ok(value) => {
+                if values.push(value).is_err() {
+                    return Err(at_whole(no_memory()));
+                }
+            }
             Err(LocatedError { place, error }) => {
                 let place = place.in_element(alloc, index);
                 return Err(LocatedError { place, error });

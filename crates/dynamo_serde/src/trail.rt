@@ -79,11 +79,7 @@ fn end_value(open: &mut Vec<Open<'_>>) {
 }
 
 // Pushes the step into each of them.
-fn push_steps(
-    alloc: Global,
-    open: &[Open<'_>],
-    steps: &mut Vec<Step>,
-) -> Result<(), AllocError> {
+fn push_steps(alloc: Global, open: &[Open<'_>], steps: &mut Vec<Step>) -> Result<(), AllocError> {
     for one in open {
         let step = match one {
             Open::Elements(index) => Step::Element(*index),
