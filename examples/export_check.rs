@@ -2,7 +2,7 @@
 //! In crates.txt: `export_check: dynamo_serde fixtures serde anyhow`
 #![tactic(auto)]
 
-use dynamo_serde::from_item;
+use dynamo_serde::from_item_located;
 use fixtures::Lines;
 use serde::{Deserialize, Serialize};
 
@@ -27,7 +27,7 @@ fn main(rt: HostRuntime) -> anyhow::Result<()> {
     let (mut read, mut failed) = (0u32, 0u32);
     for _ in 0..u64::MAX {
         match lines.next_line() {
-            Some(Ok(line)) => match from_item::<User>(alloc, line.item) {
+            Some(Ok(line)) => match from_item_located::<User>(alloc, line.item) {
                 Ok(_) => read = read.saturating_add(1),
                 Err(error) => {
                     failed = failed.saturating_add(1);

@@ -89,7 +89,7 @@ fn cases(alloc: Global) -> Result<Vec<Case>, AllocError> {
     cases.push(Case {
         name: "a fault at the end",
         text: format!(in alloc; "{{\"L\":[{{\"S\":\"{long}\"}},{{\"X\":1}}]}}")?,
-        wanted: [UNKNOWN, UNKNOWN, "-"],
+        wanted: [UNKNOWN, "v[1]: The key 'X' is not a known DynamoDB prefix", "-"],
     })?;
     cases.push(Case {
         name: "no end",
