@@ -210,7 +210,9 @@ impl<'a> Serializer for LocatingSerializer<'a> {
         variant: &'static str,
         len: usize,
     ) -> Result<Self::SerializeTupleVariant> {
-        let builder = self.plain.serialize_tuple_variant(name, index, variant, len)?;
+        let builder = self
+            .plain
+            .serialize_tuple_variant(name, index, variant, len)?;
         Ok(LocatingParts::under(builder, self, variant))
     }
 
@@ -230,7 +232,9 @@ impl<'a> Serializer for LocatingSerializer<'a> {
         variant: &'static str,
         len: usize,
     ) -> Result<Self::SerializeStructVariant> {
-        let builder = self.plain.serialize_struct_variant(name, index, variant, len)?;
+        let builder = self
+            .plain
+            .serialize_struct_variant(name, index, variant, len)?;
         Ok(LocatingParts::under(builder, self, variant))
     }
 }

@@ -60,9 +60,9 @@ impl<'a, B> LocatingParts<'a, B> {
     }
 }
 
-impl<'a, B: ListBuilder<Serializer, Ok = AttributeValue, Error = Error>>
-    ListBuilder<LocatingSerializer<'a>> for LocatingParts<'a, B>
-{
+impl<'a, B: ListBuilder<Serializer, Ok = AttributeValue, Error = Error>> ListBuilder<
+    LocatingSerializer<'a>,
+> for LocatingParts<'a, B> {
     type Ok = AttributeValue;
 
     type Error = Error;
@@ -89,29 +89,25 @@ impl<'a, B: ListBuilder<Serializer, Ok = AttributeValue, Error = Error>>
     }
 }
 
-impl<'a, B: ListBuilder<Serializer, Ok = AttributeValue, Error = Error>>
-    SerializeSeq<LocatingSerializer<'a>> for LocatingParts<'a, B>
-{
-}
+impl<'a, B: ListBuilder<Serializer, Ok = AttributeValue, Error = Error>> SerializeSeq<
+    LocatingSerializer<'a>,
+> for LocatingParts<'a, B> {}
 
-impl<'a, B: ListBuilder<Serializer, Ok = AttributeValue, Error = Error>>
-    SerializeTuple<LocatingSerializer<'a>> for LocatingParts<'a, B>
-{
-}
+impl<'a, B: ListBuilder<Serializer, Ok = AttributeValue, Error = Error>> SerializeTuple<
+    LocatingSerializer<'a>,
+> for LocatingParts<'a, B> {}
 
-impl<'a, B: ListBuilder<Serializer, Ok = AttributeValue, Error = Error>>
-    SerializeTupleStruct<LocatingSerializer<'a>> for LocatingParts<'a, B>
-{
-}
+impl<'a, B: ListBuilder<Serializer, Ok = AttributeValue, Error = Error>> SerializeTupleStruct<
+    LocatingSerializer<'a>,
+> for LocatingParts<'a, B> {}
 
-impl<'a, B: ListBuilder<Serializer, Ok = AttributeValue, Error = Error>>
-    SerializeTupleVariant<LocatingSerializer<'a>> for LocatingParts<'a, B>
-{
-}
+impl<'a, B: ListBuilder<Serializer, Ok = AttributeValue, Error = Error>> SerializeTupleVariant<
+    LocatingSerializer<'a>,
+> for LocatingParts<'a, B> {}
 
-impl<'a, B: SerializeMap<Serializer, Ok = AttributeValue, Error = Error>>
-    SerializeMap<LocatingSerializer<'a>> for LocatingParts<'a, B>
-{
+impl<'a, B: SerializeMap<Serializer, Ok = AttributeValue, Error = Error>> SerializeMap<
+    LocatingSerializer<'a>,
+> for LocatingParts<'a, B> {
     type Ok = AttributeValue;
 
     type Error = Error;
@@ -162,9 +158,9 @@ impl<'a, B: SerializeMap<Serializer, Ok = AttributeValue, Error = Error>>
     }
 }
 
-impl<'a, B: StructBuilder<Serializer, Ok = AttributeValue, Error = Error>>
-    StructBuilder<LocatingSerializer<'a>> for LocatingParts<'a, B>
-{
+impl<'a, B: StructBuilder<Serializer, Ok = AttributeValue, Error = Error>> StructBuilder<
+    LocatingSerializer<'a>,
+> for LocatingParts<'a, B> {
     type Ok = AttributeValue;
 
     type Error = Error;
@@ -192,12 +188,10 @@ impl<'a, B: StructBuilder<Serializer, Ok = AttributeValue, Error = Error>>
     }
 }
 
-impl<'a, B: StructBuilder<Serializer, Ok = AttributeValue, Error = Error>>
-    SerializeStruct<LocatingSerializer<'a>> for LocatingParts<'a, B>
-{
-}
+impl<'a, B: StructBuilder<Serializer, Ok = AttributeValue, Error = Error>> SerializeStruct<
+    LocatingSerializer<'a>,
+> for LocatingParts<'a, B> {}
 
-impl<'a, B: StructBuilder<Serializer, Ok = AttributeValue, Error = Error>>
-    SerializeStructVariant<LocatingSerializer<'a>> for LocatingParts<'a, B>
-{
-}
+impl<'a, B: StructBuilder<Serializer, Ok = AttributeValue, Error = Error>> SerializeStructVariant<
+    LocatingSerializer<'a>,
+> for LocatingParts<'a, B> {}

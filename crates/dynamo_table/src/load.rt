@@ -339,7 +339,9 @@ impl<'r, 'a, 'i, S: Alter + Drop> Loading<'r, 'a, 'i, S> {
     fn tell_broken(&mut self, line: u64, fault: Fault) {
         let fault = match fault {
             Fault::NotJson(position) if position.line > 1 => {
-                let before = usize::try_from(line).unwrap_or(usize::MAX).saturating_sub(1);
+                let before = usize::try_from(line)
+                    .unwrap_or(usize::MAX)
+                    .saturating_sub(1);
                 let line = position.line.saturating_add(before);
                 Fault::NotJson(Position { line, ..position })
             }

@@ -18,7 +18,7 @@ ChecksLine reads line (Ok value) = reads (attribute (av.M (item_view line.item))
 ChecksLine reads line (Err finding) =
     (located : LocatedError Error) × (finding ≡ record { number = line.number; problem = Problem.Value located })
     × ((fault_of located.error ≡ out_of_memory)
-        ⊎ reads (attribute (av.M (item_view line.item))) (Err (fault_of located.error)))
+    ⊎ reads (attribute (av.M (item_view line.item))) (Err (fault_of located.error)))
 
 -- what is told of a line that was given, by the fault of a broken one
 abbrev pub Checks : {T : Type 0} → (Source → Result T Fault → Type 0) → Option (Result Line LineFault) → Option (Result T Finding) → Type 0

@@ -25,10 +25,10 @@ CountsUnder name (Some count) old new =
     × (others_of new ≡ others_of old)
 CountsUnder name None old new =
     ((btree_map_len (counts_of old) < limit_of old)
-        × Updates string_cmp (counts_of old) (counts_of new) name (Some 1)
-        × (others_of new ≡ others_of old))
+    × Updates string_cmp (counts_of old) (counts_of new) name (Some 1)
+    × (others_of new ≡ others_of old))
     ⊎ ((limit_of old ≤ btree_map_len (counts_of old)) × IsUnchanged (counts_of old) (counts_of new)
-        × (others_of new ≡ u64_saturate (others_of old + 1)))
+    × (others_of new ≡ u64_saturate (others_of old + 1)))
 
 abbrev pub Counts : Groups → Groups → Type 0
 Counts old new = (name : String) × CountsUnder name (get string_cmp (counts_of old) name) old new

@@ -241,7 +241,7 @@ impl<T: AsItem + Keyed> TypedTable<T> {
         ensures read { ReadsAt T.reads_item (get key_cmp (items_of (table_of self.now)) key.now) (unlocated result) }
         ensures clear { T.reads_back → (value : T) → Holds T.written (table_of self.now) key.now value
             → MatchResult result (λ found. MatchOption found ⊥ (T.alike value))
-                (λ e. fault_of e.error ≡ out_of_memory) }
+            (λ e. fault_of e.error ≡ out_of_memory) }
     {
         match self.get(key) {
             Ok(found) => Ok(found),
