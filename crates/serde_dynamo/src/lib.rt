@@ -239,8 +239,8 @@
 //! assert_eq!(rt; error.to_string(alloc)?.as_str(), "missing field `id`");
 //! ```
 //!
-//! [`from_item_located`], [`to_item_located`] and [`DynamoJsonLocated`] return an error with its
-//! [`Place`], and are otherwise the same calls as their namesakes:
+//! [`from_item_located`], [`to_item_located`] and their namesakes return an error with its [`Place`],
+//! and are otherwise the same calls:
 //!
 //! ```rust
 //! use serde_dynamo::samples::User;
@@ -252,6 +252,22 @@
 //!     anyhow::bail!("an age isn't a string");
 //! };
 //! assert_eq!(rt; error.to_string(alloc)?.as_str(), "age: Expected num");
+//! ```
+//!
+//! [`DynamoJsonLocated`] does the same for DynamoDB JSON that isn't that of an item:
+//!
+//! ```rust
+//! use serde_dynamo::{DynamoJsonLocated, Item};
+//!
+//! let text = r#"{"id": {"S": "a"}, "tags": {"L": [{"S": "new"}, {"X": "hot"}]}}"#;
+//! let Err(error) = Item::from_json_text_located(alloc, text) else {
+//!     anyhow::bail!("X is no data type descriptor");
+//! };
+//! assert_eq!(
+//!     rt;
+//!     error.to_string(alloc)?.as_str(),
+//!     "tags[1]: The key 'X' is not a known DynamoDB prefix"
+//! );
 //! ```
 //!
 //! # Out of memory
