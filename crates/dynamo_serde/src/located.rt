@@ -181,7 +181,8 @@ fn read_laid<T: DeserializeOwned>(
         Err(error) => return Err(at_whole(error)),
     };
     let mut tape = LocatedTape::new(tape);
-    match T::deserialize_owned(alloc, &mut Deserializer::new(&[], &mut tape)) {
+    let read = T::deserialize_owned(alloc, &mut Deserializer::new(&[], &mut tape));
+    match read {
         Ok(value) => Ok(value),
         Err(error) => {
             let place = tape.place(alloc);
