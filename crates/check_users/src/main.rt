@@ -25,6 +25,7 @@ struct Words {
 }
 
 // What is known of the lines so far.
+#[derive(Drop)]
 struct Report {
     summary: Summary,
     groups: Groups,
