@@ -55,7 +55,7 @@ fn a_finding_says_the_line_and_the_place(rt: HostRuntime) -> Result<(), Fail> {
 fn a_text_that_ends_too_early_says_its_length(rt: HostRuntime) -> Result<(), Fail> {
     let alloc = rt.alloc();
     let whole = line(alloc, "a", "a")?;
-    for end in [1, 8, 20, whole.len() - 1] {
+    for end in [1, 8, 11, 20, 21, whole.len() - 1] {
         let cut = whole.as_str().get(..end).unwrap_or("");
         let wanted = format!(in alloc; "line 3: it is not JSON (column {end})")?;
         assert_eq!(rt; told(alloc, cut)?.as_str(), wanted.as_str());
@@ -154,7 +154,7 @@ fn groups_are_bounded(rt: HostRuntime) -> Result<(), Fail> {
         push_lines(&mut export, 1, &[line.as_str()])?;
     }
     let told = groups(alloc, export.as_str(), 2)?;
-    let wanted = "1 line at stock.l0: Expected num\n1 line at stock.l1: Expected num\n1998 lines at other places\n";
+    let wanted = "1 line at stock.l0: Expected num\n1 line at stock.l1: Expected num\n1998 lines of other groups\n";
     assert_eq!(rt; told.to_string(alloc)?.as_str(), wanted);
     Ok(())
 }

@@ -11,7 +11,7 @@ use std::process::Abort;
 use std::test::Fail;
 use table_query::Query;
 use typed_store::{TypedStore, TypedStoreError};
-use typed_table::{AsItem, Keyed, place_in};
+use typed_table::{AsItem, Keyed, place_of_error};
 
 // The table of a type in a database that has these items.
 fn store_of<T: AsItem + Keyed>(alloc: Global, items: &[&str]) -> anyhow::Result<TypedStore<T, MemStore>> {
@@ -73,7 +73,11 @@ fn book(rt: &impl Abort, alloc: Global) -> anyhow::Result<()> {
     let all = told_of(&table.query_located(&Query::of(&key.partition)))?;
     assert!(rt; all.as_str().starts_with("[1].state.Paid.cents: Failed to parse '-1'"), "{all}");
     let item = Item::from_json_text(alloc, BOOKINGS[1])?;
-    assert_eq!(rt; place_in::<Booking>(alloc, &item).to_string(alloc)?.as_str(), "state.Paid.cents");
+    let Err(error) = Booking::read_item(alloc, &item) else {
+        anyhow::bail!("-1 is no u64");
+    };
+    let place = place_of_error::<Booking>(alloc, &item, &error);
+    assert!(rt; matches!(place, Some(place) if place.steps().len() == 3));
     Ok(())
 }
 

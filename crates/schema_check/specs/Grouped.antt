@@ -1,5 +1,5 @@
 -- How many lines each group has, and how one more is counted.
-use Rattle.std.specs.Prelude.{◌≡◌, ◌+◌, ◌<◌, ◌≤◌, ◌×◌, ◌⊎◌, ℕ, Option, Some, None, MatchOption}
+use Rattle.std.specs.Prelude.{◌≡◌, ◌+◌, ◌<◌, ◌≤◌, ◌⊎◌, ℕ, Option, Some, None, MatchOption}
 use Rattle.std.specs.BTreeMap.{get, Updates, btree_map_len, IsUnchanged}
 use Rattle.std.specs.Io.Iter.{u64_saturate}
 use Rattle.std.specs.String.{string_cmp}
@@ -8,7 +8,7 @@ use Rattle.std.specs.declared.collections.BTreeMap.{BTreeMap}
 use Rattle.std.specs.declared.string.String.{String}
 use Rattle.schema_check.specs.declared.groups.Groups.{Groups}
 
-abbrev pub counts_of : Groups → BTreeMap String ℕ
+abbrev pub counts_of : Groups → BTreeMap (String Global) ℕ
 counts_of groups = groups.counts
 
 abbrev pub limit_of : Groups → ℕ
@@ -19,7 +19,7 @@ abbrev pub others_of : Groups → ℕ
 others_of groups = groups.others
 
 -- One line more: of the group of this name; else of a new group, if there is room for one; else of none.
-abbrev pub CountsUnder : String → Option ℕ → Groups → Groups → Type 0
+abbrev pub CountsUnder : String Global → Option ℕ → Groups → Groups → Type 0
 CountsUnder name (Some count) old new =
     Updates string_cmp (counts_of old) (counts_of new) name (Some (u64_saturate (count + 1)))
     × (others_of new ≡ others_of old)
@@ -31,4 +31,4 @@ CountsUnder name None old new =
     × (others_of new ≡ u64_saturate (others_of old + 1)))
 
 abbrev pub Counts : Groups → Groups → Type 0
-Counts old new = (name : String) × CountsUnder name (get string_cmp (counts_of old) name) old new
+Counts old new = (name : String Global) × CountsUnder name (get string_cmp (counts_of old) name) old new

@@ -10,12 +10,12 @@ use std::collections::BTreeMap;
 use std::fmt;
 use std::string::ToString;
 
-/// How many lines have the same kind of error at the same place, where the indexes of elements don't
-/// matter.
+/// How many lines have the same error at the same place, where the indexes of elements don't matter.
 ///
-/// It is printed as a line for each group, in the order of the places: `1204 lines at orders[].price: Expected
-/// num`. It has up to a given number of groups, so that a file of any length takes bounded memory. Lines
-/// of further groups are counted together.
+/// It is printed as a line for each group, in the order of the places:
+/// `1204 lines at orders[].price: Expected num`. It has up to a given number of groups, so that a file
+/// of any length takes bounded memory if its lines are bounded. Lines of further groups are counted
+/// together.
 ///
 /// # Examples
 ///
@@ -57,8 +57,9 @@ impl Groups {
         }
     }
 
-    /// Counts a line. The group of a line has the finding's place, without the indexes of elements, and the
-    /// kind of its error: two strings that can't be parsed as an integer are of one kind.
+    /// Counts a line. The group of a line is the finding's place, without the indexes of elements, and
+    /// the text of its error. A string that can't be parsed as a number is left out of the text; other
+    /// texts may hold a name from the file, as of an unknown variant.
     ///
     /// # Errors
     ///
@@ -114,10 +115,10 @@ fn name_of_located(alloc: Global, located: &LocatedError<Error>) -> Result<Strin
 impl fmt::Display for Groups {
     fn fmt<W: fmt::Write>(&self, f: &mut fmt::Formatter<W>) -> fmt::Result {
         for (name, count) in self.counts.iter() {
-            writeln!(f, "{}{name}", Lines(*count))?;
+            writeln!(f, "{}{name}", LineCount(*count))?;
         }
         if self.others > 0 {
-            writeln!(f, "{} at other places", Lines(self.others))?;
+            writeln!(f, "{} of other groups", LineCount(self.others))?;
         }
         Ok(())
     }
@@ -125,9 +126,9 @@ impl fmt::Display for Groups {
 
 // A number of lines.
 #[derive(Clone, Copy, Drop)]
-struct Lines(u64);
+struct LineCount(u64);
 
-impl fmt::Display for Lines {
+impl fmt::Display for LineCount {
     fn fmt<W: fmt::Write>(&self, f: &mut fmt::Formatter<W>) -> fmt::Result {
         match self.0 {
             1 => f.write_str("1 line"),

@@ -29,6 +29,7 @@ mod summary;
 use dynamo_de::Deserialize;
 use dynamo_place::{LocatedError, Place, from_item_located, from_item_ref_located};
 use dynamo_read::from_item;
+use dynamo_value::Error;
 pub use finding::{Finding, Problem};
 use fixtures::{Line, Lines, item_of_text};
 pub use groups::Groups;
@@ -68,21 +69,30 @@ fn value_in<T: Deserialize>(alloc: Global, line: Line, text: &[u8]) -> Result<T,
     match from_item(alloc, item) {
         Ok(value) => Ok(value),
         Err(error) => {
-            let place = place_in::<T>(alloc, text);
+            let place = place_in::<T>(alloc, text, &error);
             let problem = Problem::Value(LocatedError { place, error });
             Err(Finding { number, problem })
         }
     }
 }
 
-// The place where the item of a text can't be read as the type. It is the whole if memory runs out.
-fn place_in<T: Deserialize>(alloc: Global, text: &[u8]) -> Place {
+// The place where reading the item of a text as the type returns this error. It is the whole if another error
+// is returned, as if memory runs out.
+fn place_in<T: Deserialize>(alloc: Global, text: &[u8], error: &Error) -> Place {
     match item_of_text(alloc, text) {
         Ok(item) => match from_item_located::<T>(alloc, item) {
-            Ok(_) => Place::new(),
-            Err(located) => located.place,
+            Ok(_value) => Place::new(),
+            Err(located) => place_if_same(located, error),
         },
         Err(_) => Place::new(),
+    }
+}
+
+fn place_if_same(located: LocatedError<Error>, error: &Error) -> Place {
+    if located.error.kind() == error.kind() {
+        located.place
+    } else {
+        Place::new()
     }
 }
 

@@ -1,16 +1,16 @@
 //! The places of errors of reading.
 
 use dynamo_place::Place;
-use dynamo_value::Item;
+use dynamo_value::{Error, Item};
 use std::alloc::Global;
-use typed_table::AsItem;
+use typed_table::{AsItem, place_of_error};
 
-/// Returns the place in a list of items where the first one that can't be read is wrong. It begins with the
+/// Returns the place in a list of items where reading them returns this error. It begins with the
 /// index of the item.
-pub(crate) fn place_among<T: AsItem>(alloc: Global, found: &[Item]) -> Place {
+pub(crate) fn place_among<T: AsItem>(alloc: Global, found: &[Item], error: &Error) -> Place {
     for (index, item) in found.iter().enumerate() {
-        if let Err(located) = T::read_item_located(alloc, item) {
-            return located.place.in_element(alloc, index);
+        if let Some(place) = place_of_error::<T>(alloc, item, error) {
+            return place.in_element(alloc, index);
         }
     }
     Place::new()

@@ -9,14 +9,14 @@ use crate::TypedStoreError;
 use crate::change::{Failed, changed};
 use crate::located::place_among;
 use dynamo_place::{LocatedError, Place};
-use dynamo_value::Item;
+use dynamo_value::{Error, Item};
 use sqlite::{Alter, Connection};
 use std::alloc::Global;
 use std::marker::PhantomData;
 use table_key::Key;
 use table_query::{Condition, Query};
 use table_store::TableStore;
-use typed_table::{AsItem, Keyed, place_in};
+use typed_table::{AsItem, Keyed, place_of_error};
 
 /// A table in a SQLite database of values of one type, each an item under its key.
 ///
@@ -215,9 +215,9 @@ impl<T: AsItem + Keyed, S: Alter + Drop> TypedStore<T, S> {
         match self.get(key) {
             Ok(found) => Ok(found),
             Err(error) => {
-                let place = match (&error, self.store.get(key)) {
-                    (TypedStoreError::Value(_), Ok(Some(item))) => place_in::<T>(self.alloc, &item),
-                    _ => Place::new(),
+                let place = match &error {
+                    TypedStoreError::Value(fault) => self.place_at(key, fault),
+                    TypedStoreError::Store(_) => Place::new(),
                 };
                 Err(LocatedError { place, error })
             }
@@ -315,11 +315,9 @@ impl<T: AsItem + Keyed, S: Alter + Drop> TypedStore<T, S> {
         match self.query(query) {
             Ok(values) => Ok(values),
             Err(error) => {
-                let place = match (&error, self.store.query(query)) {
-                    (TypedStoreError::Value(_), Ok(found)) => {
-                        place_among::<T>(self.alloc, found.as_slice())
-                    }
-                    _ => Place::new(),
+                let place = match &error {
+                    TypedStoreError::Value(fault) => self.place_in_query(query, fault),
+                    TypedStoreError::Store(_) => Place::new(),
                 };
                 Err(LocatedError { place, error })
             }
@@ -364,11 +362,9 @@ impl<T: AsItem + Keyed, S: Alter + Drop> TypedStore<T, S> {
         match self.scan(limit, start_after) {
             Ok(values) => Ok(values),
             Err(error) => {
-                let place = match (&error, self.store.scan(limit, start_after)) {
-                    (TypedStoreError::Value(_), Ok(found)) => {
-                        place_among::<T>(self.alloc, found.as_slice())
-                    }
-                    _ => Place::new(),
+                let place = match &error {
+                    TypedStoreError::Value(fault) => self.place_in_page(limit, start_after, fault),
+                    TypedStoreError::Store(_) => Place::new(),
                 };
                 Err(LocatedError { place, error })
             }
@@ -385,6 +381,38 @@ impl<T: AsItem + Keyed, S: Alter + Drop> TypedStore<T, S> {
         ensures schema { schema_of self.new ≡ schema_of self.old }
     {
         self.scan(usize::MAX, None)
+    }
+
+    // The place in the item under a key where reading it returns this error.
+    fn place_at(&mut self, key: &Key, error: &Error) -> Place
+        ensures schema { schema_of self.new ≡ schema_of self.old }
+    {
+        match self.store.get(key) {
+            Ok(Some(item)) => {
+                place_of_error::<T>(self.alloc, &item, error).unwrap_or(Place::new())
+            }
+            _ => Place::new(),
+        }
+    }
+
+    // The same among the items that a query finds.
+    fn place_in_query(&mut self, query: &Query<'_>, error: &Error) -> Place
+        ensures schema { schema_of self.new ≡ schema_of self.old }
+    {
+        match self.store.query(query) {
+            Ok(found) => place_among::<T>(self.alloc, found.as_slice(), error),
+            Err(_) => Place::new(),
+        }
+    }
+
+    // The same among the items of a page of all.
+    fn place_in_page(&mut self, limit: usize, start_after: Option<&Key>, error: &Error) -> Place
+        ensures schema { schema_of self.new ≡ schema_of self.old }
+    {
+        match self.store.scan(limit, start_after) {
+            Ok(found) => place_among::<T>(self.alloc, found.as_slice(), error),
+            Err(_) => Place::new(),
+        }
     }
 
     // Reads a value from each of these items, whose parts it moves.

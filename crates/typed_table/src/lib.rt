@@ -16,5 +16,5 @@ pub use as_item::AsItem;
 pub use error::TypedTableError;
 pub use item::{item_of, value_from, value_of};
 pub use keyed::Keyed;
-pub use located::place_in;
+pub use located::place_of_error;
 pub use table::TypedTable;

@@ -14,7 +14,7 @@ ghost use Rattle.typed_table.specs.Updated.{FailsToUpdate, UpdatesValue};
 
 use crate::change::{Failed, changed};
 use crate::item::values_of;
-use crate::located::{place_among, place_in};
+use crate::located::{place_among, place_of_error};
 use crate::{AsItem, Keyed, TypedTableError};
 use dynamo_place::{LocatedError, Place};
 use dynamo_value::{Error, Result};
@@ -246,8 +246,11 @@ impl<T: AsItem + Keyed> TypedTable<T> {
         match self.get(key) {
             Ok(found) => Ok(found),
             Err(error) => {
-                let item = self.table.get(key);
-                let place = item.map_or(Place::new(), |item| place_in::<T>(self.alloc, item));
+                let place = match self.table.get(key) {
+                    Some(item) => place_of_error::<T>(self.alloc, item, &error),
+                    None => None,
+                };
+                let place = place.unwrap_or(Place::new());
                 Err(LocatedError { place, error })
             }
         }
@@ -350,7 +353,7 @@ impl<T: AsItem + Keyed> TypedTable<T> {
             Ok(values) => Ok(values),
             Err(error) => {
                 let place = match self.table.query(self.alloc, query) {
-                    Ok(found) => place_among::<T>(self.alloc, found.as_slice()),
+                    Ok(found) => place_among::<T>(self.alloc, found.as_slice(), &error),
                     Err(_) => Place::new(),
                 };
                 Err(LocatedError { place, error })
@@ -393,7 +396,7 @@ impl<T: AsItem + Keyed> TypedTable<T> {
             Ok(values) => Ok(values),
             Err(error) => {
                 let place = match self.table.scan(self.alloc, limit, start_after) {
-                    Ok(found) => place_among::<T>(self.alloc, found.as_slice()),
+                    Ok(found) => place_among::<T>(self.alloc, found.as_slice(), &error),
                     Err(_) => Place::new(),
                 };
                 Err(LocatedError { place, error })
