@@ -1,4 +1,5 @@
-use Rattle.std.proofs.Common.{◌≡◌, ◌<◌, ◌∙◌, length, sym, ap, arith, length-map}
+use Rattle.std.proofs.Common.{◌≡◌, ◌<◌, ◌∙◌, length, sym, ap, arith}
+use Rattle.std.proofs.lemmas.List.{length-map}
 use Rattle.dynamo_value.specs.Item.{items_view, maps_of}
 use Rattle.dynamo_value.specs.View.{members_view}
 use Rattle.dynamo_serde.proofs.Places.{in_items}
