@@ -1,5 +1,5 @@
 -- The place of an error, where items are read.
-use Rattle.std.proofs.Common.{◌≡◌, ◌<◌, ℕ, inl, inr}
+use Rattle.std.proofs.Common.{◌<◌, ℕ, inl, inr}
 use Rattle.dynamo_place.specs.Found.{steps_of, IsUnder}
 use Rattle.dynamo_place.specs.declared.place.Place.{Place}
 use Rattle.dynamo_place.specs.declared.place.Step.{Step}
