@@ -25,7 +25,7 @@ pub fn item_of_plain(alloc: Global, scratch: &mut Scratch, text: &[u8]) -> Resul
     }
 }
 
-// Where a text is no JSON.
+// The fault of a text that isn't JSON. It isn't JSON for json_of either, which allows fewer levels.
 fn broken(alloc: Global, text: &[u8]) -> Fault {
     match json_of(alloc, text) {
         Ok(_) => Fault::NotJson(Position { line: 1, column: 0 }),

@@ -6,13 +6,11 @@ use crate::key_words::item_refusal;
 use crate::place::Place;
 use crate::refusal::{Answer, Outcome, Refusal};
 use crate::teller::Teller;
-use crate::text::{first_value, line_feeds, unmarked};
+use crate::text::{Start, first_value, unmarked};
 use crate::words::{Flags, MAX_LINE};
 use dynamo_place::DynamoJsonLocated;
 use dynamo_value::Item;
-use fixtures::{
-    Fault, Lines, Position, Request, change_of, item_alone, json_of, one_request_located,
-};
+use fixtures::{Fault, Lines, Request, change_of, item_alone, json_of, one_request_located};
 use json::{Scratch, is_valid};
 use serde_json::Value;
 use sqlite::Alter;
@@ -75,7 +73,7 @@ impl<'r, 'a, 'i, S: Alter + Drop> Loading<'r, 'a, 'i, S> {
                 self.take_whole(text.as_slice())?;
             }
             Some(first) => {
-                self.take_text(lines.number(), first.as_slice())?;
+                self.take_text(Start::of_line(lines.number()), first.as_slice())?;
                 self.take_lines(&mut lines)?;
             }
             None => self.take_lines(&mut lines)?,
@@ -148,7 +146,9 @@ impl<'r, 'a, 'i, S: Alter + Drop> Loading<'r, 'a, 'i, S> {
                 break;
             }
             match lines.next_text() {
-                Some(Ok(line)) => self.take_text(lines.number(), line.as_slice())?,
+                Some(Ok(line)) => {
+                    self.take_text(Start::of_line(lines.number()), line.as_slice())?;
+                }
                 Some(Err(fault)) => self.tell(self.at(lines.number()), Refusal::from(fault)),
                 None => break,
             }
@@ -160,7 +160,7 @@ impl<'r, 'a, 'i, S: Alter + Drop> Loading<'r, 'a, 'i, S> {
     // line is broken.
     fn take_whole(&mut self, text: &[u8]) -> Answer<()> {
         let mut rest = text;
-        let mut line: u64 = 1;
+        let mut start = Start::of_line(1);
         for turn in 0..u64::MAX {
             let value = rest.trim_ascii_start();
             if value.is_empty() || self.is_over() {
@@ -168,34 +168,32 @@ impl<'r, 'a, 'i, S: Alter + Drop> Loading<'r, 'a, 'i, S> {
             }
             let blank = rest.len().saturating_sub(value.len());
             let (before, _) = rest.split_at_checked(blank).unwrap_or((&[], rest));
-            line = line.saturating_add(line_feeds(before));
+            start = start.behind(before);
             let (value, behind) = first_value(value);
             if turn == 0 && self.flags.keep_going && !self.is_json(value)? {
                 return self.take_lines(&mut self.lines(text));
             }
-            self.take_text(line, value)?;
-            line = line.saturating_add(line_feeds(value));
+            self.take_text(start, value)?;
+            start = start.behind(value);
             rest = behind;
         }
         Ok(())
     }
 
-    // Takes a JSON value that begins in a line.
-    fn take_text(&mut self, line: u64, text: &[u8]) -> Answer<()> {
-        let alloc = self.alloc();
+    // Takes a JSON value that begins here in the input.
+    fn take_text(&mut self, start: Start, text: &[u8]) -> Answer<()> {
+        let (alloc, place) = (self.alloc(), self.at(start.line));
         if self.flags.plain {
             let item = item_of_plain(alloc, &mut self.scratch, text);
-            return self.take(self.at(line), item.map(Request::Put));
+            let put = item.map(Request::Put);
+            return self.take(place, put.map_err(|fault| start.shifted(fault)));
         }
         if let Some(item) = item_alone(alloc, &mut self.scratch, text)? {
-            return self.take(self.at(line), Ok(Request::Put(item)));
+            return self.take(place, Ok(Request::Put(item)));
         }
         match json_of(alloc, text) {
-            Ok(json) => self.take_json(line, &json),
-            Err(fault) => {
-                self.tell_broken(line, fault);
-                Ok(())
-            }
+            Ok(json) => self.take_json(start.line, &json),
+            Err(fault) => self.take(place, Err(start.shifted(fault))),
         }
     }
 
@@ -333,21 +331,6 @@ impl<'r, 'a, 'i, S: Alter + Drop> Loading<'r, 'a, 'i, S> {
     fn tell_item(&mut self, place: Place<'i>, item: &Item, error: StoreError) {
         let refusal = item_refusal(self.alloc(), self.store.schema(), item, error);
         self.tell(place, refusal);
-    }
-
-    // Tells that a text is no JSON, and where in the input.
-    fn tell_broken(&mut self, line: u64, fault: Fault) {
-        let fault = match fault {
-            Fault::NotJson(position) if position.line > 1 => {
-                let before = usize::try_from(line)
-                    .unwrap_or(usize::MAX)
-                    .saturating_sub(1);
-                let line = position.line.saturating_add(before);
-                Fault::NotJson(Position { line, ..position })
-            }
-            fault => fault,
-        };
-        self.tell(self.at(line), Refusal::from(fault));
     }
 }
 

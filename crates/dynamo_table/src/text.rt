@@ -1,4 +1,5 @@
 //! The text of an input: its byte order mark, and the JSON values in it.
+use fixtures::{Fault, Position};
 use std::alloc::Global;
 use std::io;
 use std::io::Read;
@@ -75,13 +76,55 @@ impl Scan {
     }
 }
 
-/// How many line feeds a text has.
-pub fn line_feeds(text: &[u8]) -> u64 {
-    let mut count: u64 = 0;
-    for byte in text {
-        if *byte == b'\n' {
-            count = count.saturating_add(1);
+/// Where a text begins in an input.
+#[derive(Clone, Copy, Drop)]
+pub struct Start {
+    /// The line, from 1 on.
+    pub line: u64,
+
+    /// How many bytes of the line are before it.
+    pub column: usize,
+}
+
+impl Start {
+    /// The start of a line.
+    pub fn of_line(line: u64) -> Start {
+        Start { line, column: 0 }
+    }
+
+    /// Where a text begins that is behind this one, which begins here.
+    pub fn behind(self, text: &[u8]) -> Start {
+        let mut start = self;
+        for byte in text {
+            if *byte == b'\n' {
+                start = Start::of_line(start.line.saturating_add(1));
+            } else {
+                start.column = start.column.saturating_add(1);
+            }
+        }
+        start
+    }
+
+    /// A fault of a text that begins here, with its position in the input.
+    pub fn shifted(self, fault: Fault) -> Fault {
+        match fault {
+            Fault::NotJson(position) => Fault::NotJson(self.in_input(position)),
+            fault => fault,
         }
     }
-    count
+
+    // A position in a text that begins here, in the input.
+    fn in_input(self, position: Position) -> Position {
+        if position.line == 1 {
+            let column = position.column.saturating_add(self.column);
+            return Position { line: 1, column };
+        }
+        let before = usize::try_from(self.line)
+            .unwrap_or(usize::MAX)
+            .saturating_sub(1);
+        Position {
+            line: position.line.saturating_add(before),
+            column: position.column,
+        }
+    }
 }
