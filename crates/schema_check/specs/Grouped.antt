@@ -1,10 +1,9 @@
 -- How many lines each group has, and how one more is counted.
 use Rattle.std.specs.Prelude.{◌≡◌, ◌+◌, ◌<◌, ◌≤◌, ◌⊎◌, ℕ, Option, Some, None, MatchOption}
-use Rattle.std.specs.BTreeMap.{get, Updates, btree_map_len, IsUnchanged}
+use Rattle.std.specs.BTreeMap.{BTreeMap, get, Updates, btree_map_len, IsUnchanged}
 use Rattle.std.specs.Io.Iter.{u64_saturate}
 use Rattle.std.specs.String.{string_cmp}
 use Rattle.std.specs.declared.alloc.Global.{Global}
-use Rattle.std.specs.declared.collections.BTreeMap.{BTreeMap}
 use Rattle.std.specs.declared.string.String.{String}
 use Rattle.schema_check.specs.declared.groups.Groups.{Groups}
 
