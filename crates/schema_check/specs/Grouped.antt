@@ -1,5 +1,5 @@
 -- How many lines each group has, and how one more is counted.
-use Rattle.std.specs.Prelude.{◌≡◌, ◌+◌, ◌<◌, ◌≤◌, ◌⊎◌, ℕ, Option, Some, None, MatchOption}
+use Rattle.std.specs.Prelude.{◌≡◌, ◌+◌, ◌<◌, ◌≤◌, ◌⊎◌, ℕ, Option, Some, None}
 use Rattle.std.specs.BTreeMap.{BTreeMap, get, Updates, btree_map_len, IsUnchanged}
 use Rattle.std.specs.Io.Iter.{u64_saturate}
 use Rattle.std.specs.String.{string_cmp}
