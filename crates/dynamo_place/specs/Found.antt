@@ -18,7 +18,7 @@ steps_in (Some steps) = steps.items
 abbrev pub steps_of : Place → List Step
 steps_of place = steps_in place.steps
 
--- the same part, seen from a value of which this step leads to the inner value; or the whole, if memory ran out
+-- the same part, seen from a value in which this step leads to the inner value; or the whole
 abbrev pub IsUnder : Step → Place → Place → Type 0
 IsUnder step inner outer = (steps_of outer ≡ step ∷ steps_of inner) ⊎ (steps_of outer ≡ [])
 

@@ -9,7 +9,7 @@ use std::alloc::{AllocError, Global};
 // The steps to the first fault, the last one first, or `None` if there is no fault.
 type Found = Result<Option<Vec<Step>>, AllocError>;
 
-/// What is read from JSON, by where its first fault is.
+/// A type that is read from DynamoDB JSON, and the search for the first fault in its JSON.
 pub(crate) trait HasFaults {
     /// Returns the steps to the first fault of a JSON value.
     fn first_fault(alloc: Global, json: &Value) -> Found;

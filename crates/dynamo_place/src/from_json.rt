@@ -18,9 +18,9 @@ use std::alloc::Global;
 
 /// Reading DynamoDB JSON as [`DynamoJson`] does, with the place of an error.
 ///
-/// The [`Place`](crate::Place) is that in the attribute value or the item, as `orders[3].price`: the
-/// data type descriptors are no steps. It leads to the attribute value that isn't read, or to the
-/// element of a set.
+/// The [`Place`](crate::Place) is in the attribute value or the item, as `orders[3].price`, so data type
+/// descriptors are no steps. It leads to the attribute value that can't be read, or to the element of
+/// a set.
 ///
 /// # Examples
 ///
@@ -63,7 +63,7 @@ pub trait DynamoJsonLocated: DynamoJson {
         ensures err { IfErr result (λ e. Refused (Self.refusal (sj.view json.now)) (fault_of e.error)) };
 
     /// Reads a value from its JSON text as [`from_json_text`](DynamoJson::from_json_text) does, and
-    /// says where an error was found. A text with a fault is read twice.
+    /// says where an error was found. After an error the text is read again.
     ///
     /// # Errors
     ///

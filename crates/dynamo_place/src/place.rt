@@ -40,7 +40,7 @@ pub enum Step {
 /// ```
 #[derive(Debug, Drop, PartialEq, Eq)]
 pub struct Place {
-    // None of the whole value, so that its place takes no memory.
+    // None for a whole value, so that `Place::new` needs no allocator.
     steps: Option<Vec<Step>>,
 }
 
@@ -82,8 +82,8 @@ impl Place {
         }
     }
 
-    /// Returns the place in a list of a part of its element at `index`, given the place in the element. It is
-    /// that of the whole list if memory runs out.
+    /// Returns this place as seen from a list whose element at `index` has it. If memory runs out, it is
+    /// the place of the whole list.
     ///
     /// # Examples
     ///
@@ -99,8 +99,8 @@ impl Place {
         self.under(alloc, Step::Element(index))
     }
 
-    /// Returns the place in an item or a map of a part of the attribute of this name, given the place in the
-    /// attribute. It is that of the whole item if memory runs out.
+    /// Returns this place as seen from an item or a map whose attribute of this name has it. If memory
+    /// runs out, it is the place of the whole item.
     pub fn in_attribute(self, alloc: Global, name: &str) -> Place
         ensures { IsUnderName name.now self result }
     {

@@ -53,7 +53,7 @@ pub trait SerializeMap<S: Outcomes<Ok = Self::Ok, Error = Self::Error>>: Sized +
         ensures pending { pending self.new ≡ None }
         ensures keeps { Keeps gives self.old self.new };
 
-    /// Says of which key the value is written next. A builder that has no use for it does nothing.
+    /// Called before the value of this key is written. The default does nothing.
     fn begin_value(&self, _key: &str) {}
 
     /// Returns the serializer of the next value.

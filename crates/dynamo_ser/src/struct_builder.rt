@@ -19,7 +19,7 @@ pub trait StructBuilder<S: Outcomes<Ok = Self::Ok, Error = Self::Error>>: Sized 
     // The serializer of each field.
     ghost writer: { Self → S };
 
-    /// Says which field is written next. A builder that has no use for it does nothing.
+    /// Called before the field of this name is written. The default does nothing.
     fn begin_field(&self, _key: &str) {}
 
     /// Returns the serializer of the next field.

@@ -16,15 +16,16 @@ use std::collections::HashMap;
 /// Reads a value from an attribute value as [`from_attribute_value`](crate::from_attribute_value)
 /// does, and says where an error was found.
 ///
-/// - A missing, unknown or doubled field is the struct's, an unknown variant is the enum's, and a
-///   wrong length is the list's. What a variant holds is at the variant's name.
-/// - A key that can't be read, as one of a map with integer keys, is at its entry.
-/// - The fields of a flattened struct and of a variant with a tag inside are those of the map that
-///   they share with others, and so is a tag that can't be read.
-/// - The place is that of the whole enum if an untagged enum has no variant that fits, and if a tag
-///   beside a content can't be read.
-/// - The error of a type's own conversion is at the value that was converted.
-/// - More than 127 levels of lists and maps are at the whole value.
+/// - An error about a missing, unknown or duplicate field has the place of the struct, one about an
+///   unknown variant that of the enum, and one about a length that of the list. The content of a
+///   variant is at the variant's name.
+/// - A key that can't be read, such as that of a map with integer keys, has the place of its entry.
+/// - The fields of a flattened struct and of an internally tagged variant are at the map that they
+///   share with others, and so is a tag that can't be read.
+/// - The place is that of the whole enum if no variant of an untagged enum fits, and if the tag of an
+///   adjacently tagged enum can't be read.
+/// - An error of `#[serde(try_from)]` has the place of the value that was converted.
+/// - More than 127 levels of lists and maps have the place of the whole value.
 ///
 /// # Errors
 ///
