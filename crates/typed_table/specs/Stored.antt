@@ -12,7 +12,6 @@ use Rattle.dynamo_value.specs.Fault.{Fault, out_of_memory}
 use Rattle.dynamo_value.specs.Kind.{fault_of}
 use Rattle.dynamo_value.specs.declared.error.Error.{Error}
 use Rattle.dynamo_value.specs.declared.item.Item.{Item}
-use Rattle.dynamo_place.specs.declared.located_error.LocatedError.{LocatedError}
 use Rattle.table_key.specs.KeyOf.{ReadsKey}
 use Rattle.table_key.specs.KeyOrder.{key_cmp}
 use Rattle.table_key.specs.declared.error.TableError.{TableError}
@@ -47,11 +46,6 @@ ReadsAt Reads None r = r ≡ Ok None
 ReadsAt Reads (Some item) (Ok None) = ⊥
 ReadsAt Reads (Some item) (Ok (Some value)) = Reads item (Ok value)
 ReadsAt Reads (Some item) (Err e) = IsUnread Reads item e
-
--- a result without the place of its error
-abbrev pub unlocated : {A : Type 0} → Result A (LocatedError Error) → Result A Error
-unlocated (Ok a) = Ok a
-unlocated (Err e) = Err e.error
 
 -- writing the value has this error
 abbrev pub IsUnwritten : {T : Type 0} → (T → Fault → Type 0) → T → Error → Type 0

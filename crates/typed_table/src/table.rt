@@ -9,7 +9,8 @@ ghost use Rattle.table_query.specs.Conditions.{holds};
 ghost use Rattle.table_query.specs.Queries.{answer};
 ghost use Rattle.memory_table.specs.Content.{entries_of, items_of, schema_of};
 ghost use Rattle.typed_table.specs.Stored.{DeletesIf, FailsCondition, FailsToPut, FailsToRead, Holds, IsKeyOf};
-ghost use Rattle.typed_table.specs.Stored.{OthersStay, ReadEach, ReadsAt, page, table_of, unlocated};
+ghost use Rattle.typed_table.specs.Stored.{OthersStay, ReadEach, ReadsAt, page, table_of};
+ghost use Rattle.dynamo_place.specs.Placed.{without_place};
 ghost use Rattle.typed_table.specs.Updated.{FailsToUpdate, UpdatesValue};
 
 use crate::change::{Failed, changed};
@@ -238,7 +239,8 @@ impl<T: AsItem + Keyed> TypedTable<T> {
     ///
     /// Returns the error of [`get`](Self::get), with its place in the item.
     pub fn get_located(&self, key: &Key) -> std::result::Result<Option<T>, LocatedError<Error>>
-        ensures read { ReadsAt T.reads_item (get key_cmp (items_of (table_of self.now)) key.now) (unlocated result) }
+        ensures read { ReadsAt T.reads_item (get key_cmp (items_of (table_of self.now)) key.now)
+            (without_place result) }
         ensures clear { T.reads_back → (value : T) → Holds T.written (table_of self.now) key.now value
             → MatchResult result (λ found. MatchOption found ⊥ (T.alike value))
             (λ e. fault_of e.error ≡ out_of_memory) }
