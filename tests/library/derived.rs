@@ -7,6 +7,7 @@ mod depth;
 mod described_twins;
 mod enums;
 mod keys;
+mod left_out_twins;
 mod order_rows;
 mod random;
 mod rows;

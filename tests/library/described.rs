@@ -1,5 +1,6 @@
 //! Described types, written and read: structs, enums and wide structs.
 mod enum_rows;
+mod left_out_rows;
 mod rows;
 mod struct_rows;
 mod wide_rows;

@@ -99,7 +99,7 @@ mod room {
     }
 
     impl Shaped for Room {
-        ghost about = { about_record ⟦<Room as Record>⟧.about };
+        ghost about = { about_record ⟦<Room as Record>⟧.about (refl, refl) };
 
         ghost as_told = { refl };
 

@@ -64,7 +64,7 @@ impl Deserialize for Member {
 }
 
 impl Shaped for Member {
-    ghost about = { about_record ⟦<Member as Record>⟧.about };
+    ghost about = { about_record ⟦<Member as Record>⟧.about (refl, refl) };
 
     ghost as_told = { refl };
 

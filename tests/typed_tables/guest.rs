@@ -83,7 +83,7 @@ impl Deserialize for Guest {
 }
 
 impl Shaped for Guest {
-    ghost about = { about_record ⟦<Guest as Record>⟧.about };
+    ghost about = { about_record ⟦<Guest as Record>⟧.about (refl, refl) };
 
     ghost as_told = { refl };
 

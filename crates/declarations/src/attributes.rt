@@ -10,9 +10,14 @@ use std::alloc::Global;
 pub struct Attributes {
     /// Whether `Ord` and `Hash` are derived.
     pub is_key: bool,
+    /// Whether `Default` is derived.
+    pub derives_default: bool,
+    pub is_transparent: bool,
     pub rename: Option<String>,
     pub rename_all: Option<RenameRule>,
     pub is_default: bool,
+    /// The name of the type whose default is left out.
+    pub omitted: Option<&'static str>,
     pub set: Option<SetKind>,
 
     /// The line of the last attribute of serde.
@@ -26,11 +31,48 @@ impl Attributes {
     ///
     /// Returns [`Failure::Refused`] with the line if one is.
     pub fn refuse_field_forms(&self) -> Result<(), Failure> {
-        if self.is_default {
-            return Err(Failure::Refused(self.line, Reason::Misplaced("default")));
+        if self.omitted.is_some() {
+            let reason = Reason::Misplaced("skip_serializing_if");
+            return Err(Failure::Refused(self.line, reason));
         }
         if self.set.is_some() {
             return Err(Failure::Refused(self.line, Reason::Misplaced("with")));
+        }
+        Ok(())
+    }
+
+    /// Checks that there is no `default`, for anything but fields and structs.
+    ///
+    /// # Errors
+    ///
+    /// Returns [`Failure::Refused`] with the line if there is one.
+    pub fn refuse_default(&self) -> Result<(), Failure> {
+        if self.is_default {
+            return Err(Failure::Refused(self.line, Reason::Misplaced("default")));
+        }
+        Ok(())
+    }
+
+    /// Returns whether each field of the struct with these attributes has its type's default.
+    ///
+    /// # Errors
+    ///
+    /// Returns [`Failure::Refused`] with the line if the struct has a default of its own.
+    pub fn defaults_fields(&self) -> Result<bool, Failure> {
+        if self.is_default && !self.derives_default {
+            return Err(Failure::Refused(self.line, Reason::OwnDefault));
+        }
+        Ok(self.is_default)
+    }
+
+    /// Checks that there is no `transparent`, for anything but newtypes.
+    ///
+    /// # Errors
+    ///
+    /// Returns [`Failure::Refused`] with the line if there is one.
+    pub fn refuse_transparent(&self) -> Result<(), Failure> {
+        if self.is_transparent {
+            return Err(Failure::Refused(self.line, Reason::Misplaced("transparent")));
         }
         Ok(())
     }
@@ -48,14 +90,29 @@ impl Attributes {
         }
     }
 
-    /// How a field with these attributes is stored.
-    pub fn form(&self) -> Form {
-        match (self.set, self.is_default) {
-            (Some(set), true) => Form::DefaultedSet(set),
-            (Some(set), false) => Form::Set(set),
-            (None, true) => Form::Defaulted,
-            (None, false) => Form::Plain,
+    /// Returns how a field of this type with these attributes is stored.
+    ///
+    /// # Errors
+    ///
+    /// Returns [`Failure::Refused`] with the line if the field is left out by a function of another
+    /// type, or if it is left out and then can't be read.
+    pub fn form(&self, of: &[Token]) -> Result<Form, Failure> {
+        if let Some(name) = self.omitted {
+            if !type_name(of).is_some_and(|token| token.is(name)) {
+                return Err(Failure::Refused(self.line, Reason::OtherType(name)));
+            }
+            if name != "Option" && !self.is_default {
+                return Err(Failure::Refused(self.line, Reason::NoDefault));
+            }
         }
+        Ok(match (self.set, self.omitted, self.is_default) {
+            (Some(set), Some(_), _) => Form::OmittedSet(set),
+            (Some(set), None, true) => Form::DefaultedSet(set),
+            (Some(set), None, false) => Form::Set(set),
+            (None, Some(_), _) => Form::Omitted,
+            (None, None, true) => Form::Defaulted,
+            (None, None, false) => Form::Plain,
+        })
     }
 }
 
@@ -70,9 +127,12 @@ impl Attributes {
 pub fn read_attributes(alloc: Global, tokens: &[Token]) -> Result<Attributes, Failure> {
     let mut found = Attributes {
         is_key: false,
+        derives_default: false,
+        is_transparent: false,
         rename: None,
         rename_all: None,
         is_default: false,
+        omitted: None,
         set: None,
         line: 0,
     };
@@ -93,8 +153,10 @@ pub fn read_attributes(alloc: Global, tokens: &[Token]) -> Result<Attributes, Fa
             unknown(alloc, name)?;
         }
         if name.is("derive") {
-            derives_ord = derives_ord || rest.iter().any(|token| token.is("Ord"));
-            derives_hash = derives_hash || rest.iter().any(|token| token.is("Hash"));
+            let derives = |name: &str| rest.iter().any(|token| token.is(name));
+            derives_ord = derives_ord || derives("Ord");
+            derives_hash = derives_hash || derives("Hash");
+            found.derives_default = found.derives_default || derives("Default");
         }
         if name.is("serde") {
             found.line = name.line;
@@ -116,6 +178,12 @@ fn read_serde(alloc: Global, tokens: &[Token], found: &mut Attributes) -> Result
                     return Err(Failure::Refused(name.line, Reason::Twice("default")));
                 }
                 found.is_default = true;
+            }
+            [name] if name.is("transparent") => {
+                if found.is_transparent {
+                    return Err(Failure::Refused(name.line, Reason::Twice("transparent")));
+                }
+                found.is_transparent = true;
             }
             [name, equals, text] if equals.is("=") && text.kind == Kind::Text => {
                 read_valued(alloc, name, text, found)?;
@@ -152,6 +220,11 @@ fn read_valued(
             return Err(Failure::Refused(name.line, Reason::Twice("with")));
         }
         found.set = Some(set_kind(text)?);
+    } else if name.is("skip_serializing_if") {
+        if found.omitted.is_some() {
+            return Err(Failure::Refused(name.line, Reason::Twice("skip_serializing_if")));
+        }
+        found.omitted = Some(omitted_type(text)?);
     } else {
         return unknown(alloc, name);
     }
@@ -176,6 +249,27 @@ fn set_kind(text: &Token) -> Result<SetKind, Failure> {
         "serde_dynamo::binary_set" => Ok(SetKind::Binaries),
         _ => Err(Failure::Refused(text.line, Reason::With(text.text.clone()?))),
     }
+}
+
+// The name of the type whose default this function tells.
+fn omitted_type(text: &Token) -> Result<&'static str, Failure> {
+    match text.text.as_str() {
+        "Option::is_none" => Ok("Option"),
+        "String::is_empty" => Ok("String"),
+        "Vec::is_empty" => Ok("Vec"),
+        "BTreeMap::is_empty" => Ok("BTreeMap"),
+        "HashMap::is_empty" => Ok("HashMap"),
+        _ => Err(Failure::Refused(text.line, Reason::SkipIf(text.text.clone()?))),
+    }
+}
+
+// The last name of the path of a type.
+fn type_name(of: &[Token]) -> Option<&Token> {
+    let end = of
+        .iter()
+        .position(|token| token.is("<"))
+        .unwrap_or(of.len());
+    of[..end].last()
 }
 
 fn unknown(alloc: Global, name: &Token) -> Result<(), Failure> {

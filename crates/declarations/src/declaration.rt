@@ -110,11 +110,17 @@ pub enum Form {
     /// A field that may be absent, and then has its type's default.
     Defaulted,
 
+    /// A field that is left out if it has its type's default.
+    Omitted,
+
     /// A field of type `Vec<T>` that is stored as a set. The text of its type is that of `T`.
     Set(SetKind),
 
     /// The same of a field that may be absent, and then is empty.
     DefaultedSet(SetKind),
+
+    /// The same of a field that is left out if it is empty.
+    OmittedSet(SetKind),
 }
 
 /// The kinds of sets.

@@ -66,6 +66,14 @@ pub enum Reason {
     Text,
     /// A path of `with` that isn't described.
     With(String),
+    /// A function of `skip_serializing_if` that isn't described.
+    SkipIf(String),
+    /// A function of `skip_serializing_if` for fields of this type, at a field of another.
+    OtherType(&'static str),
+    /// A field that isn't an option, and is left out but has no default.
+    NoDefault,
+    /// A `default` of a struct that doesn't derive `Default`.
+    OwnDefault,
     /// Two lists of fields that would have the same name.
     SameList(String),
     /// A set in a field that isn't a `Vec<T>`.
@@ -124,6 +132,8 @@ impl fmt::Display for Reason {
             Reason::Twice(name) => write!(f, "the serde attribute `{name}` stands here twice"),
             Reason::Rule(rule) => write!(f, "`{rule}` is none of serde's rules for names"),
             Reason::With(path) => write!(f, "fields with {path:?} are not described"),
+            Reason::SkipIf(path) => write!(f, "fields skipped by {path:?} are not described"),
+            Reason::OtherType(name) => write!(f, "this function is for fields of type `{name}`"),
             Reason::SameList(name) => write!(f, "`{name}Fields` would be declared twice"),
             Reason::TakenName(name) => write!(
                 f,
@@ -168,6 +178,9 @@ impl Reason {
             Reason::Conditional => "declarations that depend on `cfg` are not described",
             Reason::Text => "a name is plain ASCII without quotes and backslashes",
             Reason::Import => "an import is written `use path::{Name, other::Name as Own};`",
+            Reason::OwnDefault => "`default` of a struct is described if it derives `Default`",
+            Reason::NoDefault =>
+                "a field that is skipped if it is empty needs `default` to be read",
             Reason::NoSet => "only a field of type `Vec<T>` is stored as a set",
             _ => "this is not described",
         }

@@ -90,6 +90,12 @@ pub fn read_declaration(alloc: Global, item: &[Token]) -> Result<Declaration, Fa
     } else {
         return Err(Failure::Refused(line, Reason::GenericEnum));
     };
+    if !matches!(body, Body::Record(_)) {
+        about.refuse_default()?;
+    }
+    if !matches!(body, Body::Newtype(_)) {
+        about.refuse_transparent()?;
+    }
     let Attributes { is_key, rename, .. } = about;
     let name = name.text.clone()?;
     let shown = match rename {
@@ -165,7 +171,8 @@ fn struct_body(
         }
         [open, ..] if open.is("{") => {
             let (inside, _) = bracketed(rest, "{").unwrap_or((&[], &[]));
-            let fields = named_fields(alloc, inside, about.rename_all, line)?;
+            let is_default = about.defaults_fields()?;
+            let fields = named_fields(alloc, inside, about.rename_all, is_default, line)?;
             if fields.is_empty() {
                 return Err(Failure::Refused(line, Reason::NoFields));
             }
@@ -236,7 +243,7 @@ fn unnamed_field(alloc: Global, tokens: &[Token], line: u32) -> Result<String, F
 }
 
 /// The named fields between braces. Where they have no names of their own, those that they are
-/// written under go by the rule.
+/// written under go by the rule. If all have a default, each has one.
 ///
 /// # Errors
 ///
@@ -247,11 +254,12 @@ pub fn named_fields(
     alloc: Global,
     inside: &[Token],
     rule: Option<RenameRule>,
+    all_default: bool,
     line: u32,
 ) -> Result<Vec<Field>, Failure> {
     let mut fields = Vec::new(alloc);
     for part in parts(alloc, inside)? {
-        fields.push(named_field(alloc, part, rule, line)?)?;
+        fields.push(named_field(alloc, part, rule, all_default, line)?)?;
     }
     Ok(fields)
 }
@@ -260,31 +268,28 @@ fn named_field(
     alloc: Global,
     tokens: &[Token],
     rule: Option<RenameRule>,
+    all_default: bool,
     line: u32,
 ) -> Result<Field, Failure> {
     let line = line_of(tokens, line);
     let (above, rest) = attributed(tokens);
-    let about = read_attributes(alloc, above)?;
+    let mut about = read_attributes(alloc, above)?;
     about.refuse_rename_all()?;
+    about.refuse_transparent()?;
+    about.is_default = about.is_default || all_default;
     let (name, of) = match after_visibility(rest) {
         [name, colon, of @ ..] if name.is_word() && colon.is(":") => (name, of),
         _ => return Err(Failure::Refused(line_of(rest, line), Reason::Field)),
     };
-    let form = about.form();
+    let form = about.form(of)?;
     refuse_type(alloc, of)?;
     let of = match (form, of) {
-        (Form::Set(_) | Form::DefaultedSet(_), [vec, ..]) if vec.is("Vec") => match bracketed(
-            &of[1..],
-            "<",
-        ) {
+        (Form::Plain | Form::Defaulted | Form::Omitted, _) => type_text(alloc, of, name.line)?,
+        (_, [vec, ..]) if vec.is("Vec") => match bracketed(&of[1..], "<") {
             Some((item, [])) => type_text(alloc, item, name.line)?,
             _ => return Err(Failure::Refused(name.line, Reason::NoSet)),
         },
-        (Form::Set(_) | Form::DefaultedSet(_), _) => return Err(Failure::Refused(
-            name.line,
-            Reason::NoSet,
-        )),
-        _ => type_text(alloc, of, name.line)?,
+        _ => return Err(Failure::Refused(name.line, Reason::NoSet)),
     };
     let name = name.text.clone()?;
     let shown = match (about.rename, rule) {

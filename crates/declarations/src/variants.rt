@@ -53,6 +53,8 @@ fn read_variant(
     let (above, rest) = attributed(tokens);
     let about = read_attributes(alloc, above)?;
     about.refuse_field_forms()?;
+    about.refuse_default()?;
+    about.refuse_transparent()?;
     let (name, rest) = match rest {
         [name, rest @ ..] if name.is_word() => (name, rest),
         _ => return Err(Failure::Refused(line_of(rest, line), Reason::Name)),
@@ -81,7 +83,7 @@ fn read_contents(
     line: u32,
 ) -> Result<Contents, Failure> {
     if let Some((inside, [])) = bracketed(tokens, "{") {
-        let fields = named_fields(alloc, inside, rule, line)?;
+        let fields = named_fields(alloc, inside, rule, false, line)?;
         if fields.is_empty() {
             return Err(Failure::Refused(line, Reason::NoContents));
         }

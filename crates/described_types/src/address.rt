@@ -62,7 +62,7 @@ impl Deserialize for Address {
 }
 
 impl Shaped for Address {
-    ghost about = { about_record ⟦<Address as Record>⟧.about };
+    ghost about = { about_record ⟦<Address as Record>⟧.about (refl, refl) };
 
     ghost as_told = { refl };
 

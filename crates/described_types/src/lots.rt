@@ -66,7 +66,7 @@ impl Deserialize for Lots {
 }
 
 impl Shaped for Lots {
-    ghost about = { about_record ⟦<Lots as Record>⟧.about };
+    ghost about = { about_record ⟦<Lots as Record>⟧.about (refl, refl) };
 
     ghost as_told = { refl };
 

@@ -91,7 +91,7 @@ impl Deserialize for Order {
 }
 
 impl Shaped for Order {
-    ghost about = { about_record ⟦<Order as Record>⟧.about };
+    ghost about = { about_record ⟦<Order as Record>⟧.about (refl, refl) };
 
     ghost as_told = { refl };
 

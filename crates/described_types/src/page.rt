@@ -63,7 +63,7 @@ impl<T: Shaped> Deserialize for Page<T> {
 }
 
 impl<T: Shaped> Shaped for Page<T> {
-    ghost about = { about_record ⟦<Page<T> as Record>⟧.about };
+    ghost about = { about_record ⟦<Page<T> as Record>⟧.about (refl, refl) };
 
     ghost as_told = { refl };
 

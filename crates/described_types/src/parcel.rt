@@ -62,7 +62,7 @@ impl Deserialize for Parcel {
 }
 
 impl Shaped for Parcel {
-    ghost about = { about_record ⟦<Parcel as Record>⟧.about };
+    ghost about = { about_record ⟦<Parcel as Record>⟧.about (refl, refl) };
 
     ghost as_told = { refl };
 

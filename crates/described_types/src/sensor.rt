@@ -78,7 +78,7 @@ impl Deserialize for Sensor {
 }
 
 impl Shaped for Sensor {
-    ghost about = { about_record ⟦<Sensor as Record>⟧.about };
+    ghost about = { about_record ⟦<Sensor as Record>⟧.about (refl, refl) };
 
     ghost as_told = { refl };
 

@@ -104,7 +104,7 @@ impl Deserialize for Settings {
 }
 
 impl Shaped for Settings {
-    ghost about = { about_record ⟦<Settings as Record>⟧.about };
+    ghost about = { about_record ⟦<Settings as Record>⟧.about (refl, refl) };
 
     ghost as_told = { refl };
 

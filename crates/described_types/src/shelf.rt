@@ -66,7 +66,7 @@ impl Deserialize for Shelf {
 }
 
 impl Shaped for Shelf {
-    ghost about = { about_record ⟦<Shelf as Record>⟧.about };
+    ghost about = { about_record ⟦<Shelf as Record>⟧.about (refl, refl) };
 
     ghost as_told = { refl };
 

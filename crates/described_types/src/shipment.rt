@@ -110,7 +110,7 @@ impl Deserialize for Shipment {
 }
 
 impl Shaped for Shipment {
-    ghost about = { about_enum ⟦<Shipment as Enumeration>⟧.about };
+    ghost about = { about_enum ⟦<Shipment as Enumeration>⟧.about ((_, _), (_, (refl, refl))) };
 
     ghost as_told = { refl };
 

@@ -152,7 +152,7 @@ impl Deserialize for Wide20 {
 }
 
 impl Shaped for Wide20 {
-    ghost about = { about_record ⟦<Wide20 as Record>⟧.about };
+    ghost about = { about_record ⟦<Wide20 as Record>⟧.about (refl, refl) };
 
     ghost as_told = { refl };
 

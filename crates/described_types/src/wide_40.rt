@@ -288,7 +288,7 @@ impl Deserialize for Wide40 {
 }
 
 impl Shaped for Wide40 {
-    ghost about = { about_record ⟦<Wide40 as Record>⟧.about };
+    ghost about = { about_record ⟦<Wide40 as Record>⟧.about (refl, refl) };
 
     ghost as_told = { refl };
 

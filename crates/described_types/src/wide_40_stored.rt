@@ -2,27 +2,11 @@ ghost use Rattle.std.specs.Prelude.{◌≡◌, MatchResult, string_bytes};
 ghost use Rattle.dynamo_value.specs.Fault.{out_of_memory};
 ghost use Rattle.dynamo_value.specs.Kind.{fault_of};
 ghost use Rattle.dynamo_shape.specs.ByValue.{SameEach, SameOption};
-ghost use Rattle.dynamo_shape.specs.Clear.{Clear};
 
 use crate::Wide40;
-use serde_dynamo::{AttributeValue, Shaped, reread};
+use serde_dynamo::{AttributeValue, reread_clear};
 use serde_json::Value;
 use std::alloc::Global;
-
-/// [`reread`] at a clear shape: that a shape of forty fields is clear is proved where this is called, and not for each attribute.
-///
-/// # Errors
-///
-/// [`OutOfMemory`](serde_dynamo::ErrorImpl::OutOfMemory) alone.
-fn reread_clear<T: Shaped>(
-    alloc: Global,
-    value: &T,
-) -> serde_dynamo::Result<(AttributeValue, Value, T)>
-    requires { Clear T.about.shape }
-    ensures { MatchResult result (λ parts. T.about.same value.now parts.2) (λ e. fault_of e ≡ out_of_memory) }
-{
-    reread(alloc, value)
-}
 
 /// What was stored of an account reads back, attribute by attribute.
 ///

@@ -1,7 +1,6 @@
 -- A struct is read by the list of its fields as its shape says.
-use Rattle.std.proofs.Common.{◌≡◌, ℕ, zero, suc, true, false, List, [], ◌∷◌, Some, None, Result, Ok, Err, length, ◌<◌, ◌≤◌, refl, sym, ap, subst, ◌∙◌, arith}
-use Rattle.std.specs.Prelude.{Bool, ◌&&◌, ◌||◌, not, bytes_eq, if◌then◌else◌}
-use Rattle.std.proofs.lemmas.Bool.{true≢false}
+use Rattle.std.proofs.Common.{◌≡◌, ℕ, zero, suc, List, [], ◌∷◌, Some, None, Result, Ok, Err, length, ◌<◌, ◌≤◌, refl, sym, ap, subst, ◌∙◌, arith}
+use Rattle.std.specs.Prelude.{bytes_eq, if◌then◌else◌}
 use Rattle.dynamo_value.specs.Fault.{Fault}
 use Rattle.dynamo_ser.specs.Datum as datum
 use Rattle.dynamo_ser.specs.Datum.{Datum}
@@ -13,7 +12,7 @@ use Rattle.dynamo_de.specs.Visitors.{by_name}
 use Rattle.dynamo_de.specs.Meets.{Meets, IsMessage}
 use Rattle.dynamo_de.specs.Source.{Source, Text, Entry}
 use Rattle.dynamo_de.proofs.Meets.{meets_more}
-use Rattle.dynamo_shape.specs.Clear.{is_field}
+use Rattle.dynamo_shape.specs.Absence.{put_field}
 use Rattle.dynamo_shape.specs.Permits.{Permits}
 use Rattle.dynamo_shape.specs.Conforms.{conforms}
 use Rattle.dynamo_shape.specs.Read.{read, into, missing, read_field, fields_of, fields_in_order}
@@ -25,51 +24,20 @@ use Rattle.dynamo_shape.proofs.FieldsByName.{Slots, first_slot, other_slots, fil
 use Rattle.dynamo_record.specs.Entries.{fields_from, fill_one, read_at, fill_at, reads_on}
 use Rattle.dynamo_record.specs.Fields.{ConformEach, SameData, Defaults, first_default, other_defaults, field_shapes, named_fields, read_fields, read_nth, unread, complete}
 use Rattle.dynamo_record.specs.Listed.{Shapes, Data, Makes}
-use Rattle.dynamo_record.specs.Names.{Names, first_name, other_names, is_named, differ, place_of}
-use Rattle.dynamo_record.specs.Records.{AboutRecord, record_fields, record_told, record_tells, record_shape, record_reads, RecordAnswers, FromParts, IsAlike, place_in}
+use Rattle.dynamo_record.specs.Names.{Names, first_name, other_names, differ, place_of}
+use Rattle.dynamo_record.specs.Records.{AboutRecord, record_fields, record_told, record_tells, record_shape, record_reads, RecordAnswers, FromParts, IsAlike, AreNamed, names_apart, each_many, place_in}
 use Rattle.dynamo_record.specs.Told.{each, fields_same}
+use Rattle.dynamo_record.specs.Apart.{same_length, none_named, no_shape}
 use Rattle.dynamo_record.proofs.Answering.{after_read, answers_after}
 use Rattle.dynamo_record.proofs.Places.{whole}
 
 -- ---- names and places
-
-same_length : (s : Shape) (n : Text) (ns : Names) (ss : Shapes) → length (n ∷ ns) ≡ length (s ∷ ss) → length ns ≡ length ss
-same_length s n ns ss h = omega arith
-
-none_named : (s : Shape) (ss : Shapes) → length {A = Text} [] ≡ length (s ∷ ss) → ⊥
-none_named s ss h = omega arith
-
-no_shape : (n : Text) (ns : Names) → length (n ∷ ns) ≡ length {A = Shape} [] → ⊥
-no_shape n ns h = omega arith
 
 pub place_named : (i : ℕ) (ns : Names) (ss : Shapes) (gs : Defaults) (t : Text) → length ns ≡ length ss → place_in i (field_shapes ns ss gs) t ≡ place_of i ns t
 place_named i [] [] gs t h = refl
 place_named i [] (s ∷ ss) gs t h = absurd (none_named s ss h)
 place_named i (n ∷ ns) [] gs t h = absurd (no_shape n ns h)
 place_named i (n ∷ ns) (s ∷ ss) gs t h = ap (λ r. if bytes_eq t n then i else r) (place_named (suc i) ns ss (other_defaults gs) t (same_length s n ns ss h))
-
-field_named : (ns : Names) (ss : Shapes) (gs : Defaults) (t : Text) → length ns ≡ length ss → is_field (field_shapes ns ss gs) t ≡ is_named ns t
-field_named [] [] gs t h = refl
-field_named [] (s ∷ ss) gs t h = absurd (none_named s ss h)
-field_named (n ∷ ns) [] gs t h = absurd (no_shape n ns h)
-field_named (n ∷ ns) (s ∷ ss) gs t h = ap (λ r. bytes_eq t n || r) (field_named ns ss (other_defaults gs) t (same_length s n ns ss h))
-
-both_true : (a b : Bool) → a && b ≡ true → (a ≡ true) × (b ≡ true)
-both_true true b h = (refl, h)
-both_true false b h = absurd (true≢false (sym h))
-
-not_true : (a : Bool) → not a ≡ true → a ≡ false
-not_true true h = absurd (true≢false (sym h))
-not_true false h = refl
-
-pub names_differ : (ns : Names) (ss : Shapes) (gs : Defaults) → differ ns ≡ true → length ns ≡ length ss → NamesDiffer (field_shapes ns ss gs)
-names_differ [] [] gs d h = tt
-names_differ [] (s ∷ ss) gs d h = absurd (none_named s ss h)
-names_differ (n ∷ ns) [] gs d h = tt
-names_differ (n ∷ ns) (s ∷ ss) gs d h =
-    let p = both_true (not (is_named ns n)) (differ ns) d in
-    let k = same_length s n ns ss h in
-    (field_named ns ss (other_defaults gs) n k ∙ not_true (is_named ns n) p.0, names_differ ns ss (other_defaults gs) p.1 k)
 
 -- ---- the field at a place
 
@@ -122,41 +90,41 @@ empty_unread ns [] gs = refl
 empty_unread ns (s ∷ ss) gs = ap (λ os. None ∷ os) (empty_unread (other_names ns) ss (other_defaults gs))
 
 -- a field and the others, under names
-named_then : (ns : Names) (a : Answer Datum) (b : Answer Data) → (a >>= λ d. into (named_fields (other_names ns)) b >>= λ fs. answer.value (datum.field (first_name ns) d fs)) ≡ into (named_fields ns) (a >>= λ d. b >>= λ ds. answer.value (d ∷ ds))
-named_then ns (Ok d) (Ok ds) = refl
-named_then ns (Ok d) (Err f) = refl
-named_then ns (Err f) b = refl
+named_then : (ns : Names) (gs : Defaults) (a : Answer Datum) (b : Answer Data) → (a >>= λ d. into (named_fields (other_names ns) (other_defaults gs)) b >>= λ fs. answer.value (put_field (first_name ns) (first_default gs) d fs)) ≡ into (named_fields ns gs) (a >>= λ d. b >>= λ ds. answer.value (d ∷ ds))
+named_then ns gs (Ok d) (Ok ds) = refl
+named_then ns gs (Ok d) (Err f) = refl
+named_then ns gs (Err f) b = refl
 
-pub close_complete : (ns : Names) (ss : Shapes) (gs : Defaults) (os : Slots) → close (field_shapes ns ss gs) os ≡ into (named_fields ns) (complete ss gs os)
+pub close_complete : (ns : Names) (ss : Shapes) (gs : Defaults) (os : Slots) → close (field_shapes ns ss gs) os ≡ into (named_fields ns gs) (complete ss gs os)
 close_complete ns [] gs os = refl
 close_complete ns (s ∷ ss) gs os =
     let own = value_or (first_slot os) (missing s (first_default gs)) in
-    ap (λ more. own >>= λ d. more >>= λ fs. answer.value (datum.field (first_name ns) d fs)) (close_complete (other_names ns) ss (other_defaults gs) (other_slots os))
-    ∙ named_then ns own (complete ss (other_defaults gs) (other_slots os))
+    ap (λ more. own >>= λ d. more >>= λ fs. answer.value (put_field (first_name ns) (first_default gs) d fs)) (close_complete (other_names ns) ss (other_defaults gs) (other_slots os))
+    ∙ named_then ns gs own (complete ss (other_defaults gs) (other_slots os))
 
-pub in_order_listed : (ns : Names) (ss : Shapes) (gs : Defaults) (xs : List Source) → fields_in_order (field_shapes ns ss gs) xs ≡ into (named_fields ns) (read_fields ss xs)
+pub in_order_listed : (ns : Names) (ss : Shapes) (gs : Defaults) (xs : List Source) → fields_in_order (field_shapes ns ss gs) xs ≡ into (named_fields ns gs) (read_fields ss xs)
 in_order_listed ns [] gs xs = refl
 in_order_listed ns (s ∷ ss) gs [] = refl
 in_order_listed ns (s ∷ ss) gs (x ∷ xs) =
-    ap (λ more. read s x >>= λ d. more >>= λ fs. answer.value (datum.field (first_name ns) d fs)) (in_order_listed (other_names ns) ss (other_defaults gs) xs)
-    ∙ named_then ns (read s x) (read_fields ss xs)
+    ap (λ more. read s x >>= λ d. more >>= λ fs. answer.value (put_field (first_name ns) (first_default gs) d fs)) (in_order_listed (other_names ns) ss (other_defaults gs) xs)
+    ∙ named_then ns gs (read s x) (read_fields ss xs)
 
 -- ---- the struct of the fields
 
 module _ {V L : Type 0} (a : AboutRecord V L) where
   abbrev pub answer_of : Answer Data → Answer Datum
-  answer_of x = into (datum.struct a.name) (into (named_fields a.names) x)
+  answer_of x = into (datum.struct a.name) (into (named_fields a.names (a.list.defaults [])) x)
 
-  pub struct_made : (x : Answer Data) (l : L) (v : V) → a.parts v ≡ l → Makes a.list.shapes a.list.told x (answer.value []) (Some l) → RecordAnswers a (answer_of x) (Ok v)
-  struct_made x l v e h =
+  pub struct_made : AreNamed a → (x : Answer Data) (l : L) (v : V) → a.parts v ≡ l → Makes a.list.shapes a.list.told x (answer.value []) (Some l) → RecordAnswers a (answer_of x) (Ok v)
+  struct_made named x l v e h =
       let front = h.0 [] in (
-        datum.struct a.name (named_fields a.names front),
+        datum.struct a.name (named_fields a.names (a.list.defaults []) front),
         rw h.1 refl,
         λ c. (
           record_told a v,
           refl,
-          fields_same a.names front (a.list.told (a.parts v) []) (subst (λ l. ConformEach (a.list.shapes []) (a.list.told l []) → SameData front (a.list.told l [])) (sym e) (λ k. h.2 [] [] [] k (λ _. tt))
-              (each a.name a.names (a.list.shapes []) (a.list.defaults []) (λ v. a.list.told (a.parts v) []) (λ _ _. Unit {0}) v c)),
+          fields_same a.names (a.list.defaults []) front (a.list.told (a.parts v) []) (subst (λ l. ConformEach (a.list.shapes []) (a.list.told l []) → SameData front (a.list.told l [])) (sym e) (λ k. h.2 [] [] [] k (λ _. tt))
+              (each a.name a.names (a.list.shapes []) (a.list.defaults []) (λ v. a.list.told (a.parts v) []) (λ _ _. Unit {0}) (names_apart a named) (each_many a) v c)),
         ),
       )
 

@@ -33,7 +33,7 @@ module _ {C L : Type 0} (own : Text) (names : Names) (list : C → L) (l : About
   Struct = record_of own names list l
 
   abbrev Told : C → Fields
-  Told w = named_fields names (l.told (list w) [])
+  Told w = named_fields names (l.defaults []) (l.told (list w) [])
 
   abbrev FieldAnswers : Answer Fields → Result C Fault → Type 0
   FieldAnswers = AnswersByShape (conform_fields (record_fields Struct)) SameFields Told

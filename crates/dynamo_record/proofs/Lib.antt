@@ -3,6 +3,7 @@ pub mod BothLists
 pub mod Choosing
 pub mod Chosen
 pub mod Described
+pub mod EmptyTold
 pub mod Entries
 pub mod Inside
 pub mod InsideNamed

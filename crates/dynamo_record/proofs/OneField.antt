@@ -6,6 +6,7 @@ use Rattle.dynamo_de.specs.Answer as answer
 use Rattle.dynamo_de.specs.Answer.{value_or}
 use Rattle.dynamo_de.specs.Shows.{TakesElement}
 use Rattle.dynamo_de.specs.Source.{Source}
+use Rattle.dynamo_shape.specs.Absence.{Absence}
 use Rattle.dynamo_shape.specs.Conforms.{conforms}
 use Rattle.dynamo_shape.specs.Laws.{ReadsByShape}
 use Rattle.dynamo_shape.specs.Read.{missing}
@@ -33,7 +34,7 @@ module _ {T : Type 0} (s : Shape) (tells : T → Datum) where
 
   -- ---- the field of what was read so far
 
-  module _ {N E : Type 0} (fault : E → Fault) (default : Option Datum) (ns : Names) (named : N → Names) (ss : Shapes) (gs : Defaults) (os more : Slots) where
+  module _ {N E : Type 0} (fault : E → Fault) (default : Absence) (ns : Names) (named : N → Names) (ss : Shapes) (gs : Defaults) (os more : Slots) where
     abbrev All : Result (T × N) E → Type 0
     All = Completes fault shapes told (complete (s ∷ ss) (default ∷ gs) os) (complete ss gs more) (missed_name ns (s ∷ ss) (default ∷ gs) os) (λ others. missed_name (named others) ss gs more)
 

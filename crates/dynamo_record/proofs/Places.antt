@@ -1,5 +1,5 @@
 -- The fields of a struct by their places: reading each entry by the field of its name's place is reading by names.
-use Rattle.std.proofs.Common.{◌≡◌, ℕ, zero, suc, List, [], ◌∷◌, Option, None, refl, ap, subst}
+use Rattle.std.proofs.Common.{◌≡◌, ℕ, zero, suc, List, [], ◌∷◌, None, refl, ap, subst}
 use Rattle.dynamo_ser.specs.Datum as datum
 use Rattle.dynamo_ser.specs.Datum.{Datum, Fields}
 use Rattle.dynamo_de.specs.Answer as answer
@@ -7,6 +7,7 @@ use Rattle.dynamo_de.specs.Answer.{value_or}
 use Rattle.dynamo_value.specs.Steps.{◌>>=◌}
 use Rattle.dynamo_de.specs.Ignored.{ignore}
 use Rattle.dynamo_de.specs.Source.{Text, Entry}
+use Rattle.dynamo_shape.specs.Absence.{Absence, put_field}
 use Rattle.dynamo_shape.specs.Read.{read, into, missing, read_field, fields_by_name}
 use Rattle.dynamo_shape.specs.Shape.{Shape, FieldShapes, no_field_shapes, field_shape}
 use Rattle.dynamo_shape.proofs.ByHand.{into_into, read_itself}
@@ -32,7 +33,7 @@ abbrev IsNone : FieldShapes → Type 0
 IsNone no_field_shapes = Unit {0}
 IsNone (field_shape n s d fs) = ⊥
 
-tail_more : (i : ℕ) (own : Text) (s : Shape) (e : Option Datum) (fs all : FieldShapes) → Tail i (field_shape own s e fs) all → Tail (suc i) fs all
+tail_more : (i : ℕ) (own : Text) (s : Shape) (e : Absence) (fs all : FieldShapes) → Tail i (field_shape own s e fs) all → Tail (suc i) fs all
 tail_more zero own s x fs no_field_shapes h = absurd (subst IsNone h tt)
 tail_more zero own s x fs (field_shape n t e gs) h = ap others_of h
 tail_more (suc i) own s x fs no_field_shapes h = absurd h
@@ -48,7 +49,7 @@ abbrev pad : FieldShapes → Slots → Slots
 pad no_field_shapes os = []
 pad (field_shape name s e fs) os = first_slot os ∷ pad fs (other_slots os)
 
-pad_fill : (i : ℕ) (own : Text) (s : Shape) (e : Option Datum) (fs all : FieldShapes) (d : Datum) (os : Slots) → Tail i (field_shape own s e fs) all → pad all (behind i (fill d) os) ≡ behind i (fill d) (pad all os)
+pad_fill : (i : ℕ) (own : Text) (s : Shape) (e : Absence) (fs all : FieldShapes) (d : Datum) (os : Slots) → Tail i (field_shape own s e fs) all → pad all (behind i (fill d) os) ≡ behind i (fill d) (pad all os)
 pad_fill zero own s x fs no_field_shapes d os h = absurd (subst IsNone h tt)
 pad_fill zero own s x fs (field_shape n t e gs) d os h = refl
 pad_fill (suc i) own s x fs no_field_shapes d os h = absurd h
@@ -66,7 +67,7 @@ pad_empty (field_shape n s d fs) = ap (λ more. None ∷ more) (pad_empty fs)
 
 close_pad : (fs : FieldShapes) (os : Slots) → close fs os ≡ close fs (pad fs os)
 close_pad no_field_shapes os = refl
-close_pad (field_shape name s e fs) os = ap (λ more. value_or (first_slot os) (missing s e) >>= λ d. more >>= λ gs. answer.value (datum.field name d gs)) (close_pad fs (other_slots os))
+close_pad (field_shape name s e fs) os = ap (λ more. value_or (first_slot os) (missing s e) >>= λ d. more >>= λ gs. answer.value (put_field name e d gs)) (close_pad fs (other_slots os))
 
 module _ (all : FieldShapes) where
   reads_from : (i : ℕ) (fs : FieldShapes) → Tail i fs all → Reads (entry_at all) (pad all) i fs (place_in i fs)

@@ -15,7 +15,8 @@ use Rattle.dynamo_record.specs.Fields.{unread, complete, read_fields}
 use Rattle.dynamo_record.specs.Listed.{Data, Holds, Completes, MakesOrFails}
 use Rattle.dynamo_record.specs.Names.{Names, place_of, missing_text}
 use Rattle.dynamo_record.specs.Records.{AboutRecord, AreNamed, record_fields, FromParts, RecordAnswers, IsAlike, place_in}
-use Rattle.dynamo_record.proofs.Described.{names_differ, empty_unread, close_complete, in_order_listed, answer_of, struct_made, struct_missed, struct_fails, after_struct, by_entries}
+use Rattle.dynamo_record.specs.Apart.{names_differ}
+use Rattle.dynamo_record.proofs.Described.{empty_unread, close_complete, in_order_listed, answer_of, struct_made, struct_missed, struct_fails, after_struct, by_entries}
 use Rattle.dynamo_record.proofs.Described as described
 use Rattle.dynamo_record.proofs.Entries as entries
 
@@ -32,8 +33,8 @@ module _ {V L : Type 0} (a : AboutRecord V L) where
     listed : (r : Result V Fault) → RecordAnswers a (answer_of a all) r → FromParts a (in_order xs) r
     listed r h = subst (λ fs. RecordAnswers a (into (datum.struct a.name) fs) r) (sym (in_order_listed a.names (a.list.shapes []) (a.list.defaults []) xs)) h
 
-    pub listed_made : (l : L) (v : V) → a.parts v ≡ l → Listed (Ok (Some l)) → FromParts a (in_order xs) (Ok v)
-    listed_made l v e h = listed (Ok v) (struct_made a all l v e h)
+    pub listed_made : (l : L) (v : V) → AreNamed a → a.parts v ≡ l → Listed (Ok (Some l)) → FromParts a (in_order xs) (Ok v)
+    listed_made l v named e h = listed (Ok v) (struct_made a named all l v e h)
 
     pub listed_short : (e : E) → Listed (Ok None) → IsMessage {V = V} (Err (fault e)) → FromParts a (in_order xs) (Err (fault e))
     listed_short e h m = listed (Err (fault e)) (struct_missed a all (fault e) h m)
@@ -86,7 +87,7 @@ module _ {V L : Type 0} (a : AboutRecord V L) where
           Ends r = (os : Slots) → holds x os [] → Completes fault a.list.shapes a.list.told (complete (a.list.shapes []) (a.list.defaults []) os) (answer.value []) (missed os) (λ _. None) r
 
           pub all_made : (m : L) (others : N) (v : V) → a.parts v ≡ m → Ends (Ok (m, others)) → FromParts a (by_name es) (Ok v)
-          all_made m others v e h = closed (Ok v) (struct_made a (complete (a.list.shapes []) (a.list.defaults []) last.0) m v e (h last.0 last.1).0)
+          all_made m others v e h = closed (Ok v) (struct_made a named (complete (a.list.shapes []) (a.list.defaults []) last.0) m v e (h last.0 last.1).0)
 
           pub one_missed : (e : E) → Ends (Err e) → Meets {V = V} fault (FromParts a (by_name es)) (Err e)
           one_missed e h = elim (h last.0 last.1) [

@@ -1,5 +1,5 @@
 -- What a variant can hold: nothing, one value, several, or several under names.
-use Rattle.std.specs.Prelude.{[], ⊤}
+use Rattle.std.specs.Prelude.{◌≡◌, true, length, [], ⊤}
 use Rattle.std.proofs.Common.{refl, sym, ap, subst}
 use Rattle.dynamo_ser.specs.Datum as datum
 use Rattle.dynamo_ser.specs.Datum.{Datum, Elements, Fields, Variant, elements_of}
@@ -8,10 +8,12 @@ use Rattle.dynamo_shape.specs.Same.{Same, SameElements, SameFields}
 use Rattle.dynamo_shape.specs.Shape as shape
 use Rattle.dynamo_shape.specs.Shape.{FieldShapes}
 use Rattle.dynamo_types.specs.About.{About}
-use Rattle.dynamo_record.specs.Fields.{ConformEach, shapes_of, field_shapes, named_fields}
+use Rattle.dynamo_record.specs.Fields.{ConformEach, AsMany, shapes_of, field_shapes, named_fields}
 use Rattle.dynamo_record.specs.InOrder.{each_element, elements_same, same_each}
 use Rattle.dynamo_record.specs.Listed.{AboutList}
-use Rattle.dynamo_record.specs.Names.{Names}
+use Rattle.dynamo_record.specs.Names.{Names, differ}
+use Rattle.dynamo_record.specs.Apart.{names_differ}
+use Rattle.dynamo_shape.proofs.FieldsByName.{NamesDiffer}
 use Rattle.dynamo_record.specs.Told.{each_field, fields_same, data_same}
 use Rattle.dynamo_record.specs.Variants.{AboutContent}
 
@@ -31,8 +33,9 @@ about_nothing = record {
   told = λ v _. datum.unit_variant v;
   same = λ _ _. ⊤;
   told_index = λ _ _. refl;
-  told_by_value = λ _ _ _ _ _ _. tt;
-  told_alike = λ _ _ _ _ _ _. refl;
+  fit = ⊤;
+  told_by_value = λ _ _ _ _ _ _ _. tt;
+  told_alike = λ _ _ _ _ _ _ _. refl;
 }
 
 -- ---- one value
@@ -56,8 +59,9 @@ module _ {C T : Type 0} (value : C → T) (a : About T) where
     told = one_told;
     same = λ x y. a.same (value x) (value y);
     told_index = λ _ _. refl;
-    told_by_value = one_by_value;
-    told_alike = one_alike;
+    fit = ⊤;
+    told_by_value = λ _. one_by_value;
+    told_alike = λ _. one_alike;
   }
 
 -- ---- several
@@ -87,8 +91,9 @@ module _ {C L : Type 0} (list : C → L) (a : AboutList L) where
     told = several_told;
     same = λ x y. a.same (list x) (list y);
     told_index = λ _ _. refl;
-    told_by_value = several_by_value;
-    told_alike = several_alike;
+    fit = ⊤;
+    told_by_value = λ _. several_by_value;
+    told_alike = λ _. several_alike;
   }
 
 -- ---- several under names
@@ -99,25 +104,35 @@ fields_in (datum.struct name fs) = fs
 fields_in _ = datum.no_fields
 
 module _ {C L : Type 0} (names : Names) (list : C → L) (a : AboutList L) where
+  -- no two fields have one name, and each has one
+  abbrev pub AreApart : Type 0
+  AreApart = (differ names ≡ true) × (length names ≡ length (a.shapes []))
+
   abbrev pub variant_fields : FieldShapes
   variant_fields = field_shapes names (a.shapes []) (a.defaults [])
 
   abbrev pub named_told : Variant → C → Datum
-  named_told v x = datum.struct_variant v (named_fields names (a.told (list x) []))
+  named_told v x = datum.struct_variant v (named_fields names (a.defaults []) (a.told (list x) []))
 
-  each_conforms : (v : Variant) (x : C) → conforms_content (shape.named variant_fields) v (named_told v x) → ConformEach (a.shapes []) (a.told (list x) [])
-  each_conforms v x c = each_field names (a.shapes []) (a.defaults []) (a.told (list x) []) (subst (conform_fields variant_fields) (sym (ap fields_in c.1)) c.2)
+  apart : AreApart → NamesDiffer variant_fields
+  apart named = names_differ names (a.shapes []) (a.defaults []) named.0 named.1
 
-  pub named_by_value : (v : Variant) (x y : C) → conforms_content (shape.named variant_fields) v (named_told v x) → conforms_content (shape.named variant_fields) v (named_told v y) → Same (named_told v x) (named_told v y) → a.same (list x) (list y)
-  named_by_value v x y c d h =
-      let alike = data_same names (a.told (list x) []) (a.told (list y) []) (subst (SameFields (named_fields names (a.told (list x) []))) (sym (ap fields_in h.1)) h.2) in
-      (a.told_by_value (list x) (list y) [] [] [] (each_conforms v x c) (each_conforms v y d) alike).0
+  many : (x : C) → AsMany (a.shapes []) (a.told (list x) [])
+  many x = a.many (list x) [] [] tt
 
-  pub named_alike : (v : Variant) (x y : C) → conforms_content (shape.named variant_fields) v (named_told v x) → conforms_content (shape.named variant_fields) v (named_told v y) → a.same (list x) (list y) → Same (named_told v x) (named_told v y)
-  named_alike v x y c d h = (
-    named_fields names (a.told (list y) []),
+  each_conforms : AreApart → (v : Variant) (x : C) → conforms_content (shape.named variant_fields) v (named_told v x) → ConformEach (a.shapes []) (a.told (list x) [])
+  each_conforms named v x c = each_field names (a.shapes []) (a.defaults []) (a.told (list x) []) (apart named) (many x) (subst (conform_fields variant_fields) (sym (ap fields_in c.1)) c.2)
+
+  pub named_by_value : AreApart → (v : Variant) (x y : C) → conforms_content (shape.named variant_fields) v (named_told v x) → conforms_content (shape.named variant_fields) v (named_told v y) → Same (named_told v x) (named_told v y) → a.same (list x) (list y)
+  named_by_value named v x y c d h =
+      let alike = data_same names (a.shapes []) (a.defaults []) (a.told (list x) []) (a.told (list y) []) (apart named) (many x) (many y) (subst (SameFields (named_fields names (a.defaults []) (a.told (list x) []))) (sym (ap fields_in h.1)) h.2) in
+      (a.told_by_value (list x) (list y) [] [] [] (each_conforms named v x c) (each_conforms named v y d) alike).0
+
+  pub named_alike : AreApart → (v : Variant) (x y : C) → conforms_content (shape.named variant_fields) v (named_told v x) → conforms_content (shape.named variant_fields) v (named_told v y) → a.same (list x) (list y) → Same (named_told v x) (named_told v y)
+  named_alike named v x y c d h = (
+    named_fields names (a.defaults []) (a.told (list y) []),
     refl,
-    fields_same names (a.told (list x) []) (a.told (list y) []) (a.told_alike (list x) (list y) [] [] [] (each_conforms v x c) (each_conforms v y d) h (λ _ _. tt)),
+    fields_same names (a.defaults []) (a.told (list x) []) (a.told (list y) []) (a.told_alike (list x) (list y) [] [] [] (each_conforms named v x c) (each_conforms named v y d) h (λ _ _. tt)),
   )
 
   abbrev pub about_named : AboutContent C
@@ -126,6 +141,7 @@ module _ {C L : Type 0} (names : Names) (list : C → L) (a : AboutList L) where
     told = named_told;
     same = λ x y. a.same (list x) (list y);
     told_index = λ _ _. refl;
+    fit = AreApart;
     told_by_value = named_by_value;
     told_alike = named_alike;
   }

@@ -60,13 +60,13 @@ module _ {V L : Type 0} (a : AboutEnum V L) where
   abbrev pub FromVariant : Text × Option Source → Result V Fault → Type 0
   FromVariant p r = EnumAnswers (read_one_of enum_variants a.name 0 p.0 p.1) r
 
-  abbrev pub about_enum : About V
-  about_enum = record {
+  abbrev pub about_enum : a.list.fit → About V
+  about_enum fit = record {
     shape = enum_shape;
     tells = enum_tells;
     same = enum_same;
-    told_by_value = λ v w c d h. a.list.told_by_value a.name a.names 0 [] (a.parts v) (a.parts w) c d h;
-    told_alike = λ v w c d h. a.list.told_alike a.name a.names 0 [] (a.parts v) (a.parts w) c d h;
+    told_by_value = λ v w c d h. a.list.told_by_value fit a.name a.names 0 [] (a.parts v) (a.parts w) c d h;
+    told_alike = λ v w c d h. a.list.told_alike fit a.name a.names 0 [] (a.parts v) (a.parts w) c d h;
   }
 
   -- the list that is read is as long

@@ -1,10 +1,11 @@
 -- Fields in order: their shapes, what a missing one reads as, and the data that are told; and the same under names.
 use Rattle.std.specs.Prelude.{ℕ, suc, List, [], ◌∷◌, Option, Some, None, ⊤}
 use Rattle.std.proofs.Common.{zero, Ok, Err}
-use Rattle.dynamo_ser.specs.Datum.{Datum, Fields, no_fields, field}
+use Rattle.dynamo_ser.specs.Datum.{Datum, Fields, no_fields}
 use Rattle.dynamo_de.specs.Answer.{Answer, value, refused, value_or}
 use Rattle.dynamo_value.specs.Steps.{◌>>=◌}
 use Rattle.dynamo_de.specs.Source.{Source, Text}
+use Rattle.dynamo_shape.specs.Absence.{Absence, required, put_field}
 use Rattle.dynamo_shape.specs.Conforms.{conforms}
 use Rattle.dynamo_shape.specs.Read.{read, missing}
 use Rattle.dynamo_shape.specs.Same.{Same}
@@ -39,10 +40,10 @@ read_nth (suc i) (s ∷ ss) x = read_nth i ss x
 -- ---- what was read of each field so far
 
 abbrev pub Defaults : Type 0
-Defaults = List (Option Datum)
+Defaults = List Absence
 
-abbrev pub first_default : Defaults → Option Datum
-first_default [] = None
+abbrev pub first_default : Defaults → Absence
+first_default [] = required
 first_default (d ∷ ds) = d
 
 abbrev pub other_defaults : Defaults → Defaults
@@ -74,9 +75,16 @@ abbrev pub field_shapes : Names → List Shape → Defaults → FieldShapes
 field_shapes ns [] gs = no_field_shapes
 field_shapes ns (s ∷ ss) gs = field_shape (first_name ns) s (first_default gs) (field_shapes (other_names ns) ss (other_defaults gs))
 
-abbrev pub named_fields : Names → List Datum → Fields
-named_fields ns [] = no_fields
-named_fields ns (d ∷ ds) = field (first_name ns) d (named_fields (other_names ns) ds)
+-- each field that is not left out
+abbrev pub named_fields : Names → Defaults → List Datum → Fields
+named_fields ns gs [] = no_fields
+named_fields ns gs (d ∷ ds) = put_field (first_name ns) (first_default gs) d (named_fields (other_names ns) (other_defaults gs) ds)
+
+-- as many data as shapes
+abbrev pub AsMany : List Shape → List Datum → Type 0
+AsMany [] [] = ⊤
+AsMany (s ∷ ss) (d ∷ ds) = AsMany ss ds
+AsMany _ _ = ⊥
 
 abbrev pub shapes_of : List Shape → Shapes
 shapes_of [] = no_shapes

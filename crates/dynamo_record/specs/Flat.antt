@@ -11,6 +11,7 @@ about_as as' l = record {
   same = λ v w. l.same (as' v) (as' w);
   told_by_value = λ v w. l.told_by_value (as' v) (as' w);
   told_alike = λ v w. l.told_alike (as' v) (as' w);
+  many = λ w. l.many (as' w);
 }
 
 abbrev pub about_four : {A B C D : Type 0} → AboutList A → AboutList B → AboutList C → AboutList D → AboutList (A × B × C × D)

@@ -5,6 +5,7 @@ use Rattle.dynamo_value.specs.Fault.{Fault, message, out_of_memory}
 use Rattle.dynamo_ser.specs.Datum.{Datum}
 use Rattle.dynamo_de.specs.Answer.{Answer, refused, After}
 use Rattle.dynamo_de.specs.Source.{Source, Text}
+use Rattle.dynamo_shape.specs.Absence.{Absence}
 use Rattle.dynamo_shape.specs.Conforms.{conforms}
 use Rattle.dynamo_shape.specs.Permits.{Permits}
 use Rattle.dynamo_shape.specs.Read.{into}
@@ -13,7 +14,7 @@ use Rattle.dynamo_shape.specs.Shape.{Shape}
 use Rattle.dynamo_shape.proofs.FieldsByName.{Slots, first_slot, other_slots, fill_slot}
 use Rattle.dynamo_types.specs.About.{About}
 use Rattle.dynamo_record.specs.Names.{missing_text}
-use Rattle.dynamo_record.specs.Fields.{ConformEach, SameData, Defaults, read_nth}
+use Rattle.dynamo_record.specs.Fields.{ConformEach, SameData, AsMany, Defaults, read_nth}
 
 abbrev pub Shapes : Type 0
 Shapes = List Shape
@@ -31,6 +32,10 @@ abbrev pub FrontAlike : {L : Type 0} → (Shapes → Shapes) → (L → Data →
 FrontAlike {L} shapes told same = (v w : L) (ss : Shapes) (ds es : Data) → ConformEach (shapes ss) (told v ds) → ConformEach (shapes ss) (told w es) → same v w
     → (ConformEach ss ds → ConformEach ss es → SameData ds es) → SameData (told v ds) (told w es)
 
+-- as many data are told as there are shapes, where so many follow
+abbrev pub FrontMany : {L : Type 0} → (Shapes → Shapes) → (L → Data → Data) → Type 0
+FrontMany {L} shapes told = (v : L) (ss : Shapes) (ds : Data) → AsMany ss ds → AsMany (shapes ss) (told v ds)
+
 -- What is known of a list of fields: how many they are; their shapes, defaults and data in front of others; when two values are
 -- the same, field by field; and that they are so exactly where they tell the same data.
 pub record AboutList (L : Type 0) : Type 1 where
@@ -41,8 +46,9 @@ pub record AboutList (L : Type 0) : Type 1 where
   pub same : L → L → Type 0
   pub told_by_value : FrontTold shapes told same
   pub told_alike : FrontAlike shapes told same
+  pub many : FrontMany shapes told
 
-abbrev pub about_field : {V L : Type 0} → (L → V) → About V → Option Datum → AboutList L
+abbrev pub about_field : {V L : Type 0} → (L → V) → About V → Absence → AboutList L
 about_field value a default = record {
   count = 1;
   shapes = λ ss. a.shape ∷ ss;
@@ -51,6 +57,7 @@ about_field value a default = record {
   same = λ f g. a.same (value f) (value g);
   told_by_value = λ f g ss ds es c d h. (a.told_by_value (value f) (value g) c.0 d.0 h.0, c.1, d.1, h.1);
   told_alike = λ f g ss ds es c d h others. (a.told_alike (value f) (value g) c.0 d.0 h, others c.1 d.1);
+  many = λ f ss ds m. m;
 }
 
 module _ {L R : Type 0} (l : AboutList L) (r : AboutList R) where
@@ -81,6 +88,7 @@ module _ {L R : Type 0} (l : AboutList L) (r : AboutList R) where
     same = both_same;
     told_by_value = both_by_value;
     told_alike = both_alike;
+    many = λ p ss ds m. l.many p.0 (r.shapes ss) (r.told p.1 ds) (r.many p.1 ss ds m);
   }
 
 -- ---- what is read

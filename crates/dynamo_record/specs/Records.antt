@@ -14,10 +14,12 @@ use Rattle.dynamo_shape.specs.Same.{Same}
 use Rattle.dynamo_shape.specs.Shape as shape
 use Rattle.dynamo_shape.specs.Shape.{Shape, FieldShapes}
 use Rattle.dynamo_types.specs.About.{About}
-use Rattle.dynamo_record.specs.Fields.{field_shapes, named_fields}
+use Rattle.dynamo_record.specs.Fields.{AsMany, field_shapes, named_fields}
 use Rattle.dynamo_record.specs.Listed.{AboutList, IfRead}
 use Rattle.dynamo_record.specs.Names.{Names, differ}
 use Rattle.dynamo_record.specs.Told.{struct_told, struct_alike}
+use Rattle.dynamo_record.specs.Apart.{names_differ}
+use Rattle.dynamo_shape.proofs.FieldsByName.{NamesDiffer}
 
 -- The name of a struct, those of its fields in order, its fields, and what is known of these.
 pub record AboutRecord (V L : Type 0) : Type 1 where
@@ -41,7 +43,7 @@ module _ {V L : Type 0} (a : AboutRecord V L) where
   record_shape = shape.struct a.name record_fields
 
   abbrev pub record_told : V → Fields
-  record_told v = named_fields a.names (a.list.told (a.parts v) [])
+  record_told v = named_fields a.names (a.list.defaults []) (a.list.told (a.parts v) [])
 
   -- the struct of its name, and of its fields under their names
   abbrev pub record_tells : V → Datum
@@ -66,18 +68,24 @@ module _ {V L : Type 0} (a : AboutRecord V L) where
   abbrev pub FromParts : Parts → Result V Fault → Type 0
   FromParts p r = RecordAnswers (into (datum.struct a.name) (fields_of record_fields (fields_in_order record_fields) (read_field record_fields) p)) r
 
-  abbrev pub about_record : About V
-  about_record = record {
-    shape = record_shape;
-    tells = record_tells;
-    same = record_same;
-    told_by_value = struct_told a.name a.names (a.list.shapes []) (a.list.defaults []) (λ v. a.list.told (a.parts v) []) record_same (λ v w c d h. (a.list.told_by_value (a.parts v) (a.parts w) [] [] [] c d h).0);
-    told_alike = struct_alike a.name a.names (a.list.shapes []) (a.list.defaults []) (λ v. a.list.told (a.parts v) []) record_same (λ v w c d h. a.list.told_alike (a.parts v) (a.parts w) [] [] [] c d h (λ _ _. tt));
-  }
-
   -- No two fields have one name, and each has one.
   abbrev pub AreNamed : Type 0
   AreNamed = (differ a.names ≡ true) × (length a.names ≡ length (a.list.shapes []))
+
+  pub names_apart : AreNamed → NamesDiffer record_fields
+  names_apart named = names_differ a.names (a.list.shapes []) (a.list.defaults []) named.0 named.1
+
+  pub each_many : (v : V) → AsMany (a.list.shapes []) (a.list.told (a.parts v) [])
+  each_many v = a.list.many (a.parts v) [] [] tt
+
+  abbrev pub about_record : AreNamed → About V
+  about_record named = record {
+    shape = record_shape;
+    tells = record_tells;
+    same = record_same;
+    told_by_value = struct_told a.name a.names (a.list.shapes []) (a.list.defaults []) (λ v. a.list.told (a.parts v) []) record_same (names_apart named) each_many (λ v w c d h. (a.list.told_by_value (a.parts v) (a.parts w) [] [] [] c d h).0);
+    told_alike = struct_alike a.name a.names (a.list.shapes []) (a.list.defaults []) (λ v. a.list.told (a.parts v) []) record_same (names_apart named) each_many (λ v w c d h. a.list.told_alike (a.parts v) (a.parts w) [] [] [] c d h (λ _ _. tt));
+  }
 
 -- a list of fields as long as that of the description
 abbrev pub AsLong : {V L : Type 0} → AboutRecord V L → AboutList L → Type 0

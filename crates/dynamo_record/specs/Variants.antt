@@ -46,14 +46,15 @@ content_at (suc i) (c ∷ cs) = content_at i cs
 
 -- ---- what one variant holds
 
--- What is known of it: its shape, what a variant tells that holds it, and when two are the same.
+-- What is known of it: its shape, what a variant tells that holds it, and when two are the same; where it is fit.
 pub record AboutContent (C : Type 0) : Type 1 where
   pub shape : Content
   pub told : Variant → C → Datum
   pub same : C → C → Type 0
   pub told_index : (v : Variant) (x : C) → index_of (told v x) ≡ v.index
-  pub told_by_value : (v : Variant) (x y : C) → conforms_content shape v (told v x) → conforms_content shape v (told v y) → Same (told v x) (told v y) → same x y
-  pub told_alike : (v : Variant) (x y : C) → conforms_content shape v (told v x) → conforms_content shape v (told v y) → same x y → Same (told v x) (told v y)
+  pub fit : Type 0
+  pub told_by_value : fit → (v : Variant) (x y : C) → conforms_content shape v (told v x) → conforms_content shape v (told v y) → Same (told v x) (told v y) → same x y
+  pub told_alike : fit → (v : Variant) (x y : C) → conforms_content shape v (told v x) → conforms_content shape v (told v y) → same x y → Same (told v x) (told v y)
 
 -- what may be answered on the content of a variant
 abbrev pub ReadsInside : {C : Type 0} → Content → (Variant → C → Datum) → Variant → Option Source → Result C Fault → Type 0
@@ -94,8 +95,9 @@ pub record AboutVariants (L : Type 0) : Type 1 where
   pub contents : Contents → Contents
   pub told : Told L
   pub same : L → L → Type 0
-  pub told_by_value : OneTold contents told same
-  pub told_alike : OneAlike contents told same
+  pub fit : Type 0
+  pub told_by_value : fit → OneTold contents told same
+  pub told_alike : fit → OneAlike contents told same
   pub within : IsWithin count told
   pub behind : ConformsBehind count contents
   pub read_behind : ReadAtBehind count contents
@@ -120,11 +122,11 @@ module _ {C : Type 0} (a : AboutContent C) where
   pub first_conforms : (name : Text) (ns : Names) (i : ℕ) (cs : Contents) (x : C) → ConformsToOne name ns i (one_contents cs) (one_told name ns i x) → conforms_content a.shape (tag name ns i) (one_told name ns i x)
   first_conforms name ns i cs x h = in_first name (first_name (names_from i ns)) i a.shape (variants_of (names_from (suc i) ns) cs) (one_told name ns i x) (a.told_index (tag name ns i) x) h
 
-  pub one_by_value : OneTold one_contents one_told a.same
-  one_by_value name ns i cs v w c d h = a.told_by_value (tag name ns i) v w (first_conforms name ns i cs v c) (first_conforms name ns i cs w d) h
+  pub one_by_value : a.fit → OneTold one_contents one_told a.same
+  one_by_value fit name ns i cs v w c d h = a.told_by_value fit (tag name ns i) v w (first_conforms name ns i cs v c) (first_conforms name ns i cs w d) h
 
-  pub one_alike : OneAlike one_contents one_told a.same
-  one_alike name ns i cs v w c d h = a.told_alike (tag name ns i) v w (first_conforms name ns i cs v c) (first_conforms name ns i cs w d) h
+  pub one_alike : a.fit → OneAlike one_contents one_told a.same
+  one_alike fit name ns i cs v w c d h = a.told_alike fit (tag name ns i) v w (first_conforms name ns i cs v c) (first_conforms name ns i cs w d) h
 
   pub one_within : IsWithin 1 one_told
   one_within name ns i v =
@@ -152,6 +154,7 @@ module _ {C : Type 0} (a : AboutContent C) where
     contents = one_contents;
     told = one_told;
     same = a.same;
+    fit = a.fit;
     told_by_value = one_by_value;
     told_alike = one_alike;
     within = one_within;
@@ -188,17 +191,17 @@ module _ {L R : Type 0} (l : AboutVariants L) (r : AboutVariants R) where
   pub right_conforms : (name : Text) (ns : Names) (i : ℕ) (cs : Contents) (w : R) → ConformsToOne name ns i (choice_contents cs) (r.told name ns (i + l.count) w) → ConformsToOne name ns (i + l.count) (r.contents cs) (r.told name ns (i + l.count) w)
   right_conforms name ns i cs w h = l.behind name ns i (r.contents cs) (r.told name ns (i + l.count) w) (r.within name ns (i + l.count) w).0 h
 
-  pub choice_by_value : OneTold choice_contents choice_told choice_same
-  choice_by_value name ns i cs (Left v) (Left w) c d h = l.told_by_value name ns i (r.contents cs) v w c d h
-  choice_by_value name ns i cs (Left v) (Right w) c d h = absurd (not_same name ns i v w (same_index (l.told name ns i v) (r.told name ns (i + l.count) w) h))
-  choice_by_value name ns i cs (Right v) (Left w) c d h = absurd (not_same name ns i w v (sym (same_index (r.told name ns (i + l.count) v) (l.told name ns i w) h)))
-  choice_by_value name ns i cs (Right v) (Right w) c d h = r.told_by_value name ns (i + l.count) cs v w (right_conforms name ns i cs v c) (right_conforms name ns i cs w d) h
+  pub choice_by_value : l.fit × r.fit → OneTold choice_contents choice_told choice_same
+  choice_by_value fit name ns i cs (Left v) (Left w) c d h = l.told_by_value fit.0 name ns i (r.contents cs) v w c d h
+  choice_by_value fit name ns i cs (Left v) (Right w) c d h = absurd (not_same name ns i v w (same_index (l.told name ns i v) (r.told name ns (i + l.count) w) h))
+  choice_by_value fit name ns i cs (Right v) (Left w) c d h = absurd (not_same name ns i w v (sym (same_index (r.told name ns (i + l.count) v) (l.told name ns i w) h)))
+  choice_by_value fit name ns i cs (Right v) (Right w) c d h = r.told_by_value fit.1 name ns (i + l.count) cs v w (right_conforms name ns i cs v c) (right_conforms name ns i cs w d) h
 
-  pub choice_alike : OneAlike choice_contents choice_told choice_same
-  choice_alike name ns i cs (Left v) (Left w) c d h = l.told_alike name ns i (r.contents cs) v w c d h
-  choice_alike name ns i cs (Left v) (Right w) c d h = absurd h
-  choice_alike name ns i cs (Right v) (Left w) c d h = absurd h
-  choice_alike name ns i cs (Right v) (Right w) c d h = r.told_alike name ns (i + l.count) cs v w (right_conforms name ns i cs v c) (right_conforms name ns i cs w d) h
+  pub choice_alike : l.fit × r.fit → OneAlike choice_contents choice_told choice_same
+  choice_alike fit name ns i cs (Left v) (Left w) c d h = l.told_alike fit.0 name ns i (r.contents cs) v w c d h
+  choice_alike fit name ns i cs (Left v) (Right w) c d h = absurd h
+  choice_alike fit name ns i cs (Right v) (Left w) c d h = absurd h
+  choice_alike fit name ns i cs (Right v) (Right w) c d h = r.told_alike fit.1 name ns (i + l.count) cs v w (right_conforms name ns i cs v c) (right_conforms name ns i cs w d) h
 
   pub choice_within : IsWithin (l.count + r.count) choice_told
   choice_within name ns i (Left v) =
@@ -231,6 +234,7 @@ module _ {L R : Type 0} (l : AboutVariants L) (r : AboutVariants R) where
     contents = choice_contents;
     told = choice_told;
     same = choice_same;
+    fit = l.fit × r.fit;
     told_by_value = choice_by_value;
     told_alike = choice_alike;
     within = choice_within;

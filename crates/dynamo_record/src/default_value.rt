@@ -1,5 +1,6 @@
 //! Fields with a default: their value if the field is missing.
-ghost use Rattle.std.specs.Prelude.{Some, pos, [], ◌∷◌, false};
+ghost use Rattle.std.specs.Prelude.{pos, [], ◌∷◌, false};
+ghost use Rattle.dynamo_shape.specs.Absence.{read_as};
 ghost use Rattle.dynamo_ser.specs.Datum as datum;
 ghost use Rattle.dynamo_ser.specs.Datum.{Datum};
 ghost use Rattle.dynamo_record.specs.FieldTypes.{IsDefault};
@@ -42,7 +43,7 @@ impl<D: DefaultValue> FieldType for WithDefault<D> {
 
     ghost about = { D.Value.about };
 
-    ghost default = { Some D.told };
+    ghost default = { read_as D.told };
 
     ghost reads_by_shape = { D.Value.reads_by_shape };
 

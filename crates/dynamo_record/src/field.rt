@@ -1,5 +1,4 @@
-ghost use Rattle.std.specs.Prelude.{None, Option};
-ghost use Rattle.dynamo_ser.specs.Datum.{Datum};
+ghost use Rattle.dynamo_shape.specs.Absence.{Absence, required};
 ghost use Rattle.dynamo_shape.specs.Laws.{ReadsByShape};
 ghost use Rattle.dynamo_types.specs.About.{About, IsAbsent};
 
@@ -19,8 +18,8 @@ pub trait FieldType {
     // The shape and the data of the values, as they are stored.
     ghost about: { About Self.Value };
 
-    // The datum of a missing field, if it has one.
-    ghost default: { Option Datum };
+    // What a missing field is read as, and whether the field is left out.
+    ghost default: { Absence };
 
     /// Returns the value of a missing field, or `None` if the field can't be missing.
     ///
@@ -39,7 +38,7 @@ impl<T: Shaped> FieldType for T {
 
     ghost about = { T.about };
 
-    ghost default = { None };
+    ghost default = { required };
 
     ghost reads_by_shape = { T.reads_by_shape };
 

@@ -1,5 +1,5 @@
 //! Lists that are stored as sets.
-ghost use Rattle.std.specs.Prelude.{None, Some};
+ghost use Rattle.dynamo_shape.specs.Absence.{required, read_as};
 ghost use Rattle.dynamo_ser.specs.Symbols.{strings, numbers, blobs};
 ghost use Rattle.dynamo_record.specs.FieldTypes.{about_set, empty_set, set_permitted};
 
@@ -20,7 +20,7 @@ impl<T: Shaped> FieldType for InStringSet<T> {
 
     ghost about = { about_set strings T.about };
 
-    ghost default = { None };
+    ghost default = { required };
 
     ghost reads_by_shape = { set_permitted strings T.about.shape T.about.tells T.reads T.reads_by_shape };
 
@@ -40,7 +40,7 @@ impl<T: Shaped> FieldType for InNumberSet<T> {
 
     ghost about = { about_set numbers T.about };
 
-    ghost default = { None };
+    ghost default = { required };
 
     ghost reads_by_shape = { set_permitted numbers T.about.shape T.about.tells T.reads T.reads_by_shape };
 
@@ -60,7 +60,7 @@ impl<T: Shaped> FieldType for InBinarySet<T> {
 
     ghost about = { about_set blobs T.about };
 
-    ghost default = { None };
+    ghost default = { required };
 
     ghost reads_by_shape = { set_permitted blobs T.about.shape T.about.tells T.reads T.reads_by_shape };
 
@@ -75,7 +75,7 @@ impl<T: Shaped> FieldType for WithDefault<InStringSet<T>> {
 
     ghost about = { about_set strings T.about };
 
-    ghost default = { Some (empty_set strings) };
+    ghost default = { read_as (empty_set strings) };
 
     ghost reads_by_shape = { set_permitted strings T.about.shape T.about.tells T.reads T.reads_by_shape };
 
@@ -90,7 +90,7 @@ impl<T: Shaped> FieldType for WithDefault<InNumberSet<T>> {
 
     ghost about = { about_set numbers T.about };
 
-    ghost default = { Some (empty_set numbers) };
+    ghost default = { read_as (empty_set numbers) };
 
     ghost reads_by_shape = { set_permitted numbers T.about.shape T.about.tells T.reads T.reads_by_shape };
 
@@ -105,7 +105,7 @@ impl<T: Shaped> FieldType for WithDefault<InBinarySet<T>> {
 
     ghost about = { about_set blobs T.about };
 
-    ghost default = { Some (empty_set blobs) };
+    ghost default = { read_as (empty_set blobs) };
 
     ghost reads_by_shape = { set_permitted blobs T.about.shape T.about.tells T.reads T.reads_by_shape };
 

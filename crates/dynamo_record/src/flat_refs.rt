@@ -5,6 +5,8 @@ use dynamo_ser::{ListBuilder, Serializer, StructBuilder};
 impl<A: RefList, B: RefList, C: RefList, D: RefList> RefList for (A, B, C, D) {
     ghost shapes = { λ ss. A.shapes (B.shapes (C.shapes (D.shapes ss))) };
 
+    ghost absences = { λ gs. A.absences (B.absences (C.absences (D.absences gs))) };
+
     ghost told = { λ p ds. A.told p.0 (B.told p.1 (C.told p.2 (D.told p.3 ds))) };
 
     fn write_fields<S: Serializer, Q: StructBuilder<S, Ok = S::Ok, Error = S::Error>>(
@@ -47,6 +49,8 @@ impl<
     H: RefList,
 > RefList for (A, B, C, D, E, F, G, H) {
     ghost shapes = { λ ss. A.shapes (B.shapes (C.shapes (D.shapes (E.shapes (F.shapes (G.shapes (H.shapes ss))))))) };
+
+    ghost absences = { λ gs. A.absences (B.absences (C.absences (D.absences (E.absences (F.absences (G.absences (H.absences gs))))))) };
 
     ghost told = { λ p ds. A.told p.0 (B.told p.1 (C.told p.2 (D.told p.3 (E.told p.4 (F.told p.5 (G.told p.6 (H.told p.7 ds))))))) };
 

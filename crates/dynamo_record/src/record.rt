@@ -89,7 +89,7 @@ use std::alloc::Global;
 /// }
 ///
 /// impl Shaped for City {
-///     ghost about = { about_record ⟦<City as Record>⟧.about };
+///     ghost about = { about_record ⟦<City as Record>⟧.about (refl, refl) };
 ///
 ///     ghost as_told = { refl };
 ///
@@ -187,6 +187,7 @@ fn read_in_order<R: Record, D: Reader>(
 ) -> Result<R, D::Error>
 where
     R::Fields: FieldList,
+    requires { AreNamed (listed R.about R.Fields.about) }
     ensures { Meets D.Error.fault (FromParts (listed R.about R.Fields.about) (in_order (D.elements elements))) result }
 {
     match <R::Fields as FieldList>::read_in_order::<D>(&mut elements, alloc)? {
@@ -251,7 +252,7 @@ pub fn write_record<R: Record, W: RefList, S: Serializer>(
     serializer: S,
     fields: &W,
 ) -> Result<S::Ok, S::Error>
-    ensures { Writes S.Error.fault ⊥ (S.outcome serializer) (datum.struct R.about.name (named_fields R.about.names (W.told fields.now []))) result }
+    ensures { Writes S.Error.fault ⊥ (S.outcome serializer) (datum.struct R.about.name (named_fields R.about.names (W.absences []) (W.told fields.now []))) result }
 {
     let names = R::names();
     let mut builder = serializer.serialize_struct(R::name(), names.len())?;
@@ -261,7 +262,7 @@ pub fn write_record<R: Record, W: RefList, S: Serializer>(
 
 /// Promises that the datum of a struct conforms to its shape. It is the body of `conforms`.
 pub fn record_conforms<R: Record, W: RefList>(fields: &W)
-    ensures { conforms (struct R.about.name (field_shapes R.about.names (W.shapes []) (R.about.list.defaults []))) (datum.struct R.about.name (named_fields R.about.names (W.told fields.now []))) }
+    ensures { conforms (struct R.about.name (field_shapes R.about.names (W.shapes []) (R.about.list.defaults []))) (datum.struct R.about.name (named_fields R.about.names (R.about.list.defaults []) (W.told fields.now []))) }
 {
     fields.conform()
 }

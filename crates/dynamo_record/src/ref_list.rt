@@ -1,6 +1,8 @@
 ghost use Rattle.std.specs.Prelude.{◌∷◌, map};
 ghost use Rattle.dynamo_ser.specs.Symbols.{strings, numbers, blobs};
 ghost use Rattle.dynamo_shape.specs.Shape.{set};
+ghost use Rattle.dynamo_shape.specs.Absence.{required};
+ghost use Rattle.dynamo_record.specs.Fields.{Defaults};
 ghost use Rattle.dynamo_record.specs.FieldTypes.{set_tells};
 ghost use Rattle.dynamo_record.specs.Listed.{Shapes, Data};
 ghost use Rattle.dynamo_record.specs.Refs.{PutsFields, PutsElements, ConformFront};
@@ -15,6 +17,9 @@ pub trait RefList: Sized {
     // The shapes of the fields, before others.
     ghost shapes: { Shapes → Shapes };
 
+    // What it means that they aren't there, before others; so far as it says whether they are written.
+    ghost absences: { Defaults → Defaults };
+
     // The data of the fields, before others.
     ghost told: { Self → Data → Data };
 
@@ -28,7 +33,7 @@ pub trait RefList: Sized {
         names: &'static [&'static str],
         builder: &mut B,
     ) -> Result<&'static [&'static str], S::Error>
-        ensures { PutsFields B.gives (λ ns. map (λ n. n.now) ns.now) builder.old builder.new (map (λ n. n.now) names.now) (told self.now) result };
+        ensures { PutsFields B.gives (λ ns. map (λ n. n.now) ns.now) builder.old builder.new (map (λ n. n.now) names.now) absences (told self.now) result };
 
     /// Writes the fields in order.
     ///
@@ -48,6 +53,8 @@ pub trait RefList: Sized {
 
 impl<'a, T: Shaped> RefList for &'a T {
     ghost shapes = { λ ss. T.about.shape ∷ ss };
+
+    ghost absences = { λ gs. required ∷ gs };
 
     ghost told = { λ value ds. T.about.tells value.now ∷ ds };
 
@@ -75,6 +82,8 @@ impl<'a, T: Shaped> RefList for &'a T {
 
 impl<L: RefList, R: RefList> RefList for (L, R) {
     ghost shapes = { λ ss. L.shapes (R.shapes ss) };
+
+    ghost absences = { λ gs. L.absences (R.absences gs) };
 
     ghost told = { λ p ds. L.told p.0 (R.told p.1 ds) };
 
@@ -104,6 +113,8 @@ impl<L: RefList, R: RefList> RefList for (L, R) {
 impl<'a, T: Shaped> RefList for StringSet<&'a Vec<T>> {
     ghost shapes = { λ ss. set strings T.about.shape ∷ ss };
 
+    ghost absences = { λ gs. required ∷ gs };
+
     ghost told = { λ value ds. set_tells strings T.about.tells value.0.now ∷ ds };
 
     fn write_fields<S: Serializer, B: StructBuilder<S, Ok = S::Ok, Error = S::Error>>(
@@ -131,6 +142,8 @@ impl<'a, T: Shaped> RefList for StringSet<&'a Vec<T>> {
 impl<'a, T: Shaped> RefList for NumberSet<&'a Vec<T>> {
     ghost shapes = { λ ss. set numbers T.about.shape ∷ ss };
 
+    ghost absences = { λ gs. required ∷ gs };
+
     ghost told = { λ value ds. set_tells numbers T.about.tells value.0.now ∷ ds };
 
     fn write_fields<S: Serializer, B: StructBuilder<S, Ok = S::Ok, Error = S::Error>>(
@@ -157,6 +170,8 @@ impl<'a, T: Shaped> RefList for NumberSet<&'a Vec<T>> {
 
 impl<'a, T: Shaped> RefList for BinarySet<&'a Vec<T>> {
     ghost shapes = { λ ss. set blobs T.about.shape ∷ ss };
+
+    ghost absences = { λ gs. required ∷ gs };
 
     ghost told = { λ value ds. set_tells blobs T.about.tells value.0.now ∷ ds };
 

@@ -81,7 +81,7 @@ pub fn write_struct<T: Enumeration, N: NamedFields, W: RefList, S: Serializer>(
     index: u32,
     fields: &W,
 ) -> Result<S::Ok, S::Error>
-    ensures { S.outcome serializer (datum.struct_variant (tag T.about.name T.about.names index) (named_fields N.names (W.told fields.now []))) result }
+    ensures { S.outcome serializer (datum.struct_variant (tag T.about.name T.about.names index) (named_fields N.names (W.absences []) (W.told fields.now []))) result }
 {
     let variant = name_at(T::names(), index as usize);
     let names = N::names();
@@ -115,7 +115,7 @@ pub fn several_conform<T: Enumeration, W: RefList>(index: u32, fields: &W)
 /// Promises that the struct variant with this index conforms to the enum's shape.
 pub fn named_conform<T: Enumeration, N: NamedFields, W: RefList>(index: u32, fields: &W)
     requires { content_at index (T.about.list.contents []) ≡ Some (shape.named (field_shapes N.names (W.shapes []) (N.Fields.about.defaults []))) }
-    ensures { conforms (enum_shape T.about) (datum.struct_variant (tag T.about.name T.about.names index) (named_fields N.names (W.told fields.now []))) }
+    ensures { conforms (enum_shape T.about) (datum.struct_variant (tag T.about.name T.about.names index) (named_fields N.names (N.Fields.about.defaults []) (W.told fields.now []))) }
 {
     fields.conform();
 }

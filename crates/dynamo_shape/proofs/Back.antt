@@ -4,24 +4,26 @@ use Rattle.std.specs.Prelude.{bytes_eq, encode_utf8}
 use Rattle.std.specs.Fmt.{signed_decimal}
 use Rattle.dynamo_de.proofs.Decimals.{parse_back}
 use Rattle.dynamo_shape.proofs.Keys.{key_back}
+use Rattle.dynamo_shape.proofs.Flat.{shape_clear}
+use Rattle.dynamo_shape.proofs.LeftOut.{left_back, default_back}
 use Rattle.dynamo_shape.proofs.Sets.{set_back}
 use Rattle.dynamo_shape.proofs.Maps.{map_back, pairs_back, pairs_weaker}
-use Rattle.dynamo_shape.proofs.Structs.{FieldsBack, no_fields_back, field_back, all_named}
+use Rattle.dynamo_shape.proofs.Structs.{FieldsBack, no_fields_back, field_back, all_named, behind_tag}
 use Rattle.dynamo_shape.proofs.Found.{or_false, same_bytes}
 use Rattle.dynamo_shape.proofs.Results.{chars-encode}
 use Rattle.dynamo_value.specs.Av as av
 use Rattle.dynamo_ser.specs.Datum as datum
 use Rattle.dynamo_de.specs.Answer.{Answer, value}
-use Rattle.dynamo_de.specs.Source.{attribute, Text, Source, values_of}
+use Rattle.dynamo_de.specs.Source.{attribute, Text, Source, values_of, entries_of}
 use Rattle.dynamo_ser.specs.Datum.{Variant, Datum, Fields}
-use Rattle.dynamo_shape.specs.Clear.{is_variant, NearlyClear, NearlyClearAll, NearlyClearFields, NearlyClearContent, NearlyClearVariants}
-use Rattle.dynamo_shape.specs.Conforms.{AllElements, conforms, conform_each, conform_fields, conforms_content, conforms_variant}
+use Rattle.dynamo_shape.specs.Clear.{is_variant, is_tagged, is_field, NearlyClear, NearlyClearAll, NearlyClearFields, NearlyClearContent, NearlyClearVariants, NearlyClearTagged}
+use Rattle.dynamo_shape.specs.Conforms.{AllElements, conforms, conform_each, conform_fields, conforms_content, conforms_variant, conforms_tagged, tagged_struct}
 use Rattle.dynamo_shape.specs.Kept.{is_null, kept, kept_elements}
-use Rattle.dynamo_shape.specs.Read.{read_list, read_each, read, read_one_of, read_inside}
+use Rattle.dynamo_shape.specs.Read.{read_list, read_each, read, read_one_of, read_inside, read_tag, read_tagged}
 use Rattle.dynamo_shape.specs.ReadsBack.{ReadsBack}
 use Rattle.dynamo_shape.specs.Same.{Same, SameElements}
-use Rattle.dynamo_shape.specs.Shape.{Shape, boolean, char, string, bytes, unit, integer, unit_struct, option, newtype, list, set, tuple, tuple_struct, map, struct, enum, Shapes, no_shapes, shape, FieldShapes, no_field_shapes, field_shape, Content, nothing, one, several, named, Variants, no_variants, variant}
-use Rattle.dynamo_value.specs.Av.{Av, N, S, B, Boolean, Null, L, M, members_of}
+use Rattle.dynamo_shape.specs.Shape.{Shape, boolean, char, string, bytes, unit, integer, unit_struct, option, newtype, list, set, tuple, tuple_struct, map, struct, enum, tagged, Shapes, no_shapes, shape, FieldShapes, no_field_shapes, field_shape, Content, nothing, one, several, named, Variants, no_variants, variant, Tagged, no_tagged, tagged_variant}
+use Rattle.dynamo_value.specs.Av.{Av, N, S, B, Boolean, Null, L, M, Members, members_of}
 use Rattle.dynamo_write.specs.Collect.{collect}
 use Rattle.dynamo_write.specs.Set.{set_kind}
 use Rattle.dynamo_write.specs.Written.{one_member, written, written_elements}
@@ -117,6 +119,51 @@ several_back ss v ds t = (datum.tuple_variant v t.1, (t.1, refl, t.4), inr (L t.
 named_back : (fs : FieldShapes) (v : Variant) (gs : Fields) → NearlyClearFields fs → FieldsBack fs gs → ContentBack (named fs) v (datum.struct_variant v gs)
 named_back fs v gs n t = let r = all_named fs gs n t in (datum.struct_variant v r.1, (r.1, refl, r.4), inr (M (members_of (collect r.0)), rw r.2 refl, rw r.3 refl))
 
+-- ---- tagged enums
+
+-- written as a map, whose tag is the name; and read by that name
+record IsTaggedBack (vs : Tagged) (tag : Text) (d : Datum) (t : Text) (ms : Members) (e : Datum) : Type 0 where
+  apart : (u : Text) → is_tagged vs u ≡ false → bytes_eq t u ≡ false
+  wrote : written d ≡ Ok (M ms)
+  named : read_tag tag (entries_of ms) ≡ value t
+  reads : read_tagged vs tag t (entries_of ms) ≡ value e
+  alike : Same (kept d) e
+
+abbrev TaggedBack : Tagged → Text → Datum → Type 0
+TaggedBack vs tag d = (t : Text) × (ms : Members) × (e : Datum) × IsTaggedBack vs tag d t ms e
+
+first_tagged : (v name : Text) (fs : FieldShapes) (vs : Tagged) (tag : Text) (gs : Fields) → NearlyClearFields fs → is_field fs tag ≡ false → FieldsBack fs gs → TaggedBack (tagged_variant v name fs vs) tag (tagged_struct tag v name gs)
+first_tagged v name fs vs tag gs n m t =
+    let r = behind_tag fs tag v gs n m t in (
+      v,
+      r.0,
+      tagged_struct tag v name r.1,
+      record {
+        apart = λ u k. (or_false (bytes_eq v u) (is_tagged vs u) k).0;
+        wrote = r.2;
+        named = r.3;
+        reads = rw (same_bytes v, r.4) refl;
+        alike = (datum.field tag (datum.string v) r.1, refl, (datum.string v, r.1, refl, refl, r.5));
+      },
+    )
+
+later_tagged : (v name : Text) (fs : FieldShapes) (vs : Tagged) (tag : Text) (d : Datum) → is_tagged vs v ≡ false → TaggedBack vs tag d → TaggedBack (tagged_variant v name fs vs) tag d
+later_tagged v name fs vs tag d n (t, ms, e, h) = (
+  t,
+  ms,
+  e,
+  record {
+    apart = λ u k. h.apart u (or_false (bytes_eq v u) (is_tagged vs u) k).1;
+    wrote = h.wrote;
+    named = h.named;
+    reads = rw (h.apart v n) h.reads;
+    alike = h.alike;
+  },
+)
+
+tagged_back : (tag : Text) (vs : Tagged) (d : Datum) → TaggedBack vs tag d → ReadsBack (tagged tag vs) d
+tagged_back tag vs d (t, ms, e, h) = (M ms, e, h.wrote, rw h.named h.reads, h.alike)
+
 -- ---- every shape
 
 moved : (s : Shape) (d e : Datum) → d ≡ e → ReadsBack s e → ReadsBack s d
@@ -146,6 +193,7 @@ mutual
   back (map k s) d n c = moved (map k s) _ _ c.1 (map_back k s c.0 c.3 (pairs_back k s c.0 (pairs_weaker _ _ (λ l e h. (key_back k l n.0 h.0, back s e n.1 h.1)) c.0 c.2)))
   back (struct name fs) d n c = moved (struct name fs) _ _ c.1 (struct_back name fs c.0 n (back_fields fs c.0 n c.2))
   back (enum name vs) d n c = enum_back name vs d (back_variants vs name 0 d n c)
+  back (tagged tag vs) d n c = tagged_back tag vs d (back_tagged vs tag d n c)
 
   back_each : (ss : Shapes) (ds : datum.Elements) → NearlyClearAll ss → conform_each ss ds → ItemsBack (read_each ss) ds
   back_each no_shapes ds n c = subst (ItemsBack (read_each no_shapes)) (sym c) (av.no_elements, datum.no_elements, refl, refl, refl)
@@ -156,7 +204,11 @@ mutual
 
   back_fields : (fs : FieldShapes) (gs : Fields) → NearlyClearFields fs → conform_fields fs gs → FieldsBack fs gs
   back_fields no_field_shapes gs n c = subst (FieldsBack no_field_shapes) (sym c) no_fields_back
-  back_fields (field_shape name s default fs) gs n c = subst (FieldsBack (field_shape name s default fs)) (sym c.2) (field_back name s default fs c.0 c.1 (back s c.0 n.1 c.3) (back_fields fs c.1 n.2 c.4))
+  back_fields (field_shape name s default fs) gs n c =
+      let clear = shape_clear s default n.1 in
+      let h = back s c.0 clear c.3 in
+      let same = left_back s default c.0 h.1 n.1 c.3 h.4 in
+      subst (FieldsBack (field_shape name s default fs)) (sym c.2) (field_back name s default fs c.0 c.1 n.0 h same (default_back s default c.0 n.1) (back_fields fs c.1 n.2 c.4))
 
   back_content : (c : Content) (v : Variant) (d : Datum) → NearlyClearContent c → conforms_content c v d → ContentBack c v d
   back_content nothing v d n c = moved_content nothing v _ _ c (datum.unit_variant v, refl, inl (refl, refl))
@@ -169,4 +221,11 @@ mutual
   back_variants (variant v k vs) name i d n c = elim c [
     | inl x ↦ first_variant v k vs name i d (back_content k (record { enum = name; index = i; name = v }) d n.1 x)
     | inr y ↦ later_variant v k vs name i d n.0 (back_variants vs name (suc i) d n.2 y)
+  ]
+
+  back_tagged : (vs : Tagged) (tag : Text) (d : Datum) → NearlyClearTagged tag vs → conforms_tagged tag vs d → TaggedBack vs tag d
+  back_tagged no_tagged tag d n c = absurd c
+  back_tagged (tagged_variant v name fs vs) tag d n c = elim c [
+    | inl x ↦ subst (TaggedBack (tagged_variant v name fs vs) tag) (sym x.1) (first_tagged v name fs vs tag x.0 n.2 n.1 (back_fields fs x.0 n.2 x.2))
+    | inr y ↦ later_tagged v name fs vs tag d n.0 (back_tagged vs tag d n.3 y)
   ]

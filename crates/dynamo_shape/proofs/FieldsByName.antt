@@ -11,6 +11,7 @@ use Rattle.dynamo_value.specs.Steps.{◌>>=◌}
 use Rattle.dynamo_de.specs.Fields.{read_fields}
 use Rattle.dynamo_de.specs.Ignored.{ignore}
 use Rattle.dynamo_de.specs.Source.{Source, Text, Entry, attribute}
+use Rattle.dynamo_shape.specs.Absence.{Absence, put_field}
 use Rattle.dynamo_shape.specs.Clear.{is_field}
 use Rattle.dynamo_shape.specs.Read.{read, into, read_field, read_each_entry, last_of, missing, fields_among, fields_by_name}
 use Rattle.dynamo_shape.specs.Shape.{Shape, FieldShapes, no_field_shapes, field_shape}
@@ -61,7 +62,7 @@ close no_field_shapes os = answer.value datum.no_fields
 close (field_shape name s default fs) os = do
   d ← value_or (first_slot os) (missing s default)
   gs ← close fs (other_slots os)
-  answer.value (datum.field name d gs)
+  answer.value (put_field name default d gs)
 
 behind_behind : (i : ℕ) (f : Slots → Slots) (os : Slots) → behind i (behind 1 f) os ≡ behind (suc i) f os
 behind_behind zero f os = refl
@@ -75,7 +76,7 @@ module _ {F S : Type 0} (entry : F → S → Av → Answer S) (slots : S → Slo
   Reads i fs named = (t : Text) (u : S) (a : Av) → Both (λ new d. slots new ≡ behind i (fill_named fs t d) (slots u)) (entry (named t) u a) (read_field fs t a)
 
   -- a field: what is read of it is kept in its slot
-  pub known : {A : Type 0} (i : ℕ) (own : Text) (s : Shape) (default : Option Datum) (fs : FieldShapes) (f : F) (others : Text → F) (reads : Source → Answer A) (make : A → Datum) (keep : A → S → S) → IsReadAs s reads make → ((u : S) (a : Av) → entry f u a ≡ into (λ x. keep x u) (reads (attribute a))) → ((x : A) (u : S) → slots (keep x u) ≡ fill_slot i (make x) (slots u)) → Reads (suc i) fs others → Reads i (field_shape own s default fs) (λ t. if bytes_eq t own then f else others t)
+  pub known : {A : Type 0} (i : ℕ) (own : Text) (s : Shape) (default : Absence) (fs : FieldShapes) (f : F) (others : Text → F) (reads : Source → Answer A) (make : A → Datum) (keep : A → S → S) → IsReadAs s reads make → ((u : S) (a : Av) → entry f u a ≡ into (λ x. keep x u) (reads (attribute a))) → ((x : A) (u : S) → slots (keep x u) ≡ fill_slot i (make x) (slots u)) → Reads (suc i) fs others → Reads i (field_shape own s default fs) (λ t. if bytes_eq t own then f else others t)
   unfolding Reads
   known i own s default fs f others reads make keep same takes fills more t u a =
       elim (bytes_eq t own) as (λ b. Both (λ new d. slots new ≡ behind i (λ os. if b then fill d os else behind 1 (fill_named fs t d) os) (slots u)) (entry (if b then f else others t) u a) (if b then read s (attribute a) else read_field fs t a)) [
@@ -130,13 +131,13 @@ after_filled (field_shape own s default fs) t d l os n =
 
 close_none : (fs : FieldShapes) (os : Slots) → close fs (after fs [] os) ≡ close fs os
 close_none no_field_shapes os = refl
-close_none (field_shape name s default fs) os = ap (λ more. value_or (first_slot os) (missing s default) >>= λ d. more >>= λ gs. answer.value (datum.field name d gs)) (close_none fs (other_slots os))
+close_none (field_shape name s default fs) os = ap (λ more. value_or (first_slot os) (missing s default) >>= λ d. more >>= λ gs. answer.value (put_field name default d gs)) (close_none fs (other_slots os))
 
 -- the slots hold the last entry of each name
 close_among : (fs : FieldShapes) (taken : List Text) (l : List (Text × Datum)) → NamesDiffer fs → Unseen fs taken → close fs (after fs l (empty fs)) ≡ fields_among fs taken l
 close_among no_field_shapes taken l n u = refl
 close_among (field_shape name s default fs) taken l n u =
-    rw u.0 (ap (λ more. value_or (last_of name l None) (missing s default) >>= λ d. more >>= λ gs. answer.value (datum.field name d gs)) (close_among fs (name ∷ taken) l n.1 (unseen_more fs taken name n.0 u.1)))
+    rw u.0 (ap (λ more. value_or (last_of name l None) (missing s default) >>= λ d. more >>= λ gs. answer.value (put_field name default d gs)) (close_among fs (name ∷ taken) l n.1 (unseen_more fs taken name n.0 u.1)))
 
 module _ {F S B : Type 0} (entry : F → S → Av → Answer S) (slots : S → Slots) (named : Text → F) (fs : FieldShapes) (finish : S → Answer B) (make : Fields → B) (differ : NamesDiffer fs) (reads : Reads entry slots 0 fs named) (finishes : (u : S) → finish u ≡ into make (close fs (slots u))) where
   abbrev closed : List (Text × Datum) → Slots → Answer B

@@ -1,5 +1,5 @@
 -- At a clear shape nothing is lost.
-use Rattle.std.proofs.Common.{◌≡◌, ℕ, suc, false, List, Result, Ok, Err, Option, Some, None, refl, sym, ap, ◌∙◌, inl, inr}
+use Rattle.std.proofs.Common.{◌≡◌, ℕ, suc, Bool, true, false, cond, List, Result, Ok, Err, Option, Some, None, refl, sym, ap, ◌∙◌, inl, inr}
 use Rattle.dynamo_shape.proofs.Keys.{key_back, units_back}
 use Rattle.dynamo_shape.proofs.Sets.{symbol_kind}
 use Rattle.dynamo_ser.specs.Datum as datum
@@ -7,10 +7,11 @@ use Rattle.dynamo_write.specs.Set as sets
 use Rattle.dynamo_de.specs.Source.{Text}
 use Rattle.dynamo_ser.specs.Datum.{Datum, Pairs, no_pairs, pair, Fields, field, Variant}
 use Rattle.dynamo_ser.specs.Symbols.{SetKind, strings, numbers, blobs, symbol}
-use Rattle.dynamo_shape.specs.Clear.{IsElement, NearlyClear, NearlyClearAll, NearlyClearFields, NearlyClearContent, NearlyClearVariants, NoneNested, NoneNestedAll, NoneNestedFields, NoneNestedContent, NoneNestedVariants, Nullable, Clear}
-use Rattle.dynamo_shape.specs.Conforms.{AllElements, AllPairs, conforms, conform_each, conform_fields, conforms_content, conforms_variant}
+use Rattle.dynamo_shape.specs.Absence.{Absence, required, read_as, left_out, is_left_out}
+use Rattle.dynamo_shape.specs.Clear.{IsElement, AndLeftOut, NearlyClear, NearlyClearAll, NearlyClearFields, NearlyClearContent, NearlyClearVariants, NearlyClearTagged, NoneNested, NoneNestedAll, NoneNestedFields, NoneNestedContent, NoneNestedVariants, NoneNestedTagged, Nullable, Clear}
+use Rattle.dynamo_shape.specs.Conforms.{AllElements, AllPairs, conforms, conform_each, conform_fields, conforms_content, conforms_variant, conforms_tagged, tagged_struct}
 use Rattle.dynamo_shape.specs.Kept.{is_null, kept, kept_elements, kept_pairs, kept_fields, is_written_null}
-use Rattle.dynamo_shape.specs.Shape.{Shape, boolean, char, string, bytes, unit, integer, unit_struct, option, newtype, list, set, tuple, tuple_struct, map, struct, enum, Shapes, no_shapes, shape, FieldShapes, no_field_shapes, field_shape, Content, nothing, one, several, named, Variants, no_variants, variant}
+use Rattle.dynamo_shape.specs.Shape.{Shape, boolean, char, string, bytes, unit, integer, unit_struct, option, newtype, list, set, tuple, tuple_struct, map, struct, enum, tagged, Shapes, no_shapes, shape, FieldShapes, no_field_shapes, field_shape, Content, nothing, one, several, named, Variants, no_variants, variant, Tagged, no_tagged, tagged_variant}
 use Rattle.dynamo_value.specs.Av.{Av, L}
 use Rattle.dynamo_value.specs.Fault.{Fault}
 use Rattle.dynamo_value.specs.Steps.{◌>>=◌}
@@ -43,8 +44,17 @@ variant_null name i (variant v (one s) vs) d c = elim c [ inl x ↦ rw x.1 (some
 variant_null name i (variant v (several ss) vs) d c = elim c [ inl x ↦ rw x.1 (some_null (written_elements x.0) _ (λ a. refl)) | inr y ↦ variant_null name (suc i) vs d y ]
 variant_null name i (variant v (named fs) vs) d c = elim c [ inl x ↦ rw x.1 (some_null (written_fields x.0) _ (λ a. refl)) | inr y ↦ variant_null name (suc i) vs d y ]
 
+tagged_null : (tag : Text) (vs : Tagged) (d : Datum) → conforms_tagged tag vs d → is_written_null (written d) ≡ false
+tagged_null tag no_tagged d c = absurd c
+tagged_null tag (tagged_variant v name fs vs) d c = elim c [ inl x ↦ rw x.1 (some_null (written_fields (field tag (datum.string v) x.0)) _ (λ a. refl)) | inr y ↦ tagged_null tag vs d y ]
+
+pub shape_clear : (s : Shape) (absence : Absence) → AndLeftOut absence s (NearlyClear s) → NearlyClear s
+shape_clear s required n = n
+shape_clear s (read_as d) n = n
+shape_clear s (left_out d) n = n.0
+
 -- only what is nullable writes null
-not_null : (s : Shape) (d : Datum) → NearlyClear s → conforms s d → ¬ (Nullable s) → is_written_null (written d) ≡ false
+pub not_null : (s : Shape) (d : Datum) → NearlyClear s → conforms s d → ¬ (Nullable s) → is_written_null (written d) ≡ false
 not_null boolean d n c h = rw c.1 refl
 not_null char d n c h = rw c.1 refl
 not_null string d n c h = rw c.1 refl
@@ -61,6 +71,7 @@ not_null (tuple_struct name ss) d n c h = rw c.1 (some_null (written_elements c.
 not_null (map k s) d n c h = rw c.1 (some_null (written_pairs c.0) _ (λ a. refl))
 not_null (struct name fs) d n c h = rw c.1 (some_null (written_fields c.0) _ (λ a. refl))
 not_null (enum name vs) d n c h = variant_null name 0 vs d c
+not_null (tagged tag vs) d n c h = tagged_null tag vs d c
 
 flat_all : (s : Shape) → ((d : Datum) → conforms s d → kept d ≡ d) → (ds : datum.Elements) → AllElements (conforms s) ds → kept_elements ds ≡ ds
 flat_all s f datum.no_elements c = refl
@@ -80,6 +91,10 @@ element_flat strings (enum name vs) d n c = (units_back vs name 0 d n c).3
 element_flat numbers (integer k) d n c = moved _ _ c.1 refl
 element_flat blobs bytes d n c = moved _ _ c.1 refl
 element_flat _ _ d n c = absurd n
+
+flat_put : (name : Text) (b : Bool) (d : Datum) (gs : Fields) → kept d ≡ d → kept_fields gs ≡ gs → kept_fields (cond b gs (field name d gs)) ≡ cond b gs (field name d gs)
+flat_put name true d gs p q = q
+flat_put name false d gs p q = λ i. field name (p i) (q i)
 
 mutual
   flat_at : (s : Shape) (d : Datum) → NearlyClear s → NoneNested s → conforms s d → kept d ≡ d
@@ -102,6 +117,7 @@ mutual
   flat_at (map k s) d n m c = moved _ _ c.1 (ap datum.map (flat_map _ (λ l e h. ((key_back k l n.0 h.0).2, flat_at s e n.1 m.1 h.1)) c.0 c.2))
   flat_at (struct name fs) d n m c = moved _ _ c.1 (ap (datum.struct name) (flat_named fs c.0 n m c.2))
   flat_at (enum name vs) d n m c = flat_variant vs name 0 d n m c
+  flat_at (tagged tag vs) d n m c = flat_tagged vs tag d n m c
 
   flat_each : (ss : Shapes) (ds : datum.Elements) → NearlyClearAll ss → NoneNestedAll ss → conform_each ss ds → kept_elements ds ≡ ds
   flat_each no_shapes ds n m c = rw c refl
@@ -109,7 +125,7 @@ mutual
 
   flat_named : (fs : FieldShapes) (gs : Fields) → NearlyClearFields fs → NoneNestedFields fs → conform_fields fs gs → kept_fields gs ≡ gs
   flat_named no_field_shapes gs n m c = rw c refl
-  flat_named (field_shape name s default fs) gs n m c = let p = flat_at s c.0 n.1 m.0 c.3 in let q = flat_named fs c.1 n.2 m.1 c.4 in ap kept_fields c.2 ∙ (λ i. field name (p i) (q i)) ∙ sym c.2
+  flat_named (field_shape name s default fs) gs n m c = let p = flat_at s c.0 (shape_clear s default n.1) m.0 c.3 in let q = flat_named fs c.1 n.2 m.1 c.4 in ap kept_fields c.2 ∙ flat_put name (is_left_out default c.0) c.0 c.1 p q ∙ sym c.2
 
   flat_content : (k : Content) (v : Variant) (d : Datum) → NearlyClearContent k → NoneNestedContent k → conforms_content k v d → kept d ≡ d
   flat_content nothing v d n m c = moved _ _ c refl
@@ -120,6 +136,10 @@ mutual
   flat_variant : (vs : Variants) (name : Text) (i : ℕ) (d : Datum) → NearlyClearVariants vs → NoneNestedVariants vs → conforms_variant name i vs d → kept d ≡ d
   flat_variant no_variants name i d n m c = absurd c
   flat_variant (variant v k vs) name i d n m c = elim c [ inl x ↦ flat_content k _ d n.1 m.0 x | inr y ↦ flat_variant vs name (suc i) d n.2 m.1 y ]
+
+  flat_tagged : (vs : Tagged) (tag : Text) (d : Datum) → NearlyClearTagged tag vs → NoneNestedTagged vs → conforms_tagged tag vs d → kept d ≡ d
+  flat_tagged no_tagged tag d n m c = absurd c
+  flat_tagged (tagged_variant v name fs vs) tag d n m c = elim c [ inl x ↦ moved _ _ x.1 (ap (tagged_struct tag v name) (flat_named fs x.0 n.2 m.0 x.2)) | inr y ↦ flat_tagged vs tag d n.3 m.1 y ]
 
 pub flat_clear : (s : Shape) (d : Datum) → Clear s → conforms s d → kept d ≡ d
 flat_clear s d n c = flat_at s d n.nearly n.none_nested c

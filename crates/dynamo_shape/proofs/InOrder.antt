@@ -1,5 +1,5 @@
 -- Fields that are read by hand, one after another, read as their shapes say.
-use Rattle.std.proofs.Common.{◌≡◌, List, [], ◌∷◌, Option, refl, sym, ◌∙◌, Ok, Err}
+use Rattle.std.proofs.Common.{◌≡◌, List, [], ◌∷◌, refl, sym, ◌∙◌, Ok, Err}
 use Rattle.dynamo_ser.specs.Datum as datum
 use Rattle.dynamo_ser.specs.Datum.{Datum, Fields}
 use Rattle.dynamo_de.specs.Answer as answer
@@ -7,6 +7,7 @@ use Rattle.dynamo_de.specs.Answer.{Answer}
 use Rattle.dynamo_value.specs.Steps.{◌>>=◌}
 use Rattle.dynamo_de.specs.Fields.{read_first}
 use Rattle.dynamo_de.specs.Source.{Source, Text}
+use Rattle.dynamo_shape.specs.Absence.{Absence, put_field}
 use Rattle.dynamo_shape.specs.Read.{into, fields_in_order}
 use Rattle.dynamo_shape.specs.Shape.{Shape, FieldShapes, no_field_shapes, field_shape}
 use Rattle.dynamo_shape.proofs.ByHand.{IsReadAs, into_into}
@@ -20,10 +21,10 @@ unfoldable pub ListsFields : {B : Type 0} → FieldShapes → (List Source → A
 ListsFields fs listed f = (ss : List Source) → listed ss ≡ into f (fields_in_order fs ss)
 
 -- a field, and then the others
-pub first_field : {A B : Type 0} (name : Text) (s : Shape) (default : Option Datum) (fs : FieldShapes) (reads : Source → Answer A) (make : A → Datum) (next : A → List Source → Answer B) (f : Fields → B) → IsReadAs s reads make → ((x : A) → ListsFields fs (next x) (λ gs. f (datum.field name (make x) gs))) → ListsFields (field_shape name s default fs) (λ ss. read_first reads ss next) f
+pub first_field : {A B : Type 0} (name : Text) (s : Shape) (default : Absence) (fs : FieldShapes) (reads : Source → Answer A) (make : A → Datum) (next : A → List Source → Answer B) (f : Fields → B) → IsReadAs s reads make → ((x : A) → ListsFields fs (next x) (λ gs. f (put_field name default (make x) gs))) → ListsFields (field_shape name s default fs) (λ ss. read_first reads ss next) f
 unfolding read_first ListsFields
 first_field name s default fs reads make next f same h [] = refl
-first_field name s default fs reads make next f same h (x ∷ ss) = rw (same x) (made_next make (reads x) (λ y. next y ss) (fields_in_order fs ss) (datum.field name) f (λ y. h y ss))
+first_field name s default fs reads make next f same h (x ∷ ss) = rw (same x) (made_next make (reads x) (λ y. next y ss) (fields_in_order fs ss) (put_field name default) f (λ y. h y ss))
 
 pub no_more_fields : {B : Type 0} (f : Fields → B) → ListsFields no_field_shapes (λ ss. answer.value (f datum.no_fields)) f
 unfolding ListsFields

@@ -14,6 +14,7 @@ pub mod Found
 pub mod InOrder
 pub mod Keys
 pub mod KeysTold
+pub mod LeftOut
 pub mod Lists
 pub mod Maps
 pub mod MapsRead

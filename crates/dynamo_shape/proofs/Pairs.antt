@@ -90,7 +90,11 @@ same_is (datum.unit_variant v) e s h = h
 same_is (datum.newtype_struct name l) e s h = let (a, b) = and_parts (bytes_eq name name) (same_key l l) s in ap (datum.newtype_struct name) (same_is l h.0 b h.2) ∙ sym h.1
 same_is _ e s h = absurd (true≢false (sym s))
 
-self_kind : (k : IntegerKind) → same_kind k k ≡ true
+pub self_bool : (b : Bool) → same_bool b b ≡ true
+self_bool true = refl
+self_bool false = refl
+
+pub self_kind : (k : IntegerKind) → same_kind k k ≡ true
 self_kind datum.i8 = refl
 self_kind datum.i16 = refl
 self_kind datum.i32 = refl
@@ -102,14 +106,14 @@ self_kind datum.u32 = refl
 self_kind datum.u64 = refl
 self_kind datum.u128 = refl
 
-self_number : (n : ℕ) → (n == n) ≡ true
+pub self_number : (n : ℕ) → (n == n) ≡ true
 self_number n = grind (arith, nat_tests)
 
-self_integer : (z : ℤ) → same_integer z z ≡ true
+pub self_integer : (z : ℤ) → same_integer z z ≡ true
 self_integer (pos n) = self_number n
 self_integer (negsuc n) = self_number n
 
-self_variant : (v : Variant) → same_variant v v ≡ true
+pub self_variant : (v : Variant) → same_variant v v ≡ true
 self_variant v = rw (same_bytes v.enum, self_number v.index, same_bytes v.name) refl
 
 -- each value of an answer is one

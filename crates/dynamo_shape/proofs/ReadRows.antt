@@ -1,5 +1,6 @@
 -- Worked rows of reading, by computation.
-use Rattle.std.proofs.Common.{◌≡◌, ℕ, pos, ◌-◌, ◌^◌, true, false, [], ◌∷◌, Some, None, refl}
+use Rattle.std.proofs.Common.{◌≡◌, ℕ, pos, ◌-◌, ◌^◌, true, false, [], ◌∷◌, Ok, refl}
+use Rattle.std.specs.Fmt.{digits}
 use Rattle.std.specs.Prelude.{codes}
 use Rattle.std.specs.Str.{chars}
 use Rattle.dynamo_value.specs.Av as av
@@ -7,8 +8,10 @@ use Rattle.dynamo_ser.specs.Datum as datum
 use Rattle.dynamo_de.specs.Answer.{value, fault, refused}
 use Rattle.dynamo_de.specs.Source.{Text, attribute}
 use Rattle.dynamo_ser.specs.Datum.{Variant, Datum, no_pairs, pair, no_fields, field}
+use Rattle.dynamo_write.specs.Written.{written}
+use Rattle.dynamo_shape.specs.Absence.{required, read_as, left_out}
 use Rattle.dynamo_shape.specs.Read.{read}
-use Rattle.dynamo_shape.specs.Shape.{Shape, boolean, char, string, unit, integer, option, newtype, list, tuple, map, struct, enum, no_shapes, shape, no_field_shapes, field_shape, nothing, one, several, named, no_variants, variant}
+use Rattle.dynamo_shape.specs.Shape.{Shape, boolean, char, string, unit, integer, option, newtype, list, tuple, map, struct, enum, no_shapes, shape, no_field_shapes, field_shape, nothing, one, several, named, no_variants, variant, tagged, no_tagged, tagged_variant}
 use Rattle.dynamo_value.specs.Av.{Av, N, S, Null, Ss, Ns, L, M, no_members, member}
 use Rattle.dynamo_value.specs.Fault.{failed_to_parse_int, failed_to_parse_float, expected_num, expected_map, expected_string, expected_unit, expected_enum, expected_char, expected_seq, expected_single_key}
 use Rattle.dynamo_value.specs.Integer.{i64, i128, u8, u64, u128}
@@ -40,7 +43,7 @@ a_key_of_letters : read bytes_map (attribute (M (member (codes "x") (N (codes "5
 a_key_of_letters = refl
 
 abbrev event : Shape
-event = enum (codes "Event") (variant (codes "Unit") nothing (variant (codes "Newtype") (one (integer u8)) (variant (codes "Tuple") (several (shape (integer u8) (shape (integer u8) no_shapes))) (variant (codes "Structy") (named (field_shape (codes "one") (integer u8) None (field_shape (codes "two") (integer u8) None no_field_shapes))) no_variants))))
+event = enum (codes "Event") (variant (codes "Unit") nothing (variant (codes "Newtype") (one (integer u8)) (variant (codes "Tuple") (several (shape (integer u8) (shape (integer u8) no_shapes))) (variant (codes "Structy") (named (field_shape (codes "one") (integer u8) required (field_shape (codes "two") (integer u8) required no_field_shapes))) no_variants))))
 
 abbrev event_variant : ℕ → Text → Variant
 event_variant i name = record { enum = codes "Event"; index = i; name = name }
@@ -66,7 +69,7 @@ two_elements_at_least : (read two_bytes (attribute (L (av.element (N (codes "1")
 two_elements_at_least = (refl, refl)
 
 abbrev record_shape : Shape
-record_shape = struct (codes "Struct") (field_shape (codes "id") string None (field_shape (codes "value") (integer u64) None no_field_shapes))
+record_shape = struct (codes "Struct") (field_shape (codes "id") string required (field_shape (codes "value") (integer u64) required no_field_shapes))
 
 abbrev old_item : Av → Av
 old_item a = M (member (codes "aws:rep:updatetime") a (member (codes "id") (S (codes "test-4")) (member (codes "value") (N (codes "42")) no_members)))
@@ -96,7 +99,7 @@ no_newtype_in_a_set : read (list (newtype (codes "Name") string)) (attribute (Ss
 no_newtype_in_a_set = refl
 
 abbrev user : Shape
-user = struct (codes "User") (field_shape (codes "id") string None (field_shape (codes "name") string None (field_shape (codes "age") (integer u8) None no_field_shapes)))
+user = struct (codes "User") (field_shape (codes "id") string required (field_shape (codes "name") string required (field_shape (codes "age") (integer u8) required no_field_shapes)))
 
 forms_of_a_struct : (read (option (integer u8)) (attribute (Null false)) ≡ fault expected_num)
     × (read user (attribute (L (av.element (S (codes "a")) (av.element (S (codes "b")) (av.element (N (codes "7")) av.no_elements))))) ≡ value (datum.struct (codes "User") (field (codes "id") (datum.string (codes "a")) (field (codes "name") (datum.string (codes "b")) (field (codes "age") (byte 7) no_fields)))))
@@ -111,7 +114,7 @@ what_is_missing_or_wrong : (read user (attribute (M (member (codes "id") (S (cod
 what_is_missing_or_wrong = (refl, refl, refl, refl)
 
 abbrev visitor : Shape
-visitor = struct (codes "Visitor") (field_shape (codes "id") string None (field_shape (codes "age") (integer u8) (Some (byte 30)) (field_shape (codes "note") (option string) (Some (datum.some (datum.string (codes "new")))) no_field_shapes)))
+visitor = struct (codes "Visitor") (field_shape (codes "id") string required (field_shape (codes "age") (integer u8) (read_as (byte 30)) (field_shape (codes "note") (option string) (read_as (datum.some (datum.string (codes "new")))) no_field_shapes)))
 
 abbrev visitor_of : Datum → Datum → Datum
 visitor_of age note = datum.struct (codes "Visitor") (field (codes "id") (datum.string (codes "x")) (field (codes "age") age (field (codes "note") note no_fields)))
@@ -138,3 +141,49 @@ a_field_before_a_later_one = refl
 
 an_unknown_attribute_first : read user (attribute (M (member (codes "aa") (Null false) (member (codes "age") (S (codes "1")) (member (codes "id") (S (codes "x")) (member (codes "name") (S (codes "n")) no_members)))))) ≡ fault expected_unit
 an_unknown_attribute_first = refl
+
+-- ---- fields that are left out
+
+abbrev note_shape : Shape
+note_shape = struct (codes "Note") (field_shape (codes "id") string required (field_shape (codes "text") (option string) (left_out datum.none) (field_shape (codes "stars") (integer u8) (left_out (byte 0)) (field_shape (codes "tags") (list string) (left_out (datum.seq datum.no_elements)) no_field_shapes))))
+
+abbrev note_of : datum.Fields → Datum
+note_of fs = datum.struct (codes "Note") (field (codes "id") (datum.string (codes "a")) fs)
+
+-- nothing is there: all are left out; so they are where a default is there
+left_out_fields : (read note_shape (attribute (M (member (codes "id") (S (codes "a")) no_members))) ≡ value (note_of no_fields))
+    × (read note_shape (attribute (M (member (codes "id") (S (codes "a")) (member (codes "stars") (N (codes "0")) (member (codes "tags") (L av.no_elements) (member (codes "text") (Null true) no_members)))))) ≡ value (note_of no_fields))
+    × (read note_shape (attribute (M (member (codes "id") (S (codes "a")) (member (codes "stars") (N (codes "7")) no_members)))) ≡ value (note_of (field (codes "stars") (byte 7) no_fields)))
+    × (read note_shape (attribute (M (member (codes "stars") (N (codes "7")) no_members))) ≡ refused)
+    × (read note_shape (attribute (L (av.element (S (codes "a")) (av.element (Null true) (av.element (N (codes "0")) (av.element (L av.no_elements) av.no_elements)))))) ≡ value (note_of no_fields))
+    × (read note_shape (attribute (L (av.element (S (codes "a")) av.no_elements))) ≡ refused)
+left_out_fields = (refl, refl, refl, refl, refl, refl)
+
+-- what is left out is not written
+written_without : written (note_of (field (codes "stars") (byte 7) no_fields)) ≡ Ok (M (member (codes "id") (S (codes "a")) (member (codes "stars") (N (codes "7")) no_members)))
+unfolding digits
+written_without = refl
+
+-- ---- tagged enums
+
+abbrev move_shape : Shape
+move_shape = tagged (codes "kind") (tagged_variant (codes "Stop") (codes "Move") no_field_shapes (tagged_variant (codes "Turn") (codes "Move") (field_shape (codes "by") (integer u8) required (field_shape (codes "note") (option string) (left_out datum.none) no_field_shapes)) no_tagged))
+
+abbrev turn_by_seven : Datum
+turn_by_seven = datum.struct (codes "Move") (field (codes "kind") (datum.string (codes "Turn")) (field (codes "by") (byte 7) no_fields))
+
+-- the tag may stand behind a field, and what is unknown is ignored; without a tag, or with an unknown name, a refusal; a tag that
+-- is no text; a field that is missing; a variant that holds nothing; a list
+tagged_enums : (read move_shape (attribute (M (member (codes "by") (N (codes "7")) (member (codes "kind") (S (codes "Turn")) no_members)))) ≡ value turn_by_seven)
+    × (read move_shape (attribute (M (member (codes "by") (N (codes "7")) (member (codes "kind") (S (codes "Turn")) (member (codes "on") (S (codes "x")) no_members))))) ≡ value turn_by_seven)
+    × (read move_shape (attribute (M (member (codes "by") (N (codes "7")) no_members))) ≡ refused)
+    × (read move_shape (attribute (M (member (codes "kind") (S (codes "Jump")) no_members))) ≡ refused)
+    × (read move_shape (attribute (M (member (codes "kind") (N (codes "1")) no_members))) ≡ fault expected_string)
+    × (read move_shape (attribute (M (member (codes "kind") (S (codes "Turn")) no_members))) ≡ refused)
+    × (read move_shape (attribute (M (member (codes "by") (N (codes "7")) (member (codes "kind") (S (codes "Stop")) no_members)))) ≡ value (datum.struct (codes "Move") (field (codes "kind") (datum.string (codes "Stop")) no_fields)))
+    × (read move_shape (attribute (L (av.element (S (codes "Stop")) av.no_elements))) ≡ fault expected_map)
+tagged_enums = (refl, refl, refl, refl, refl, refl, refl, refl)
+
+tagged_written : written turn_by_seven ≡ Ok (M (member (codes "by") (N (codes "7")) (member (codes "kind") (S (codes "Turn")) no_members)))
+unfolding digits
+tagged_written = refl

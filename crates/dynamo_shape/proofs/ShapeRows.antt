@@ -1,15 +1,18 @@
 -- Worked rows of what conforms, what is kept, and which shapes are clear, by computation.
 use Rattle.std.proofs.Common.{◌≡◌, pos, refl, inl, inr}
 use Rattle.std.specs.Prelude.{codes}
+use Rattle.std.proofs.lemmas.Bool.{true≢false}
+use Rattle.dynamo_shape.proofs.FieldsTold.{told_alone}
 use Rattle.dynamo_ser.specs.Datum as datum
 use Rattle.dynamo_ser.specs.Datum.{Datum}
 use Rattle.dynamo_ser.specs.Symbols.{strings, numbers, symbol}
-use Rattle.dynamo_shape.specs.Clear.{IsKey, IsElement, NearlyClear, NoneNested}
-use Rattle.dynamo_shape.specs.Conforms.{conforms}
+use Rattle.dynamo_shape.specs.Absence.{left_out}
+use Rattle.dynamo_shape.specs.Clear.{IsKey, IsElement, NearlyClear, NearlyClearFields, NoneNested}
+use Rattle.dynamo_shape.specs.Conforms.{conforms, conform_fields}
 use Rattle.dynamo_shape.specs.Kept.{kept}
 use Rattle.dynamo_shape.specs.Same.{Same}
 use Rattle.dynamo_shape.specs.SameKey.{put_pair}
-use Rattle.dynamo_shape.specs.Shape.{boolean, char, string, unit, integer, option, newtype, list, set, enum, nothing, one, no_variants, variant}
+use Rattle.dynamo_shape.specs.Shape.{boolean, char, string, unit, integer, option, newtype, list, set, enum, nothing, one, no_variants, variant, FieldShapes, no_field_shapes, field_shape, tagged, no_tagged, tagged_variant}
 use Rattle.dynamo_value.specs.Integer.{u8, u64}
 
 abbrev seven : Datum
@@ -51,3 +54,25 @@ swapped = datum.pair (datum.char 97) datum.unit (datum.pair seven datum.unit dat
 
 same_in_order : Same (datum.map pairs) (datum.map swapped)
 same_in_order = (swapped, refl, (seven, datum.unit, datum.pair (datum.char 97) datum.unit datum.no_pairs, inr (datum.no_pairs, refl, inl (refl, refl, refl)), refl, refl, (datum.char 97, datum.unit, datum.no_pairs, inl (refl, refl, refl), refl, refl, refl)))
+
+-- a field that may be left out is left out exactly where it is the default
+abbrev text_field : FieldShapes
+text_field = field_shape (codes "text") (option string) (left_out datum.none) no_field_shapes
+
+abbrev note_fields : FieldShapes
+note_fields = field_shape (codes "stars") (integer u8) (left_out (datum.integer u8 (pos 0))) text_field
+
+left_out_conforming : conform_fields note_fields datum.no_fields × conform_fields note_fields (datum.field (codes "stars") seven datum.no_fields) × (conform_fields note_fields (datum.field (codes "stars") (datum.integer u8 (pos 0)) datum.no_fields) → ⊥)
+left_out_conforming = (
+  (datum.integer u8 (pos 0), datum.no_fields, refl, (pos 0, refl, refl), (datum.none, datum.no_fields, refl, inl refl, refl)),
+  (seven, datum.no_fields, refl, (pos 7, refl, refl), (datum.none, datum.no_fields, refl, inl refl, refl)),
+  λ c. true≢false (told_alone (codes "stars") (integer u8) (left_out (datum.integer u8 (pos 0))) text_field refl (datum.integer u8 (pos 0)) datum.no_fields c),
+)
+
+-- an option over what may be null is not left out for none, since some of null is not left out and reads back as none
+clear_fields : NearlyClearFields note_fields × (NearlyClearFields (field_shape (codes "text") (option (option string)) (left_out datum.none) no_field_shapes) → ⊥)
+clear_fields = ((refl, (tt, tt), (refl, (tt, λ h. h), tt)), λ h. h.1.1 tt)
+
+-- a tag is none of the fields of its variants
+tags : NearlyClear (tagged (codes "kind") (tagged_variant (codes "Note") (codes "Note") note_fields no_tagged)) × (NearlyClear (tagged (codes "text") (tagged_variant (codes "Note") (codes "Note") note_fields no_tagged)) → ⊥)
+tags = ((refl, refl, clear_fields.0, tt), λ h. cc)

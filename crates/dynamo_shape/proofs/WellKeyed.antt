@@ -7,18 +7,20 @@ use Rattle.dynamo_shape.proofs.Maps as own
 use Rattle.dynamo_shape.proofs.Maps.{pairs_back, pairs_weaker, distinct_back}
 use Rattle.dynamo_shape.proofs.Keys.{key_back}
 use Rattle.dynamo_shape.proofs.Back.{back}
+use Rattle.dynamo_shape.proofs.Flat.{shape_clear}
 use Rattle.dynamo_shape.proofs.Equivalence.{same_sym, same_trans}
 use Rattle.dynamo_shape.proofs.Same.{Distinct, WellKeyed, WellKeyedAll, WellKeyedPairs, WellKeyedFields, enc_flat, pairs_flat, same_enc}
 use Rattle.dynamo_ser.specs.Datum as datum
 use Rattle.dynamo_de.specs.Source.{Text, attribute}
 use Rattle.dynamo_ser.specs.Datum.{Datum, Pairs, no_pairs, pair, Fields, Variant}
 use Rattle.dynamo_ser.specs.Symbols.{SetKind, strings, numbers, blobs}
-use Rattle.dynamo_shape.specs.Clear.{IsElement, AreUnits, NearlyClear, NearlyClearAll, NearlyClearFields, NearlyClearContent, NearlyClearVariants}
-use Rattle.dynamo_shape.specs.Conforms.{AllElements, AllPairs, conforms, conform_each, conform_fields, conforms_content, conforms_variant}
+use Rattle.dynamo_shape.specs.Absence.{is_left_out}
+use Rattle.dynamo_shape.specs.Clear.{IsElement, AreUnits, NearlyClear, NearlyClearAll, NearlyClearFields, NearlyClearContent, NearlyClearVariants, NearlyClearTagged}
+use Rattle.dynamo_shape.specs.Conforms.{AllElements, AllPairs, conforms, conform_each, conform_fields, conforms_content, conforms_variant, conforms_tagged}
 use Rattle.dynamo_shape.specs.Kept.{kept, kept_elements, kept_pairs, kept_fields, is_written_null}
 use Rattle.dynamo_shape.specs.Read.{read}
 use Rattle.dynamo_shape.specs.Same.{Same}
-use Rattle.dynamo_shape.specs.Shape.{Shape, boolean, char, string, bytes, unit, integer, unit_struct, option, newtype, list, set, tuple, tuple_struct, map, struct, enum, Shapes, no_shapes, shape, FieldShapes, no_field_shapes, field_shape, Content, nothing, one, several, named, Variants, no_variants, variant}
+use Rattle.dynamo_shape.specs.Shape.{Shape, boolean, char, string, bytes, unit, integer, unit_struct, option, newtype, list, set, tuple, tuple_struct, map, struct, enum, tagged, Shapes, no_shapes, shape, FieldShapes, no_field_shapes, field_shape, Content, nothing, one, several, named, Variants, no_variants, variant, Tagged, no_tagged, tagged_variant}
 use Rattle.dynamo_value.specs.Av.{Av}
 use Rattle.dynamo_write.specs.Written.{written}
 
@@ -58,6 +60,10 @@ element_keyed numbers (integer k) d n c = moved _ _ c.1 tt
 element_keyed blobs bytes d n c = moved _ _ c.1 tt
 element_keyed _ _ d n c = absurd n
 
+put_keyed : (name : Text) (b : Bool) (d : Datum) (gs : Fields) → WellKeyed (kept d) → WellKeyedFields (kept_fields gs) → WellKeyedFields (kept_fields (cond b gs (datum.field name d gs)))
+put_keyed name true d gs h k = k
+put_keyed name false d gs h k = (h, k)
+
 mutual
   pub well_keyed : (s : Shape) (d : Datum) → NearlyClear s → conforms s d → WellKeyed (kept d)
   well_keyed boolean d n c = moved _ _ c.1 tt
@@ -81,6 +87,7 @@ mutual
       moved _ _ c.1 (λ es h. subst Distinct (ok_same (sym r.1 ∙ sym (pairs_flat c.0) ∙ h)) (distinct r.0 r.2), pairs_keyed _ (λ l e h. well_keyed s e n.1 h.1) c.0 c.2)
   well_keyed (struct name fs) d n c = moved _ _ c.1 (fields_keyed fs c.0 n c.2)
   well_keyed (enum name vs) d n c = variant_keyed vs name 0 d n c
+  well_keyed (tagged tag vs) d n c = tagged_keyed vs tag d n c
 
   each_keyed : (ss : Shapes) (ds : datum.Elements) → NearlyClearAll ss → conform_each ss ds → WellKeyedAll (kept_elements ds)
   each_keyed no_shapes ds n c = subst (λ x. WellKeyedAll (kept_elements x)) (sym c) tt
@@ -88,7 +95,7 @@ mutual
 
   fields_keyed : (fs : FieldShapes) (gs : Fields) → NearlyClearFields fs → conform_fields fs gs → WellKeyedFields (kept_fields gs)
   fields_keyed no_field_shapes gs n c = subst (λ x. WellKeyedFields (kept_fields x)) (sym c) tt
-  fields_keyed (field_shape name s default fs) gs n c = subst (λ x. WellKeyedFields (kept_fields x)) (sym c.2) (well_keyed s c.0 n.1 c.3, fields_keyed fs c.1 n.2 c.4)
+  fields_keyed (field_shape name s default fs) gs n c = subst (λ x. WellKeyedFields (kept_fields x)) (sym c.2) (put_keyed name (is_left_out default c.0) c.0 c.1 (well_keyed s c.0 (shape_clear s default n.1) c.3) (fields_keyed fs c.1 n.2 c.4))
 
   content_keyed : (k : Content) (v : Variant) (d : Datum) → NearlyClearContent k → conforms_content k v d → WellKeyed (kept d)
   content_keyed nothing v d n c = moved _ _ c tt
@@ -99,6 +106,10 @@ mutual
   variant_keyed : (vs : Variants) (name : Text) (i : ℕ) (d : Datum) → NearlyClearVariants vs → conforms_variant name i vs d → WellKeyed (kept d)
   variant_keyed no_variants name i d n c = absurd c
   variant_keyed (variant v k vs) name i d n c = elim c [ inl x ↦ content_keyed k _ d n.1 x | inr y ↦ variant_keyed vs name (suc i) d n.2 y ]
+
+  tagged_keyed : (vs : Tagged) (tag : Text) (d : Datum) → NearlyClearTagged tag vs → conforms_tagged tag vs d → WellKeyed (kept d)
+  tagged_keyed no_tagged tag d n c = absurd c
+  tagged_keyed (tagged_variant v name fs vs) tag d n c = elim c [ inl x ↦ moved _ _ x.1 (tt, fields_keyed fs x.0 n.2 x.2) | inr y ↦ tagged_keyed vs tag d n.3 y ]
 
 pub writes_same : (s : Shape) (d e : Datum) → NearlyClear s → conforms s d → conforms s e → (written d ≡ written e ↔ Same (kept d) (kept e))
 writes_same s d e n c k =

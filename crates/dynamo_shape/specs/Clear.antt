@@ -1,16 +1,20 @@
 -- Clear shapes: those at which whatever is written reads back as it was. At every depth
 --   no option stands over what may be written as null itself,
---   the names of fields are distinct, and so are those of variants,
+--   the names of fields are distinct, and so are those of variants, and a tag is none of its variants' fields,
+--   a field is left out only for a default that is told from all else that is written at its shape,
 --   map keys are booleans, integers, characters, texts, enums of unit variants, or newtypes over these,
 --   the elements of a set are such as the set holds, none of them under a newtype or an option,
 --   and no newtype has the name that asks for a set.
 -- Without the first condition a shape is nearly clear: then some of null reads back as none.
 use Rattle.std.specs.Prelude.{◌≡◌, Bool, false, None, ◌||◌, bytes_eq, ⊤}
+use Rattle.dynamo_ser.specs.Datum as datum
+use Rattle.dynamo_ser.specs.Datum.{Datum}
 use Rattle.dynamo_ser.specs.Symbols.{SetKind}
 use Rattle.dynamo_write.specs.Set.{set_kind}
 use Rattle.dynamo_de.specs.Source.{Text}
+use Rattle.dynamo_shape.specs.Absence.{Absence, left_out}
 use Rattle.dynamo_shape.specs.Shape as shape
-use Rattle.dynamo_shape.specs.Shape.{Shape, Shapes, FieldShapes, Content, Variants}
+use Rattle.dynamo_shape.specs.Shape.{Shape, Shapes, FieldShapes, Content, Variants, Tagged}
 
 -- written as null, or perhaps so
 abbrev pub Nullable : Shape → Type 0
@@ -27,6 +31,10 @@ is_variant (shape.variant v c vs) t = bytes_eq v t || is_variant vs t
 abbrev pub is_field : FieldShapes → Text → Bool
 is_field shape.no_field_shapes t = false
 is_field (shape.field_shape name s default fs) t = bytes_eq t name || is_field fs t
+
+abbrev pub is_tagged : Tagged → Text → Bool
+is_tagged shape.no_tagged t = false
+is_tagged (shape.tagged_variant v name fs vs) t = bytes_eq v t || is_tagged vs t
 
 -- unit variants of distinct names
 abbrev pub AreUnits : Variants → Type 0
@@ -51,6 +59,26 @@ IsElement SetKind.numbers (shape.integer k) = ⊤
 IsElement SetKind.blobs shape.bytes = ⊤
 IsElement _ _ = ⊥
 
+-- A default of this shape for which a field may be left out. None is one where none alone is written as null.
+abbrev pub MayBeLeftOut : Shape → Datum → Type 0
+MayBeLeftOut shape.boolean (datum.boolean b) = ⊤
+MayBeLeftOut shape.char (datum.char c) = ⊤
+MayBeLeftOut shape.string (datum.string t) = ⊤
+MayBeLeftOut shape.bytes (datum.bytes t) = ⊤
+MayBeLeftOut (shape.integer k) (datum.integer j z) = ⊤
+MayBeLeftOut (shape.option s) datum.none = ¬ (Nullable s)
+MayBeLeftOut (shape.list s) (datum.seq datum.no_elements) = ⊤
+MayBeLeftOut (shape.set k s) (datum.newtype_struct name (datum.seq datum.no_elements)) = ⊤
+MayBeLeftOut (shape.map k s) (datum.map datum.no_pairs) = ⊤
+MayBeLeftOut (shape.enum name vs) (datum.unit_variant v) = ⊤
+MayBeLeftOut (shape.newtype name s) (datum.newtype_struct other d) = MayBeLeftOut s d
+MayBeLeftOut _ _ = ⊥
+
+-- P; and of a field that may be left out that its default is such a one
+abbrev pub AndLeftOut : Absence → Shape → Type 0 → Type 0
+AndLeftOut (left_out d) s P = P × MayBeLeftOut s d
+AndLeftOut _ s P = P
+
 abbrev mutual
   pub NearlyClear : Shape → Type 0
   NearlyClear (shape.option s) = NearlyClear s
@@ -62,6 +90,7 @@ abbrev mutual
   NearlyClear (shape.map k s) = IsKey k × NearlyClear s
   NearlyClear (shape.struct name fs) = NearlyClearFields fs
   NearlyClear (shape.enum name vs) = NearlyClearVariants vs
+  NearlyClear (shape.tagged tag vs) = NearlyClearTagged tag vs
   NearlyClear _ = ⊤
 
   pub NearlyClearAll : Shapes → Type 0
@@ -70,7 +99,7 @@ abbrev mutual
 
   pub NearlyClearFields : FieldShapes → Type 0
   NearlyClearFields shape.no_field_shapes = ⊤
-  NearlyClearFields (shape.field_shape name s default fs) = (is_field fs name ≡ false) × NearlyClear s × NearlyClearFields fs
+  NearlyClearFields (shape.field_shape name s default fs) = (is_field fs name ≡ false) × AndLeftOut default s (NearlyClear s) × NearlyClearFields fs
 
   pub NearlyClearContent : Content → Type 0
   NearlyClearContent shape.nothing = ⊤
@@ -81,6 +110,10 @@ abbrev mutual
   pub NearlyClearVariants : Variants → Type 0
   NearlyClearVariants shape.no_variants = ⊤
   NearlyClearVariants (shape.variant v c vs) = (is_variant vs v ≡ false) × NearlyClearContent c × NearlyClearVariants vs
+
+  pub NearlyClearTagged : Text → Tagged → Type 0
+  NearlyClearTagged tag shape.no_tagged = ⊤
+  NearlyClearTagged tag (shape.tagged_variant v name fs vs) = (is_tagged vs v ≡ false) × (is_field fs tag ≡ false) × NearlyClearFields fs × NearlyClearTagged tag vs
 
 -- no option over what may be null
 abbrev mutual
@@ -94,6 +127,7 @@ abbrev mutual
   NoneNested (shape.map k s) = NoneNested k × NoneNested s
   NoneNested (shape.struct name fs) = NoneNestedFields fs
   NoneNested (shape.enum name vs) = NoneNestedVariants vs
+  NoneNested (shape.tagged tag vs) = NoneNestedTagged vs
   NoneNested _ = ⊤
 
   pub NoneNestedAll : Shapes → Type 0
@@ -113,6 +147,10 @@ abbrev mutual
   pub NoneNestedVariants : Variants → Type 0
   NoneNestedVariants shape.no_variants = ⊤
   NoneNestedVariants (shape.variant v c vs) = NoneNestedContent c × NoneNestedVariants vs
+
+  pub NoneNestedTagged : Tagged → Type 0
+  NoneNestedTagged shape.no_tagged = ⊤
+  NoneNestedTagged (shape.tagged_variant v name fs vs) = NoneNestedFields fs × NoneNestedTagged vs
 
 pub record Clear (s : Shape) : Type 0 where
   pub nearly : NearlyClear s

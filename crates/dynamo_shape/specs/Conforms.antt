@@ -1,5 +1,5 @@
 -- The data that conform to a shape: they are built as the shape says, with its names, the fields of a struct each once and in
--- the shape's order, a variant with its place in the enum, the keys of a map all different, and nothing refuses.
+-- the shape's order but for those that are left out, a variant with its place in the enum, the keys of a map all different, and nothing refuses.
 use Rattle.std.specs.Prelude.{◌≡◌, ◌⊎◌, ℕ, suc, ℤ, Bool, true, List, ⊤}
 use Rattle.std.specs.Str.{is_utf8}
 use Rattle.std.specs.Char.{IsScalar}
@@ -7,7 +7,8 @@ use Rattle.dynamo_ser.specs.Datum as datum
 use Rattle.dynamo_ser.specs.Datum.{Datum, Elements, Pairs, Fields, Variant}
 use Rattle.dynamo_ser.specs.Symbols.{symbol}
 use Rattle.dynamo_de.specs.Number.{fits}
-use Rattle.dynamo_shape.specs.Shape.{Shape, boolean, char, string, bytes, unit, integer, unit_struct, option, newtype, list, set, tuple, tuple_struct, map, struct, enum, Shapes, no_shapes, shape, FieldShapes, no_field_shapes, field_shape, Content, nothing, one, several, named, Variants, no_variants, variant}
+use Rattle.dynamo_shape.specs.Absence.{put_field}
+use Rattle.dynamo_shape.specs.Shape.{Shape, boolean, char, string, bytes, unit, integer, unit_struct, option, newtype, list, set, tuple, tuple_struct, map, struct, enum, tagged, Shapes, no_shapes, shape, FieldShapes, no_field_shapes, field_shape, Content, nothing, one, several, named, Variants, no_variants, variant, Tagged, no_tagged, tagged_variant}
 
 abbrev pub AllElements : (Datum → Type 0) → Elements → Type 0
 AllElements P datum.no_elements = ⊤
@@ -24,6 +25,10 @@ HasKey k (datum.pair l d ps) = (k ≡ l) ⊎ HasKey k ps
 abbrev pub PairsDiffer : Pairs → Type 0
 PairsDiffer datum.no_pairs = ⊤
 PairsDiffer (datum.pair k d ps) = ¬ (HasKey k ps) × PairsDiffer ps
+
+-- a variant's struct, whose first field is the tag with the variant's name
+abbrev pub tagged_struct : List ℕ → List ℕ → List ℕ → Fields → Datum
+tagged_struct tag v name gs = datum.struct name (datum.field tag (datum.string v) gs)
 
 abbrev mutual
   pub conforms : Shape → Datum → Type 0
@@ -43,6 +48,7 @@ abbrev mutual
   conforms (map k s) d = (ps : Pairs) × (d ≡ datum.map ps) × AllPairs (λ l e. conforms k l × conforms s e) ps × PairsDiffer ps
   conforms (struct name fs) d = (gs : Fields) × (d ≡ datum.struct name gs) × conform_fields fs gs
   conforms (enum name vs) d = conforms_variant name 0 vs d
+  conforms (tagged tag vs) d = conforms_tagged tag vs d
 
   pub conform_each : Shapes → Elements → Type 0
   conform_each no_shapes ds = ds ≡ datum.no_elements
@@ -50,7 +56,7 @@ abbrev mutual
 
   pub conform_fields : FieldShapes → Fields → Type 0
   conform_fields no_field_shapes gs = gs ≡ datum.no_fields
-  conform_fields (field_shape name s default fs) gs = (e : Datum) × (hs : Fields) × (gs ≡ datum.field name e hs) × conforms s e × conform_fields fs hs
+  conform_fields (field_shape name s default fs) gs = (e : Datum) × (hs : Fields) × (gs ≡ put_field name default e hs) × conforms s e × conform_fields fs hs
 
   pub conforms_content : Content → Variant → Datum → Type 0
   conforms_content nothing v d = d ≡ datum.unit_variant v
@@ -62,3 +68,8 @@ abbrev mutual
   pub conforms_variant : List ℕ → ℕ → Variants → Datum → Type 0
   conforms_variant name i no_variants d = ⊥
   conforms_variant name i (variant v c vs) d = conforms_content c (datum.variant name i v) d ⊎ conforms_variant name (suc i) vs d
+
+  -- the struct of one of the variants, behind its name
+  pub conforms_tagged : List ℕ → Tagged → Datum → Type 0
+  conforms_tagged tag no_tagged d = ⊥
+  conforms_tagged tag (tagged_variant v name fs vs) d = ((gs : Fields) × (d ≡ tagged_struct tag v name gs) × conform_fields fs gs) ⊎ conforms_tagged tag vs d

@@ -6,6 +6,7 @@ pub use Rattle.dynamo_ser.specs.Symbols
 pub use Rattle.dynamo_de.specs.Answer
 pub use Rattle.dynamo_de.specs.Source
 pub use Rattle.dynamo_write.specs.Written
+pub mod Absence
 pub mod ByValue
 pub mod Clear
 pub mod Conforms

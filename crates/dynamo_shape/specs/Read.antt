@@ -12,8 +12,10 @@ use Rattle.dynamo_de.specs.Reading.{read_content, read_elements, read_entries, r
 use Rattle.dynamo_de.specs.Visitors.{Parts, by_name, in_order}
 use Rattle.dynamo_de.specs.Ignored.{ignore}
 use Rattle.dynamo_de.specs.Source.{Source, Text, Entry, attribute, key_text}
+use Rattle.dynamo_shape.specs.Absence.{Absence, required, read_as, left_out, put_field}
+use Rattle.dynamo_shape.specs.Conforms.{tagged_struct}
 use Rattle.dynamo_shape.specs.SameKey.{put_pair}
-use Rattle.dynamo_shape.specs.Shape.{Shape, boolean, char, string, bytes, unit, integer, unit_struct, option, newtype, list, set, tuple, tuple_struct, map, struct, enum, Shapes, no_shapes, shape, FieldShapes, no_field_shapes, field_shape, Content, nothing, one, several, named, Variants, no_variants, variant}
+use Rattle.dynamo_shape.specs.Shape.{Shape, boolean, char, string, bytes, unit, integer, unit_struct, option, newtype, list, set, tuple, tuple_struct, map, struct, enum, tagged, Shapes, no_shapes, shape, FieldShapes, no_field_shapes, field_shape, Content, nothing, one, several, named, Variants, no_variants, variant, Tagged, no_tagged, tagged_variant}
 
 -- f of what is read
 abbrev pub into : {A B : Type 0} → (A → B) → Answer A → Answer B
@@ -61,17 +63,18 @@ entry_for taken t es = if list_any (λ u. bytes_eq u t) taken then None else las
 
 -- where no entry is left for a field, its default is read; without one an option is none, and any other field is missed by a
 -- message
-abbrev pub missing : Shape → Option Datum → Answer Datum
-missing s (Some d) = value d
-missing (option s) None = value datum.none
-missing _ None = refused
+abbrev pub missing : Shape → Absence → Answer Datum
+missing s (read_as d) = value d
+missing s (left_out d) = value d
+missing (option s) required = value datum.none
+missing _ required = refused
 
 abbrev pub fields_among : FieldShapes → List Text → List (Text × Datum) → Answer Fields
 fields_among no_field_shapes taken es = value datum.no_fields
 fields_among (field_shape name s default fs) taken es = do
   d ← value_or (entry_for taken name es) (missing s default)
   gs ← fields_among fs (name ∷ taken) es
-  value (datum.field name d gs)
+  value (put_field name default d gs)
 
 -- every entry is read before a field is missed
 abbrev pub fields_by_name : FieldShapes → (Text → Av → Answer Datum) → List Entry → Answer Fields
@@ -80,6 +83,17 @@ fields_by_name fs reads es = read_each_entry reads es >>= fields_among fs []
 abbrev pub fields_of : FieldShapes → (List Source → Answer Fields) → (Text → Av → Answer Datum) → Parts → Answer Fields
 fields_of fs listed reads (by_name es) = fields_by_name fs reads es
 fields_of fs listed reads (in_order ss) = listed ss
+
+-- ---- the tag of an enum
+
+-- the name of a variant, where there is one
+abbrev pub read_tag_of : Option Av → Answer Text
+read_tag_of None = refused
+read_tag_of (Some a) = read_string (attribute a)
+
+-- the text under the tag; without one, a message
+abbrev pub read_tag : Text → List Entry → Answer Text
+read_tag tag es = read_tag_of (last_of tag es None)
 
 -- ---- all shapes
 
@@ -101,6 +115,10 @@ abbrev mutual
   read (map k t) s = into datum.map (read_entries s >>= read_pairs (read k) (read t) datum.no_pairs)
   read (struct name fs) s = into (datum.struct name) (read_parts s >>= fields_of fs (fields_in_order fs) (read_field fs))
   read (enum name vs) s = read_variant s >>= λ v. read_one_of vs name 0 v.0 v.1
+  read (tagged tag vs) s = do
+    es ← read_entries s
+    t ← read_tag tag es
+    read_tagged vs tag t es
 
   -- the first elements; fewer are refused, more are let go unread
   pub read_each : Shapes → List Source → Answer Elements
@@ -118,7 +136,7 @@ abbrev mutual
   fields_in_order (field_shape name t default fs) (s ∷ ss) = do
     d ← read t s
     gs ← fields_in_order fs ss
-    value (datum.field name d gs)
+    value (put_field name default d gs)
 
   -- An entry is read by the first field of its name. Any other is ignored, which may meet a fault.
   pub read_field : FieldShapes → Text → Av → Answer Datum
@@ -137,3 +155,9 @@ abbrev mutual
   read_inside (one t) v (Some s) = into (datum.newtype_variant v) (read t s)
   read_inside (several ts) v (Some s) = into (datum.tuple_variant v) (read_elements s >>= read_each ts)
   read_inside (named fs) v (Some s) = into (datum.struct_variant v) (read_entries s >>= fields_by_name fs (read_field fs))
+
+  -- The struct of the first variant of that name is read from the same entries, among which the tag is ignored. An unknown
+  -- name is refused.
+  pub read_tagged : Tagged → Text → Text → List Entry → Answer Datum
+  read_tagged no_tagged tag t es = refused
+  read_tagged (tagged_variant v name fs vs) tag t es = if bytes_eq t v then into (tagged_struct tag v name) (fields_by_name fs (read_field fs) es) else read_tagged vs tag t es

@@ -1,11 +1,12 @@
 -- The shape of a type: what the data look like that its values tell, and by which it reads.
-use Rattle.std.specs.Prelude.{ℕ, List, Option}
+use Rattle.std.specs.Prelude.{ℕ, List}
 use Rattle.dynamo_value.specs.Integer.{IntegerKind}
-use Rattle.dynamo_ser.specs.Datum.{Datum}
 use Rattle.dynamo_ser.specs.Symbols.{SetKind}
+use Rattle.dynamo_shape.specs.Absence.{Absence}
 
 -- One constructor for each form of data; a list's elements, a map's keys and values and an option's content have one shape
 -- each. A set is a list that is written as a set of its kind. The fields of a struct and the variants of an enum are in order.
+-- A tagged enum is written as the struct of its variant, which the first field names, under the tag.
 mutual
   pub data Shape : Type 0 where
     boolean char string bytes unit : Shape
@@ -20,15 +21,16 @@ mutual
     map : Shape → Shape → Shape
     struct : List ℕ → FieldShapes → Shape
     enum : List ℕ → Variants → Shape
+    tagged : List ℕ → Tagged → Shape
 
   pub data Shapes : Type 0 where
     no_shapes : Shapes
     shape : Shape → Shapes → Shapes
 
-  -- a field's name, its shape, and its default: the datum that it reads as where no entry is left for it, if any
+  -- a field's name, its shape, and what it means that it isn't there
   pub data FieldShapes : Type 0 where
     no_field_shapes : FieldShapes
-    field_shape : List ℕ → Shape → Option Datum → FieldShapes → FieldShapes
+    field_shape : List ℕ → Shape → Absence → FieldShapes → FieldShapes
 
   -- what a variant holds: nothing, as a newtype one content, as a tuple several, as a struct named ones
   pub data Content : Type 0 where
@@ -40,3 +42,8 @@ mutual
   pub data Variants : Type 0 where
     no_variants : Variants
     variant : List ℕ → Content → Variants → Variants
+
+  -- a variant's name, and its struct: the struct's name, and its fields behind the tag
+  pub data Tagged : Type 0 where
+    no_tagged : Tagged
+    tagged_variant : List ℕ → List ℕ → FieldShapes → Tagged → Tagged

@@ -10,6 +10,7 @@ use Rattle.dynamo_ser.specs.Options.{option_tells}
 use Rattle.dynamo_de.specs.Answer as answer
 use Rattle.dynamo_shape.specs.ByValue.{SameEach, SameOption}
 use Rattle.dynamo_shape.specs.Laws.{IsToldByValue, ToldAlike}
+use Rattle.dynamo_shape.specs.Absence.{Absence}
 use Rattle.dynamo_shape.specs.Read.{missing}
 use Rattle.dynamo_shape.specs.Shape as shape
 use Rattle.dynamo_shape.specs.Shape.{Shape}
@@ -26,7 +27,7 @@ pub record About (T : Type 0) : Type 1 where
   pub told_alike : ToldAlike shape tells same
 
 -- the value of a field that is missing, which tells what reading gives in its place; none where reading refuses
-abbrev pub IsAbsent : {T E : Type 0} → (E → Fault) → Shape → Option Datum → (T → Datum) → Result (Option T) E → Type 0
+abbrev pub IsAbsent : {T E : Type 0} → (E → Fault) → Shape → Absence → (T → Datum) → Result (Option T) E → Type 0
 IsAbsent fault s default tells (Ok None) = missing s default ≡ answer.refused
 IsAbsent fault s default tells (Ok (Some v)) = missing s default ≡ answer.value (tells v)
 IsAbsent fault s default tells (Err e) = fault e ≡ out_of_memory

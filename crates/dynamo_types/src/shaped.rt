@@ -1,4 +1,5 @@
-ghost use Rattle.std.specs.Prelude.{◌≡◌, None};
+ghost use Rattle.std.specs.Prelude.{◌≡◌};
+ghost use Rattle.dynamo_shape.specs.Absence.{required};
 ghost use Rattle.dynamo_shape.specs.Conforms as shapes;
 ghost use Rattle.dynamo_shape.specs.Laws.{ReadsByShape};
 ghost use Rattle.dynamo_types.specs.About.{About, IsAbsent};
@@ -28,7 +29,7 @@ pub trait Shaped: Serialize + Deserialize {
     ///
     /// Returns the error for out of memory if memory runs out for the value.
     fn absent<E: Error>(alloc: Global) -> Result<Option<Self>, E>
-        ensures { IsAbsent E.fault about.shape None about.tells result };
+        ensures { IsAbsent E.fault about.shape required about.tells result };
 
     /// Promises that the value's datum conforms to the shape. It has no other effect. An
     /// implementation calls it for each part of the value.

@@ -103,3 +103,22 @@ pub fn choice_type(alloc: Global, cases: &[Case]) -> Result<Code, AllocError> {
         }
     }
 }
+
+/// Returns the proof in a ghost member that no two fields of a variant have the same name, variant
+/// by variant.
+///
+/// # Errors
+///
+/// Returns [`AllocError`] if memory runs out.
+pub fn ghost_named(alloc: Global, cases: &[Case]) -> Result<String, AllocError> {
+    match cases {
+        [] => String::from_str(alloc, "_"),
+        [case] => String::from_str(alloc, case.ghost_named()),
+        _ => {
+            let (left, right) = cases.split_at(cases.len() - cases.len() / 2);
+            let left = ghost_named(alloc, left)?;
+            let right = ghost_named(alloc, right)?;
+            format!(in alloc; "({left}, {right})")
+        }
+    }
+}

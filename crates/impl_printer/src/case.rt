@@ -184,6 +184,14 @@ impl Case {
         format!(in alloc; "record {{ 0 = {leaves} }}")
     }
 
+    /// The proof in a ghost member that no two of its fields have the same name.
+    pub fn ghost_named(&self) -> &'static str {
+        match self.kind {
+            Kind::Named => "(refl, refl)",
+            _ => "_",
+        }
+    }
+
     /// The call that writes the variant at this index.
     ///
     /// # Errors

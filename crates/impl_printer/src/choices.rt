@@ -1,4 +1,4 @@
-use crate::branch::{choice_type, ghost_branch, pattern_branch};
+use crate::branch::{choice_type, ghost_branch, ghost_named, pattern_branch};
 use crate::case::{Case, cases};
 use crate::shared::{
     Heading, codes, name_functions, names_function, print_deserialize, print_serialize,
@@ -68,11 +68,12 @@ fn print_traits(
         "read_enum(alloc, deserializer)",
     )?;
     let conforms = conform_match(alloc, cases)?;
+    let named = ghost_named(alloc, cases)?;
     print_shaped(
         alloc,
         out,
         about,
-        &format!(in alloc; "about_enum ⟦<{name} as Enumeration>⟧.about")?,
+        &format!(in alloc; "about_enum ⟦<{name} as Enumeration>⟧.about {named}")?,
         "λ _ _ h. h",
         &format!(in alloc; "\n        {conforms}\n    ")?,
     )

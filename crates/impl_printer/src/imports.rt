@@ -22,6 +22,7 @@ pub struct Mentions {
     pub several: bool,
     pub named: bool,
     pub defaults: bool,
+    pub omitted: bool,
     pub strings: bool,
     pub numbers: bool,
     pub binaries: bool,
@@ -64,9 +65,14 @@ impl Mentions {
             match field.form {
                 Form::Plain => {}
                 Form::Defaulted => self.defaults = true,
+                Form::Omitted => self.omitted = true,
                 Form::Set(set) => self.mention_set(set),
                 Form::DefaultedSet(set) => {
                     self.defaults = true;
+                    self.mention_set(set);
+                }
+                Form::OmittedSet(set) => {
+                    self.omitted = true;
                     self.mention_set(set);
                 }
             }
@@ -217,7 +223,7 @@ pub fn add_mentioned(alloc: Global, uses: &mut Uses, found: &Mentions) -> Result
 }
 
 // The types and the traits of `dynamo_record`, and whether they are mentioned.
-fn record_types(found: &Mentions) -> [(&'static str, bool); 17] {
+fn record_types(found: &Mentions) -> [(&'static str, bool); 19] {
     let lists = found.records || found.tuples || found.several || found.named;
     [
         ("Choice", found.branches),
@@ -230,6 +236,8 @@ fn record_types(found: &Mentions) -> [(&'static str, bool); 17] {
         ("Named", found.named),
         ("NamedFields", found.named),
         ("Nothing", found.nothing),
+        ("Omitted", found.omitted),
+        ("OmittedRef", found.omitted),
         ("One", found.one),
         ("Record", found.records),
         ("Several", found.several),

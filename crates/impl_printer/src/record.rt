@@ -44,7 +44,7 @@ pub fn print_record(
         alloc,
         out,
         about,
-        &format!(in alloc; "about_record ⟦<{ty} as Record>⟧.about")?,
+        &format!(in alloc; "about_record ⟦<{ty} as Record>⟧.about (refl, refl)")?,
         "λ _ _ h. h",
         &conform_call(alloc, "record_conforms", ty, refs.as_slice())?,
     )

@@ -122,6 +122,7 @@ pub fn leaf_types(alloc: Global, fields: &[Field]) -> Result<Vec<String>, AllocE
         found.push(match field.form {
             Form::Plain => format!(in alloc; "Field<{of}>")?,
             Form::Defaulted => format!(in alloc; "Field<WithDefault<{of}>>")?,
+            Form::Omitted => format!(in alloc; "Field<Omitted<{of}>>")?,
             Form::Set(set) => {
                 let name = set_name(set);
                 format!(in alloc; "Field<In{name}<{of}>>")?
@@ -129,6 +130,10 @@ pub fn leaf_types(alloc: Global, fields: &[Field]) -> Result<Vec<String>, AllocE
             Form::DefaultedSet(set) => {
                 let name = set_name(set);
                 format!(in alloc; "Field<WithDefault<In{name}<{of}>>>")?
+            }
+            Form::OmittedSet(set) => {
+                let name = set_name(set);
+                format!(in alloc; "Field<Omitted<In{name}<{of}>>>")?
             }
         })?;
     }
@@ -155,9 +160,14 @@ pub fn leaf_refs(alloc: Global, fields: &[Field], before: &str) -> Result<Vec<St
         let name = field.name.as_str();
         found.push(match field.form {
             Form::Plain | Form::Defaulted => format!(in alloc; "{before}{name}")?,
+            Form::Omitted => format!(in alloc; "OmittedRef({before}{name})")?,
             Form::Set(set) | Form::DefaultedSet(set) => {
                 let wrapper = set_name(set);
                 format!(in alloc; "{wrapper}({before}{name})")?
+            }
+            Form::OmittedSet(set) => {
+                let wrapper = set_name(set);
+                format!(in alloc; "OmittedRef({wrapper}({before}{name}))")?
             }
         })?;
     }

@@ -1,8 +1,9 @@
 -- The shapes of the samples, and when two of them are the same by value: part by part.
-use Rattle.std.specs.Prelude.{◌≡◌, None, codes, string_bytes}
+use Rattle.std.specs.Prelude.{◌≡◌, codes, string_bytes}
 use Rattle.dynamo_value.specs.Bytes.{octets_of}
 use Rattle.dynamo_value.specs.Integer.{u8, u64}
 use Rattle.dynamo_ser.specs.Symbols.{strings, numbers, blobs}
+use Rattle.dynamo_shape.specs.Absence.{required}
 use Rattle.dynamo_shape.specs.ByValue.{SameEach}
 use Rattle.dynamo_shape.specs.Shape.{Shape, string, bytes, integer, set, struct, enum, Shapes, no_shapes, shape, FieldShapes, no_field_shapes, field_shape, nothing, one, several, named, Variants, no_variants, variant}
 use Rattle.serde_dynamo.specs.declared.samples.sets.Sets.{Sets}
@@ -13,9 +14,9 @@ byte_shape = integer u8
 
 abbrev pub user_fields : FieldShapes
 user_fields =
-    field_shape (codes "id") string None
-    (field_shape (codes "name") string None
-    (field_shape (codes "age") byte_shape None no_field_shapes))
+    field_shape (codes "id") string required
+    (field_shape (codes "name") string required
+    (field_shape (codes "age") byte_shape required no_field_shapes))
 
 abbrev pub user_shape : Shape
 user_shape = struct (codes "User") user_fields
@@ -28,8 +29,8 @@ two_bytes = shape byte_shape (shape byte_shape no_shapes)
 
 abbrev pub structy_fields : FieldShapes
 structy_fields =
-    field_shape (codes "one") byte_shape None
-    (field_shape (codes "two") byte_shape None no_field_shapes)
+    field_shape (codes "one") byte_shape required
+    (field_shape (codes "two") byte_shape required no_field_shapes)
 
 abbrev pub event_variants : Variants
 event_variants =
@@ -43,9 +44,9 @@ event_shape = enum (codes "Event") event_variants
 
 abbrev pub sets_fields : FieldShapes
 sets_fields =
-    field_shape (codes "names") (set strings string) None
-    (field_shape (codes "numbers") (set numbers (integer u64)) None
-    (field_shape (codes "blobs") (set blobs bytes) None no_field_shapes))
+    field_shape (codes "names") (set strings string) required
+    (field_shape (codes "numbers") (set numbers (integer u64)) required
+    (field_shape (codes "blobs") (set blobs bytes) required no_field_shapes))
 
 abbrev pub sets_shape : Shape
 sets_shape = struct (codes "Sets") sets_fields

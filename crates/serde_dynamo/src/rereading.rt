@@ -70,3 +70,27 @@ pub fn reread<T: Shaped>(alloc: Global, value: &T) -> Result<(AttributeValue, Va
     reread.conforms();
     Ok((written, json, reread))
 }
+
+/// Does what [`reread`] does, for a type with a clear shape.
+///
+/// The prover shows once, where this is called, that the shape is clear. In a contract over
+/// [`reread`] it does so for each clause, and it may not find that by itself if fields are left out.
+///
+/// # Errors
+///
+/// Returns [`ErrorImpl::OutOfMemory`](dynamo_value::ErrorImpl::OutOfMemory) if memory runs out.
+///
+/// # Examples
+///
+/// ```rust
+/// use serde_dynamo::reread_clear;
+///
+/// let (_, _, back) = reread_clear(alloc, &Some(42u8))?;
+/// assert_eq!(rt; back, Some(42));
+/// ```
+pub fn reread_clear<T: Shaped>(alloc: Global, value: &T) -> Result<(AttributeValue, Value, T)>
+    requires { Clear T.about.shape }
+    ensures { MatchResult result (λ parts. T.about.same value.now parts.2) (λ e. fault_of e ≡ out_of_memory) }
+{
+    reread(alloc, value)
+}

@@ -109,7 +109,7 @@ impl Deserialize for Purchase {
 }
 
 impl Shaped for Purchase {
-    ghost about = { about_record ⟦<Purchase as Record>⟧.about };
+    ghost about = { about_record ⟦<Purchase as Record>⟧.about (refl, refl) };
 
     ghost as_told = { refl };
 

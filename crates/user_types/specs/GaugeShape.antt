@@ -14,6 +14,7 @@ use Rattle.serde_dynamo.specs.Integer.{u8}
 use Rattle.serde_dynamo.specs.Options.{option_tells}
 use Rattle.serde_dynamo.specs.Source.{Entry, attribute}
 use Rattle.serde_dynamo.specs.Steps.{◌>>=◌}
+use Rattle.dynamo_shape.specs.Absence.{required}
 use Rattle.dynamo_shape.specs.ByValue.{SameOption}
 use Rattle.dynamo_shape.specs.Laws.{IsToldByValue, ToldAlike}
 use Rattle.dynamo_shape.specs.Read.{read, into, read_field, fields_by_name}
@@ -35,7 +36,7 @@ abbrev pub reading_shape : Shape
 reading_shape = shape.option (shape.integer u8)
 
 abbrev pub gauge_fields : FieldShapes
-gauge_fields = field_shape (codes "id") shape.string None (field_shape (codes "reading") reading_shape None no_field_shapes)
+gauge_fields = field_shape (codes "id") shape.string required (field_shape (codes "reading") reading_shape required no_field_shapes)
 
 abbrev pub told_id : String Global → Datum
 told_id id = datum.string (string_bytes id)
@@ -88,9 +89,9 @@ gauge_from_parts p r = Gives gauge_told (gauge_parts p) r
 
 reads : fields.Reads gauge_entry slots 0 gauge_fields gauge_field
 reads =
-    fields.known gauge_entry slots 0 (codes "id") shape.string None _ Field.Id _ (read shape.string) (λ d. d)
+    fields.known gauge_entry slots 0 (codes "id") shape.string required _ Field.Id _ (read shape.string) (λ d. d)
     (λ d u. record { id = Some d; reading = u.reading }) (read_itself shape.string) (λ u a. refl) (λ d u. refl)
-    (fields.known gauge_entry slots 1 (codes "reading") reading_shape None _ Field.Reading _ (read reading_shape) (λ d. d)
+    (fields.known gauge_entry slots 1 (codes "reading") reading_shape required _ Field.Reading _ (read reading_shape) (λ d. d)
     (λ d u. record { id = u.id; reading = Some d }) (read_itself reading_shape) (λ u a. refl) (λ d u. refl)
     (fields.unknown gauge_entry slots 2 Field.Other (λ u a. refl) (λ u. refl)))
 
@@ -99,20 +100,20 @@ gauge_named = fields.all_named gauge_entry slots gauge_field gauge_fields finish
 
 pub gauge_listed : ListsFields gauge_fields (λ ss. gauge_parts (in_order ss)) (datum.struct (codes "Gauge"))
 gauge_listed =
-    first_field (codes "id") shape.string None _ (read shape.string) (λ d. d) _ (datum.struct (codes "Gauge")) (read_itself shape.string) (λ id.
-    first_field (codes "reading") reading_shape None _ (read reading_shape) (λ d. d) _ _ (read_itself reading_shape) (λ reading.
+    first_field (codes "id") shape.string required _ (read shape.string) (λ d. d) _ (datum.struct (codes "Gauge")) (read_itself shape.string) (λ id.
+    first_field (codes "reading") reading_shape required _ (read reading_shape) (λ d. d) _ _ (read_itself reading_shape) (λ reading.
     no_more_fields _))
 
 pub gauge_by_value : IsToldByValue (shape.struct (codes "Gauge") gauge_fields) gauge_told same_gauge
 gauge_by_value =
     struct_told (codes "Gauge") gauge_fields _ same_gauge
-    (first_told (codes "id") _ _ _ (λ (s : Gauge). s.id) _ _ _ _ (text_told string_bytes)
+    (first_told (codes "id") _ _ _ (λ (s : Gauge). s.id) _ _ _ _ refl (text_told string_bytes)
     (last_told (codes "reading") _ _ (λ (s : Gauge). s.reading) _ _ (option_told (shape.integer u8) _ _ (unsigned_told u8))))
 
 pub gauge_alike : ToldAlike (shape.struct (codes "Gauge") gauge_fields) gauge_told same_gauge
 gauge_alike =
     struct_alike (codes "Gauge") gauge_fields _ same_gauge
-    (first_alike (codes "id") _ _ _ (λ (s : Gauge). s.id) _ _ _ _ (text_alike string_bytes)
+    (first_alike (codes "id") _ _ _ (λ (s : Gauge). s.id) _ _ _ _ refl (text_alike string_bytes)
     (last_alike (codes "reading") _ _ (λ (s : Gauge). s.reading) _ _ (option_alike (shape.integer u8) _ _ (unsigned_alike u8))))
 
 abbrev pub about_gauge : About Gauge

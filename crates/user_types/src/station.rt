@@ -61,7 +61,7 @@ impl Deserialize for Station {
 }
 
 impl Shaped for Station {
-    ghost about = { about_record ⟦<Station as Record>⟧.about };
+    ghost about = { about_record ⟦<Station as Record>⟧.about (refl, refl) };
 
     ghost as_told = { refl };
 

@@ -102,7 +102,7 @@ impl Deserialize for Event {
 }
 
 impl Shaped for Event {
-    ghost about = { about_enum ⟦<Event as Enumeration>⟧.about };
+    ghost about = { about_enum ⟦<Event as Enumeration>⟧.about ((_, _), (_, (refl, refl))) };
 
     ghost as_told = { refl };
 

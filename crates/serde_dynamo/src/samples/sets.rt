@@ -76,7 +76,7 @@ impl Deserialize for Sets {
 }
 
 impl Shaped for Sets {
-    ghost about = { about_record ⟦<Sets as Record>⟧.about };
+    ghost about = { about_record ⟦<Sets as Record>⟧.about (refl, refl) };
 
     ghost as_told = { refl };
 

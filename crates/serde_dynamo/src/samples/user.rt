@@ -59,7 +59,7 @@ impl Deserialize for User {
 }
 
 impl Shaped for User {
-    ghost about = { about_record ⟦<User as Record>⟧.about };
+    ghost about = { about_record ⟦<User as Record>⟧.about (refl, refl) };
 
     ghost as_told = { refl };
 

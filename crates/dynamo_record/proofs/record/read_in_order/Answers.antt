@@ -18,7 +18,7 @@ pub returns-in-Some : goal.returns-in-Some
 returns-in-Some g c =
     let a = listed g.R.Record.about g.R.Fields.FieldList.about in
     let made = subst (λ o. Makes a.list.shapes a.list.told (read_fields (a.list.shapes []) (g.D.Reader.elements c.args.elements)) (answer.value []) o) c.in-Some.is (c.in_ok-fields.ensures []) in
-    listed_made a g.D.Error.Error.fault (g.D.Reader.elements c.args.elements) (g.D.Reader.elements c.read_in_order.new.elements) c.in-Some.fields c.make.result c.make.ensures made
+    listed_made a g.D.Error.Error.fault (g.D.Reader.elements c.args.elements) (g.D.Reader.elements c.read_in_order.new.elements) c.in-Some.fields c.make.result c.requires c.make.ensures made
 
 pub returns : goal.returns
 returns g c = elim c.too_few.ensures [

@@ -7,4 +7,5 @@ pub returns : goal.returns
 returns g c =
     let told = g.W.RefList.told c.args.fields.now [] in
     let names = g.R.Record.about.names in
-    (named_fields names told, refl, fields_conform names (g.W.RefList.shapes []) (g.R.Record.about.list.defaults []) told (c.conform.ensures [] [] tt))
+    let gs = g.R.Record.about.list.defaults [] in
+    (named_fields names gs told, refl, fields_conform names (g.W.RefList.shapes []) gs told (c.conform.ensures [] [] tt))

@@ -14,5 +14,5 @@ returns g c =
     let ss = g.W.RefList.shapes [] in
     let gs = g.N.Fields.FieldList.about.defaults [] in
     let told = g.W.RefList.told c.args.fields.now [] in
-    variant_conforms a c.args.index (shape.named (field_shapes names ss gs)) (datum.struct_variant (tag a.name a.names c.args.index) (named_fields names told)) c.requires
-    (named_fields names told, refl, fields_conform names ss gs told (c.conform.ensures [] [] tt))
+    variant_conforms a c.args.index (shape.named (field_shapes names ss gs)) (datum.struct_variant (tag a.name a.names c.args.index) (named_fields names gs told)) c.requires
+    (named_fields names gs told, refl, fields_conform names ss gs told (c.conform.ensures [] [] tt))
