@@ -1,55 +1,69 @@
 //! The place of the first fault of a JSON value that is read as DynamoDB JSON.
+ghost use Rattle.std.specs.Prelude.{◌≡◌};
 
-use crate::{Place, Step};
+use crate::{LocatedError, Place, Step};
 use dynamo_json::{DynamoJson, TextError};
-use dynamo_value::{AttributeValue, Error, ErrorImpl, Item, Prefix, base64_text};
+use dynamo_value::{AttributeValue, Error, ErrorImpl, Prefix, base64_text};
 use serde_json::{Map, Value};
 use std::alloc::{AllocError, Global};
 
 // The steps to the first fault, the last one first, or `None` if there is no fault.
 type Found = Result<Option<Vec<Step>>, AllocError>;
 
-/// A type that is read from DynamoDB JSON, and the search for the first fault in its JSON.
-pub(crate) trait HasFaults {
-    /// Returns the steps to the first fault of a JSON value.
-    fn first_fault(alloc: Global, json: &Value) -> Found;
+/// What a whole JSON value is read as.
+#[derive(Clone, Copy)]
+pub(crate) enum Whole {
+    AttributeValue,
+    Item,
 }
 
-impl HasFaults for AttributeValue {
-    fn first_fault(alloc: Global, json: &Value) -> Found {
-        in_value(alloc, json)
+/// Returns the error that reading a JSON value returned, with its place. The place is empty if
+/// memory runs out, for the value or for the place.
+pub(crate) fn in_json(
+    alloc: Global,
+    whole: Whole,
+    json: &Value,
+    error: Error,
+) -> LocatedError<Error>
+    ensures { result.error ≡ error }
+{
+    LocatedError {
+        place: place_of(alloc, whole, json, &error),
+        error,
     }
 }
 
-impl HasFaults for Item {
-    fn first_fault(alloc: Global, json: &Value) -> Found {
-        match json {
-            Value::Object(object) => in_members(alloc, object),
-            _ => Ok(Some(Vec::new(alloc))),
-        }
+/// Returns the error that reading a JSON text returned, with its place in the JSON value of the
+/// text. The place is empty if the text isn't JSON, or if memory runs out.
+pub(crate) fn in_text(
+    alloc: Global,
+    whole: Whole,
+    text: &str,
+    error: TextError,
+) -> LocatedError<TextError>
+    ensures { result.error ≡ error }
+{
+    LocatedError {
+        place: place_in_text(alloc, whole, text, &error),
+        error,
     }
 }
 
-/// Returns the place in a JSON value of the error that reading it returned. It is empty if memory
-/// runs out, for the value or for the place.
-pub(crate) fn place_in_json<T: HasFaults>(alloc: Global, json: &Value, error: &Error) -> Place {
-    if !is_memory(error)
-        && let Ok(Some(mut steps)) = T::first_fault(alloc, json)
+fn place_in_text(alloc: Global, whole: Whole, text: &str, error: &TextError) -> Place {
+    if let TextError::Fault(fault) = error
+        && let Ok(json) = Value::from_str(alloc, text)
     {
-        steps.reverse();
-        return Place::of_steps(steps);
+        return place_of(alloc, whole, &json, fault);
     }
     Place::new()
 }
 
-/// Returns the place in the JSON value of a text of the error that reading the text returned. It is
-/// empty if the text isn't JSON, or if memory runs out.
-pub(crate) fn place_in_text<T: HasFaults>(alloc: Global, text: &str, error: &TextError) -> Place {
-    if let TextError::Fault(fault) = error
-        && !is_memory(fault)
-        && let Ok(json) = Value::from_str(alloc, text)
+fn place_of(alloc: Global, whole: Whole, json: &Value, error: &Error) -> Place {
+    if !is_memory(error)
+        && let Ok(Some(mut steps)) = first_fault(alloc, whole, json)
     {
-        return place_in_json::<T>(alloc, &json, fault);
+        steps.reverse();
+        return Place::of_steps(steps);
     }
     Place::new()
 }
@@ -58,17 +72,11 @@ fn is_memory(error: &Error) -> bool {
     matches!(error.kind(), ErrorImpl::OutOfMemory)
 }
 
-// Whether reading failed by a fault.
-fn is_refused<T: Drop>(read: Result<T, Error>) -> Result<bool, AllocError> {
-    match read {
-        Ok(_value) => Ok(false),
-        Err(error) => {
-            if is_memory(&error) {
-                Err(AllocError)
-            } else {
-                Ok(true)
-            }
-        }
+fn first_fault(alloc: Global, whole: Whole, json: &Value) -> Found {
+    match (whole, json) {
+        (Whole::AttributeValue, _) => in_value(alloc, json),
+        (Whole::Item, Value::Object(object)) => in_members(alloc, object),
+        (Whole::Item, _) => Ok(Some(Vec::new(alloc))),
     }
 }
 
@@ -83,15 +91,13 @@ fn in_value(alloc: Global, json: &Value) -> Found {
     {
         match (prefix, content) {
             (Prefix::M, Value::Object(object)) => return in_members(alloc, object),
-            (Prefix::L, Value::Array(array)) => return in_elements(alloc, array),
-            (Prefix::Ss | Prefix::Ns | Prefix::Bs, Value::Array(array)) => {
-                return in_set(alloc, prefix, array);
+            (Prefix::L | Prefix::Ss | Prefix::Ns | Prefix::Bs, Value::Array(array)) => {
+                return in_elements(alloc, prefix, array);
             }
             _ => {}
         }
     }
-    let refused = is_refused(AttributeValue::from_json(alloc, json))?;
-    Ok(refused.then(|| Vec::new(alloc)))
+    in_whole(alloc, AttributeValue::from_json(alloc, json))
 }
 
 // In the attributes of an object, which are read in this order.
@@ -106,11 +112,11 @@ fn in_members(alloc: Global, object: &Map<String, Value>) -> Found {
     Ok(None)
 }
 
-// In the attribute values of an array.
+// In the elements of a list or a set.
 #[cycle(look)]
-fn in_elements(alloc: Global, array: &Vec<Value>) -> Found {
+fn in_elements(alloc: Global, prefix: Prefix, array: &Vec<Value>) -> Found {
     for (index, json) in array.iter().enumerate() {
-        if let Some(mut steps) = in_value(alloc, json)? {
+        if let Some(mut steps) = in_element(alloc, prefix, json)? {
             steps.push(Step::Element(index))?;
             return Ok(Some(steps));
         }
@@ -118,23 +124,22 @@ fn in_elements(alloc: Global, array: &Vec<Value>) -> Found {
     Ok(None)
 }
 
-// In the elements of a set.
-fn in_set(alloc: Global, prefix: Prefix, array: &Vec<Value>) -> Found {
-    for (index, json) in array.iter().enumerate() {
-        if !is_element(alloc, prefix, json)? {
-            let mut steps = Vec::new(alloc);
-            steps.push(Step::Element(index))?;
-            return Ok(Some(steps));
-        }
-    }
-    Ok(None)
-}
-
-// Whether a JSON value is an element of a set: a string, and in a `BS` one of base64.
-fn is_element(alloc: Global, prefix: Prefix, json: &Value) -> Result<bool, AllocError> {
+// In an element: of a list an attribute value, of a set a string, and of a `BS` one of base64.
+#[cycle(look)]
+fn in_element(alloc: Global, prefix: Prefix, json: &Value) -> Found {
     match (prefix, json) {
-        (Prefix::Bs, Value::String(text)) => Ok(!is_refused(base64_text::decode(alloc, text))?),
-        (_, Value::String(_)) => Ok(true),
-        _ => Ok(false),
+        (Prefix::L, _) => in_value(alloc, json),
+        (Prefix::Bs, Value::String(text)) => in_whole(alloc, base64_text::decode(alloc, text)),
+        (_, Value::String(_)) => Ok(None),
+        _ => Ok(Some(Vec::new(alloc))),
+    }
+}
+
+// In what has no parts, by the result of reading it.
+fn in_whole<T: Drop>(alloc: Global, read: Result<T, Error>) -> Found {
+    match read {
+        Ok(_value) => Ok(None),
+        Err(error) if is_memory(&error) => Err(AllocError),
+        Err(_) => Ok(Some(Vec::new(alloc))),
     }
 }

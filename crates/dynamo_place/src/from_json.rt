@@ -10,7 +10,7 @@ ghost use Rattle.dynamo_json.specs.OfText.{RefusedText, fault_in};
 ghost use Rattle.dynamo_json.specs.Parsed.{parsed, parsed_item};
 
 use crate::LocatedError;
-use crate::fault::{place_in_json, place_in_text};
+use crate::fault::{Whole, in_json, in_text};
 use dynamo_json::{DynamoJson, TextError};
 use dynamo_value::{AttributeValue, Error, Item};
 use serde_json::Value;
@@ -96,10 +96,7 @@ impl DynamoJsonLocated for AttributeValue {
     {
         match Self::from_json(alloc, json) {
             Ok(value) => Ok(value),
-            Err(error) => Err(LocatedError {
-                place: place_in_json::<Self>(alloc, json, &error),
-                error,
-            }),
+            Err(error) => Err(in_json(alloc, Whole::AttributeValue, json, error)),
         }
     }
 
@@ -111,10 +108,7 @@ impl DynamoJsonLocated for AttributeValue {
     {
         match Self::from_json_text(alloc, text) {
             Ok(value) => Ok(value),
-            Err(error) => Err(LocatedError {
-                place: place_in_text::<Self>(alloc, text, &error),
-                error,
-            }),
+            Err(error) => Err(in_text(alloc, Whole::AttributeValue, text, error)),
         }
     }
 }
@@ -128,10 +122,7 @@ impl DynamoJsonLocated for Item {
     {
         match Self::from_json(alloc, json) {
             Ok(item) => Ok(item),
-            Err(error) => Err(LocatedError {
-                place: place_in_json::<Self>(alloc, json, &error),
-                error,
-            }),
+            Err(error) => Err(in_json(alloc, Whole::Item, json, error)),
         }
     }
 
@@ -143,10 +134,7 @@ impl DynamoJsonLocated for Item {
     {
         match Self::from_json_text(alloc, text) {
             Ok(item) => Ok(item),
-            Err(error) => Err(LocatedError {
-                place: place_in_text::<Self>(alloc, text, &error),
-                error,
-            }),
+            Err(error) => Err(in_text(alloc, Whole::Item, text, error)),
         }
     }
 }

@@ -2,7 +2,7 @@ ghost use Rattle.std.specs.Prelude.{◌≡◌};
 ghost use Rattle.dynamo_de.specs.Shows.{seen};
 
 use crate::way::Way;
-use dynamo_de::{Reader, Request, Showing};
+use dynamo_de::{Inside, Reader, Request, Showing, Surface};
 use std::alloc::Global;
 
 /// A reader that shows what another one shows, and marks the place that reading has come to.
@@ -120,6 +120,28 @@ impl<R: Reader> Reader for Located<R> {
         way.mark();
         let alloc = reader.alloc();
         Ok(raise::<R>(alloc, reader.show(request)?, way))
+    }
+
+    fn surface(self, request: Request) -> Result<Surface, R::Error> {
+        let Located { reader, way } = self;
+        way.mark();
+        reader.surface(request)
+    }
+
+    fn inside(self) -> Result<Inside<LocatedElements<R>, LocatedEntries<R>>, R::Error> {
+        let Located { reader, way } = self;
+        way.mark();
+        let alloc = reader.alloc();
+        match reader.inside()? {
+            Inside::Nothing => Ok(Inside::Nothing),
+            Inside::Elements(rest) => Ok(Inside::Elements(LocatedElements {
+                rest,
+                alloc,
+                way,
+                index: 0,
+            })),
+            Inside::Entries(rest) => Ok(Inside::Entries(LocatedEntries { rest, alloc, way })),
+        }
     }
 
     fn next_element(rest: &mut LocatedElements<R>) -> Option<Located<R>> {

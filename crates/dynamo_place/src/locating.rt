@@ -3,60 +3,108 @@ ghost use Rattle.std.specs.Prelude.{◌≡◌};
 use crate::locating_parts::LocatingParts;
 use crate::trail::Trail;
 use dynamo_ser::{Outcomes, Serializer, Wrapper};
-use dynamo_value::{AttributeValue, Error, Result};
-use dynamo_write::{
-    SerializerMap, SerializerSeq, SerializerStruct, SerializerStructVariant,
-    SerializerTupleVariant, SetKind,
-};
+use dynamo_value::{Error, ErrorImpl, Result};
+use dynamo_write::SetKind;
 use std::alloc::Global;
 
-/// A serializer that writes what [`dynamo_write::Serializer`] writes, and keeps the steps to the value on a trail.
+/// A serializer that refuses what [`dynamo_write::Serializer`] refuses, and keeps the steps to the value on a trail. It makes
+/// no attribute values.
 ///
 /// When a value is written, the trail is where it was before. After an error it ends where the error was met.
 #[derive(Clone, Copy)]
 pub struct LocatingSerializer<'a> {
-    plain: dynamo_write::Serializer,
-    trail: &'a Trail,
+    alloc: Global,
+    pub(crate) trail: &'a Trail,
 }
 
 impl<'a> LocatingSerializer<'a> {
     /// Returns the serializer of a whole value, whose place is at the end of the trail.
     pub(crate) fn new(alloc: Global, trail: &'a Trail) -> Self {
-        LocatingSerializer {
-            plain: dynamo_write::Serializer::new(alloc),
-            trail,
-        }
-    }
-
-    pub(crate) fn trail(self) -> &'a Trail {
-        self.trail
+        LocatingSerializer { alloc, trail }
     }
 
     /// Goes on to the attribute of this name.
     pub(crate) fn go_to(self, name: &str) {
-        self.trail.to_attribute(self.plain.alloc(), name);
+        self.trail.to_attribute(self.alloc, name);
+    }
+
+    // Ends a set whose elements were written as a list.
+    fn end_set(self, kind: SetKind, content: Written) -> Result<Written> {
+        let Written::List(misfits) = content else {
+            return Err(Error::from(ErrorImpl::NotSetlike));
+        };
+        let (misfit, error) = match kind {
+            SetKind::Strings => (misfits.strings, ErrorImpl::StringSetExpectedType),
+            SetKind::Numbers => (misfits.numbers, ErrorImpl::NumberSetExpectedType),
+            SetKind::Blobs => (misfits.blobs, ErrorImpl::BinarySetExpectedType),
+        };
+        match misfit {
+            None => Ok(Written::Other),
+            Some(index) => {
+                self.trail.to_element(index);
+                Err(Error::from(error))
+            }
+        }
     }
 }
 
-// The index of the first element of a list that isn't one of such a set.
-fn misfit(kind: SetKind, value: &AttributeValue) -> Option<usize> {
-    match value {
-        AttributeValue::L(values) => values.iter().position(|value| !is_element(kind, value)),
-        _ => None,
-    }
+/// What was written, as far as a set asks for it.
+#[derive(Clone, Copy)]
+pub enum Written {
+    /// A string.
+    String,
+
+    /// A number.
+    Number,
+
+    /// A byte string.
+    Blob,
+
+    /// A list.
+    List(Misfits),
+
+    /// Anything else.
+    Other,
 }
 
-// Whether a value is an element of such a set.
-fn is_element(kind: SetKind, value: &AttributeValue) -> bool {
-    match kind {
-        SetKind::Strings => matches!(value, AttributeValue::S(_)),
-        SetKind::Numbers => matches!(value, AttributeValue::N(_)),
-        SetKind::Blobs => matches!(value, AttributeValue::B(_)),
+/// The index of the first element of a list that is no string, that of the first one that is no number, and that of the
+/// first one that is no byte string.
+#[derive(Clone, Copy)]
+pub struct Misfits {
+    strings: Option<usize>,
+    numbers: Option<usize>,
+    blobs: Option<usize>,
+}
+
+impl Misfits {
+    /// Returns those of an empty list.
+    pub(crate) fn none() -> Misfits {
+        Misfits {
+            strings: None,
+            numbers: None,
+            blobs: None,
+        }
+    }
+
+    /// Returns those of a list with one more element.
+    pub(crate) fn and(self, index: usize, element: Written) -> Misfits {
+        let here = Some(index);
+        let mut misfits = self;
+        if !matches!(element, Written::String) {
+            misfits.strings = misfits.strings.or(here);
+        }
+        if !matches!(element, Written::Number) {
+            misfits.numbers = misfits.numbers.or(here);
+        }
+        if !matches!(element, Written::Blob) {
+            misfits.blobs = misfits.blobs.or(here);
+        }
+        misfits
     }
 }
 
 impl Outcomes for LocatingSerializer<'_> {
-    type Ok = AttributeValue;
+    type Ok = Written;
 
     type Error = Error;
 
@@ -66,24 +114,24 @@ impl Outcomes for LocatingSerializer<'_> {
     ghost refusal = { λ s text e is. tt };
 
     fn alloc(&self) -> Global {
-        self.plain.alloc()
+        self.alloc
     }
 }
 
 impl<'a> Serializer for LocatingSerializer<'a> {
-    type SerializeSeq = LocatingParts<'a, SerializerSeq>;
+    type SerializeSeq = LocatingParts<'a>;
 
-    type SerializeTuple = LocatingParts<'a, SerializerSeq>;
+    type SerializeTuple = LocatingParts<'a>;
 
-    type SerializeTupleStruct = LocatingParts<'a, SerializerSeq>;
+    type SerializeTupleStruct = LocatingParts<'a>;
 
-    type SerializeTupleVariant = LocatingParts<'a, SerializerTupleVariant<'static>>;
+    type SerializeTupleVariant = LocatingParts<'a>;
 
-    type SerializeMap = LocatingParts<'a, SerializerMap>;
+    type SerializeMap = LocatingParts<'a>;
 
-    type SerializeStruct = LocatingParts<'a, SerializerStruct>;
+    type SerializeStruct = LocatingParts<'a>;
 
-    type SerializeStructVariant = LocatingParts<'a, SerializerStructVariant<'static>>;
+    type SerializeStructVariant = LocatingParts<'a>;
 
     ghost content = { λ s w. s };
 
@@ -94,147 +142,134 @@ impl<'a> Serializer for LocatingSerializer<'a> {
         Ok(*self)
     }
 
-    fn wrap(self, wrapper: Wrapper, written: AttributeValue) -> Result<AttributeValue> {
+    fn wrap(self, wrapper: Wrapper, written: Written) -> Result<Written> {
         match wrapper {
-            Wrapper::Option => {}
-            Wrapper::NewtypeVariant(_, _, _) => self.trail.back(),
-            Wrapper::NewtypeStruct(name) => {
-                if let Some(kind) = SetKind::of_symbol(name)
-                    && let Some(index) = misfit(kind, &written)
-                {
-                    self.trail.to_element(index);
-                }
+            Wrapper::Option => Ok(written),
+            Wrapper::NewtypeStruct(name) => match SetKind::of_symbol(name) {
+                None => Ok(written),
+                Some(kind) => self.end_set(kind, written),
+            },
+            Wrapper::NewtypeVariant(_, _, _) => {
+                self.trail.back();
+                Ok(Written::Other)
             }
         }
-        self.plain.wrap(wrapper, written)
     }
 
-    fn serialize_bool(self, v: bool) -> Result<AttributeValue> {
-        self.plain.serialize_bool(v)
+    fn serialize_bool(self, _v: bool) -> Result<Written> {
+        Ok(Written::Other)
     }
 
-    fn serialize_i8(self, v: i8) -> Result<AttributeValue> {
-        self.plain.serialize_i8(v)
+    fn serialize_i8(self, _v: i8) -> Result<Written> {
+        Ok(Written::Number)
     }
 
-    fn serialize_i16(self, v: i16) -> Result<AttributeValue> {
-        self.plain.serialize_i16(v)
+    fn serialize_i16(self, _v: i16) -> Result<Written> {
+        Ok(Written::Number)
     }
 
-    fn serialize_i32(self, v: i32) -> Result<AttributeValue> {
-        self.plain.serialize_i32(v)
+    fn serialize_i32(self, _v: i32) -> Result<Written> {
+        Ok(Written::Number)
     }
 
-    fn serialize_i64(self, v: i64) -> Result<AttributeValue> {
-        self.plain.serialize_i64(v)
+    fn serialize_i64(self, _v: i64) -> Result<Written> {
+        Ok(Written::Number)
     }
 
-    fn serialize_i128(self, v: i128) -> Result<AttributeValue> {
-        self.plain.serialize_i128(v)
+    fn serialize_i128(self, _v: i128) -> Result<Written> {
+        Ok(Written::Number)
     }
 
-    fn serialize_u8(self, v: u8) -> Result<AttributeValue> {
-        self.plain.serialize_u8(v)
+    fn serialize_u8(self, _v: u8) -> Result<Written> {
+        Ok(Written::Number)
     }
 
-    fn serialize_u16(self, v: u16) -> Result<AttributeValue> {
-        self.plain.serialize_u16(v)
+    fn serialize_u16(self, _v: u16) -> Result<Written> {
+        Ok(Written::Number)
     }
 
-    fn serialize_u32(self, v: u32) -> Result<AttributeValue> {
-        self.plain.serialize_u32(v)
+    fn serialize_u32(self, _v: u32) -> Result<Written> {
+        Ok(Written::Number)
     }
 
-    fn serialize_u64(self, v: u64) -> Result<AttributeValue> {
-        self.plain.serialize_u64(v)
+    fn serialize_u64(self, _v: u64) -> Result<Written> {
+        Ok(Written::Number)
     }
 
-    fn serialize_u128(self, v: u128) -> Result<AttributeValue> {
-        self.plain.serialize_u128(v)
+    fn serialize_u128(self, _v: u128) -> Result<Written> {
+        Ok(Written::Number)
     }
 
-    fn serialize_char(self, v: char) -> Result<AttributeValue> {
-        self.plain.serialize_char(v)
+    fn serialize_char(self, _v: char) -> Result<Written> {
+        Ok(Written::String)
     }
 
-    fn serialize_str(self, v: &str) -> Result<AttributeValue> {
-        self.plain.serialize_str(v)
+    fn serialize_str(self, _v: &str) -> Result<Written> {
+        Ok(Written::String)
     }
 
-    fn serialize_bytes(self, v: &[u8]) -> Result<AttributeValue> {
-        self.plain.serialize_bytes(v)
+    fn serialize_bytes(self, _v: &[u8]) -> Result<Written> {
+        Ok(Written::Blob)
     }
 
-    fn serialize_none(self) -> Result<AttributeValue> {
-        self.plain.serialize_none()
+    fn serialize_none(self) -> Result<Written> {
+        Ok(Written::Other)
     }
 
-    fn serialize_unit(self) -> Result<AttributeValue> {
-        self.plain.serialize_unit()
+    fn serialize_unit(self) -> Result<Written> {
+        Ok(Written::Other)
     }
 
-    fn serialize_unit_struct(self, name: &'static str) -> Result<AttributeValue> {
-        self.plain.serialize_unit_struct(name)
+    fn serialize_unit_struct(self, _name: &'static str) -> Result<Written> {
+        Ok(Written::Other)
     }
 
     fn serialize_unit_variant(
         self,
-        name: &'static str,
-        index: u32,
-        variant: &'static str,
-    ) -> Result<AttributeValue> {
-        self.plain.serialize_unit_variant(name, index, variant)
+        _name: &'static str,
+        _index: u32,
+        _variant: &'static str,
+    ) -> Result<Written> {
+        Ok(Written::String)
     }
 
-    fn serialize_seq(self, len: Option<usize>) -> Result<Self::SerializeSeq> {
-        Ok(LocatingParts::new(self.plain.serialize_seq(len)?, self))
+    fn serialize_seq(self, _len: Option<usize>) -> Result<LocatingParts<'a>> {
+        Ok(LocatingParts::new(self, Written::List(Misfits::none())))
     }
 
-    fn serialize_tuple(self, len: usize) -> Result<Self::SerializeTuple> {
-        Ok(LocatingParts::new(self.plain.serialize_tuple(len)?, self))
+    fn serialize_tuple(self, _len: usize) -> Result<LocatingParts<'a>> {
+        Ok(LocatingParts::new(self, Written::List(Misfits::none())))
     }
 
-    fn serialize_tuple_struct(
-        self,
-        name: &'static str,
-        len: usize,
-    ) -> Result<Self::SerializeTupleStruct> {
-        let builder = self.plain.serialize_tuple_struct(name, len)?;
-        Ok(LocatingParts::new(builder, self))
+    fn serialize_tuple_struct(self, _name: &'static str, _len: usize) -> Result<LocatingParts<'a>> {
+        Ok(LocatingParts::new(self, Written::List(Misfits::none())))
     }
 
     fn serialize_tuple_variant(
         self,
-        name: &'static str,
-        index: u32,
+        _name: &'static str,
+        _index: u32,
         variant: &'static str,
-        len: usize,
-    ) -> Result<Self::SerializeTupleVariant> {
-        let builder = self
-            .plain
-            .serialize_tuple_variant(name, index, variant, len)?;
-        Ok(LocatingParts::under(builder, self, variant))
+        _len: usize,
+    ) -> Result<LocatingParts<'a>> {
+        Ok(LocatingParts::under(self, variant))
     }
 
-    fn serialize_map(self, len: Option<usize>) -> Result<Self::SerializeMap> {
-        Ok(LocatingParts::new(self.plain.serialize_map(len)?, self))
+    fn serialize_map(self, _len: Option<usize>) -> Result<LocatingParts<'a>> {
+        Ok(LocatingParts::new(self, Written::Other))
     }
 
-    fn serialize_struct(self, name: &'static str, len: usize) -> Result<Self::SerializeStruct> {
-        let builder = self.plain.serialize_struct(name, len)?;
-        Ok(LocatingParts::new(builder, self))
+    fn serialize_struct(self, _name: &'static str, _len: usize) -> Result<LocatingParts<'a>> {
+        Ok(LocatingParts::new(self, Written::Other))
     }
 
     fn serialize_struct_variant(
         self,
-        name: &'static str,
-        index: u32,
+        _name: &'static str,
+        _index: u32,
         variant: &'static str,
-        len: usize,
-    ) -> Result<Self::SerializeStructVariant> {
-        let builder = self
-            .plain
-            .serialize_struct_variant(name, index, variant, len)?;
-        Ok(LocatingParts::under(builder, self, variant))
+        _len: usize,
+    ) -> Result<LocatingParts<'a>> {
+        Ok(LocatingParts::under(self, variant))
     }
 }

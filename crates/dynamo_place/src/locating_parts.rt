@@ -1,57 +1,58 @@
-ghost use Rattle.std.specs.Prelude.{◌≡◌};
+ghost use Rattle.std.specs.Prelude.{◌≡◌, None, option_map, string_bytes};
 
-use crate::locating::LocatingSerializer;
+use crate::locating::{LocatingSerializer, Written};
 use dynamo_ser::{
-    ListBuilder, SerializeMap, SerializeSeq, SerializeStruct, SerializeStructVariant,
+    ListBuilder, Outcomes, SerializeMap, SerializeSeq, SerializeStruct, SerializeStructVariant,
     SerializeTuple, SerializeTupleStruct, SerializeTupleVariant, StructBuilder,
 };
-use dynamo_value::{AttributeValue, Error, Result};
-use dynamo_write::Serializer;
+use dynamo_value::{Error, Result};
 use std::alloc::Global;
 
-/// A builder that adds its parts to another builder, and goes to each part on the trail while it is written.
+/// The builder of every value with parts. It goes to each part on the trail while it is written.
 #[derive(Drop)]
-pub struct LocatingParts<'a, B> {
-    builder: B,
+pub struct LocatingParts<'a> {
     serializer: LocatingSerializer<'a>,
     // How many steps lead to the whole value, and how many to the value whose parts these are.
     whole: usize,
     depth: usize,
+    // What is written by the parts so far.
+    written: Written,
     // The index of the next element.
     index: usize,
+    next_key: Option<String>,
 }
 
-impl<'a, B> LocatingParts<'a, B> {
-    /// Returns the builder of a value whose parts are right inside it.
-    pub(crate) fn new(builder: B, serializer: LocatingSerializer<'a>) -> Self
-        ensures { result.builder ≡ builder }
+impl<'a> LocatingParts<'a> {
+    /// Returns the builder of a value whose parts are right inside it, and which is written as this if it has none.
+    pub(crate) fn new(serializer: LocatingSerializer<'a>, written: Written) -> Self
+        ensures { result.next_key ≡ None }
     {
-        let depth = serializer.trail().depth();
+        let depth = serializer.trail.depth();
         LocatingParts {
-            builder,
             serializer,
             whole: depth,
             depth,
+            written,
             index: 0,
+            next_key: None,
         }
     }
 
     /// Returns the builder of a variant, whose parts are under its name.
-    pub(crate) fn under(builder: B, serializer: LocatingSerializer<'a>, variant: &str) -> Self {
-        let whole = serializer.trail().depth();
+    pub(crate) fn under(serializer: LocatingSerializer<'a>, variant: &str) -> Self {
+        let whole = serializer.trail.depth();
         serializer.go_to(variant);
-        LocatingParts {
-            whole,
-            ..LocatingParts::new(builder, serializer)
-        }
+        let mut parts = LocatingParts::new(serializer, Written::Other);
+        parts.whole = whole;
+        parts
     }
 
     fn go_back(&self) {
-        self.serializer.trail().back_to(self.depth);
+        self.serializer.trail.back_to(self.depth);
     }
 
     fn leave(&self) {
-        self.serializer.trail().back_to(self.whole);
+        self.serializer.trail.back_to(self.whole);
     }
 
     fn go_to(&self, key: &str) {
@@ -60,10 +61,8 @@ impl<'a, B> LocatingParts<'a, B> {
     }
 }
 
-impl<'a, B: ListBuilder<Serializer, Ok = AttributeValue, Error = Error>> ListBuilder<
-    LocatingSerializer<'a>,
-> for LocatingParts<'a, B> {
-    type Ok = AttributeValue;
+impl<'a> ListBuilder<LocatingSerializer<'a>> for LocatingParts<'a> {
+    type Ok = Written;
 
     type Error = Error;
 
@@ -73,70 +72,63 @@ impl<'a, B: ListBuilder<Serializer, Ok = AttributeValue, Error = Error>> ListBui
 
     fn element_serializer(&self) -> LocatingSerializer<'a> {
         self.go_back();
-        self.serializer.trail().to_element(self.index);
+        self.serializer.trail.to_element(self.index);
         self.serializer
     }
 
-    fn push_element(&mut self, written: AttributeValue) -> Result<()> {
+    fn push_element(&mut self, written: Written) -> Result<()> {
         self.go_back();
+        if let Written::List(misfits) = self.written {
+            self.written = Written::List(misfits.and(self.index, written));
+        }
         self.index = self.index.wrapping_add(1);
-        self.builder.push_element(written)
+        Ok(())
     }
 
-    fn finish(self) -> Result<AttributeValue> {
+    fn finish(self) -> Result<Written> {
         self.leave();
-        self.builder.finish()
+        Ok(self.written)
     }
 }
 
-impl<'a, B: ListBuilder<Serializer, Ok = AttributeValue, Error = Error>> SerializeSeq<
-    LocatingSerializer<'a>,
-> for LocatingParts<'a, B> {}
+impl<'a> SerializeSeq<LocatingSerializer<'a>> for LocatingParts<'a> {}
 
-impl<'a, B: ListBuilder<Serializer, Ok = AttributeValue, Error = Error>> SerializeTuple<
-    LocatingSerializer<'a>,
-> for LocatingParts<'a, B> {}
+impl<'a> SerializeTuple<LocatingSerializer<'a>> for LocatingParts<'a> {}
 
-impl<'a, B: ListBuilder<Serializer, Ok = AttributeValue, Error = Error>> SerializeTupleStruct<
-    LocatingSerializer<'a>,
-> for LocatingParts<'a, B> {}
+impl<'a> SerializeTupleStruct<LocatingSerializer<'a>> for LocatingParts<'a> {}
 
-impl<'a, B: ListBuilder<Serializer, Ok = AttributeValue, Error = Error>> SerializeTupleVariant<
-    LocatingSerializer<'a>,
-> for LocatingParts<'a, B> {}
+impl<'a> SerializeTupleVariant<LocatingSerializer<'a>> for LocatingParts<'a> {}
 
-impl<'a, B: SerializeMap<Serializer, Ok = AttributeValue, Error = Error>> SerializeMap<
-    LocatingSerializer<'a>,
-> for LocatingParts<'a, B> {
-    type Ok = AttributeValue;
+impl<'a> SerializeMap<LocatingSerializer<'a>> for LocatingParts<'a> {
+    type Ok = Written;
 
     type Error = Error;
 
     ghost gives = { λ b pieces r. Unit {0} };
 
-    ghost pending = { λ b. B.pending b.builder };
+    ghost pending = { λ b. option_map string_bytes b.next_key };
 
     ghost writer = { λ b. b.serializer };
 
     fn alloc(&self) -> Global {
-        self.builder.alloc()
+        self.serializer.alloc()
     }
 
     fn refused(&self, error: Error) -> Error {
         self.go_back();
-        self.builder.refused(error)
+        error
     }
 
     fn has_key(&self) -> bool {
-        self.builder.has_key()
+        self.next_key.is_some()
     }
 
     fn set_key(&mut self, key: String) {
-        self.builder.set_key(key);
+        self.next_key = Some(key);
     }
 
     fn take_key(&mut self) -> Option<String> {
-        self.builder.take_key()
+        self.next_key.take()
     }
 
     fn begin_value(&self, key: &str) {
@@ -147,21 +139,19 @@ impl<'a, B: SerializeMap<Serializer, Ok = AttributeValue, Error = Error>> Serial
         self.serializer
     }
 
-    fn push_entry(&mut self, key: String, written: AttributeValue) -> Result<()> {
+    fn push_entry(&mut self, _key: String, _written: Written) -> Result<()> {
         self.go_back();
-        self.builder.push_entry(key, written)
+        Ok(())
     }
 
-    fn end(self) -> Result<AttributeValue> {
+    fn end(self) -> Result<Written> {
         self.leave();
-        self.builder.end()
+        Ok(self.written)
     }
 }
 
-impl<'a, B: StructBuilder<Serializer, Ok = AttributeValue, Error = Error>> StructBuilder<
-    LocatingSerializer<'a>,
-> for LocatingParts<'a, B> {
-    type Ok = AttributeValue;
+impl<'a> StructBuilder<LocatingSerializer<'a>> for LocatingParts<'a> {
+    type Ok = Written;
 
     type Error = Error;
 
@@ -177,21 +167,17 @@ impl<'a, B: StructBuilder<Serializer, Ok = AttributeValue, Error = Error>> Struc
         self.serializer
     }
 
-    fn push_field(&mut self, key: &'static str, written: AttributeValue) -> Result<()> {
+    fn push_field(&mut self, _key: &'static str, _written: Written) -> Result<()> {
         self.go_back();
-        self.builder.push_field(key, written)
+        Ok(())
     }
 
-    fn finish(self) -> Result<AttributeValue> {
+    fn finish(self) -> Result<Written> {
         self.leave();
-        self.builder.finish()
+        Ok(self.written)
     }
 }
 
-impl<'a, B: StructBuilder<Serializer, Ok = AttributeValue, Error = Error>> SerializeStruct<
-    LocatingSerializer<'a>,
-> for LocatingParts<'a, B> {}
+impl<'a> SerializeStruct<LocatingSerializer<'a>> for LocatingParts<'a> {}
 
-impl<'a, B: StructBuilder<Serializer, Ok = AttributeValue, Error = Error>> SerializeStructVariant<
-    LocatingSerializer<'a>,
-> for LocatingParts<'a, B> {}
+impl<'a> SerializeStructVariant<LocatingSerializer<'a>> for LocatingParts<'a> {}

@@ -8,6 +8,7 @@ ghost use Rattle.dynamo_value.specs.declared.attribute_value.AttributeValue as A
 ghost use Rattle.dynamo_de.specs.Meets.{Meets};
 ghost use Rattle.dynamo_de.specs.Reads.{ReadsList};
 ghost use Rattle.dynamo_de.specs.Source.{attribute};
+ghost use Rattle.dynamo_read.specs.Lent.{lent_source};
 
 use crate::located::Located;
 use crate::way::Way;
@@ -55,11 +56,22 @@ pub fn from_attribute_value_located<T: Deserialize>(
 ) -> Result<T, LocatedError<Error>>
     ensures { Meets (λ e. fault_of e.error) (T.reads (attribute (view value))) result }
 {
-    let read = T::deserialize(alloc, LentDeserializer::from_attribute_value(alloc, &value));
-    match read {
-        Ok(read) => Ok(read),
+    let reader = LentDeserializer::from_attribute_value(alloc, &value);
+    let again = LentDeserializer::from_attribute_value(alloc, &value);
+    read_lent(alloc, reader, again)
+}
+
+// Reads a value, and after an error reads it again to find the place.
+fn read_lent<T: Deserialize>(
+    alloc: Global,
+    reader: LentDeserializer<'_>,
+    again: LentDeserializer<'_>,
+) -> Result<T, LocatedError<Error>>
+    ensures { Meets (λ e. fault_of e.error) (T.reads (lent_source reader.entry)) result }
+{
+    match T::deserialize(alloc, reader) {
+        Ok(value) => Ok(value),
         Err(error) => {
-            let again = LentDeserializer::from_attribute_value(alloc, &value);
             let place = place_of::<T>(alloc, again, &error);
             Err(LocatedError { place, error })
         }
@@ -68,20 +80,13 @@ pub fn from_attribute_value_located<T: Deserialize>(
 
 // The place where reading returns this error, or that of the whole if it returns another one.
 fn place_of<T: Deserialize>(alloc: Global, reader: LentDeserializer<'_>, error: &Error) -> Place {
-    if *error.kind() == ErrorImpl::OutOfMemory {
+    if matches!(error.kind(), ErrorImpl::OutOfMemory) {
         return Place::new();
     }
     match read_located::<T, LentDeserializer<'_>>(alloc, reader) {
         Ok(_value) => Place::new(),
-        Err(located) => place_if_same(located, error),
-    }
-}
-
-fn place_if_same(located: LocatedError<Error>, error: &Error) -> Place {
-    if located.error.kind() == error.kind() {
-        located.place
-    } else {
-        Place::new()
+        Err(located) if located.error.kind() == error.kind() => located.place,
+        Err(_located) => Place::new(),
     }
 }
 
@@ -110,15 +115,9 @@ pub fn from_item_ref_located<T: Deserialize>(
 ) -> Result<T, LocatedError<Error>>
     ensures { Meets (λ e. fault_of e.error) (T.reads (attribute (av.M (item_view item.now)))) result }
 {
-    let read = T::deserialize(alloc, LentDeserializer::from_map(alloc, item.inner()));
-    match read {
-        Ok(read) => Ok(read),
-        Err(error) => {
-            let again = LentDeserializer::from_map(alloc, item.inner());
-            let place = place_of::<T>(alloc, again, &error);
-            Err(LocatedError { place, error })
-        }
-    }
+    let reader = LentDeserializer::from_map(alloc, item.inner());
+    let again = LentDeserializer::from_map(alloc, item.inner());
+    read_lent(alloc, reader, again)
 }
 
 /// Reads a list of values from a list of items as `from_items` does, and says where an error was found. The place begins

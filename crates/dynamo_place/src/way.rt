@@ -89,10 +89,12 @@ impl Way {
 
     /// Returns the way to the entry of a key, or to the content of a variant of that name.
     pub(crate) fn entry(&self, alloc: Global, key: Option<&str>) -> Way {
-        match key.map(|key| String::from_str(alloc, key)) {
-            Some(Ok(name)) => self.further(alloc, Step::Attribute(name)),
-            _ => self.cut(),
+        if let Some(key) = key
+            && let Ok(name) = String::from_str(alloc, key)
+        {
+            return self.further(alloc, Step::Attribute(name));
         }
+        self.cut()
     }
 
     /// Marks that reading has come here.

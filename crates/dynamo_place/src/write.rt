@@ -87,17 +87,9 @@ fn located<T: Serialize>(alloc: Global, value: &T, error: Error) -> LocatedError
 // The place where an error is met when a value is written again, or the empty one if it isn't met again.
 fn place_of<T: Serialize>(alloc: Global, value: &T, error: &Error) -> Place {
     let trail = Trail::new(alloc);
-    if meets(alloc, value, error, &trail) {
-        trail.into_place()
-    } else {
-        Place::new()
-    }
-}
-
-// Whether an error is met when a value is written along a trail.
-fn meets<T: Serialize>(alloc: Global, value: &T, error: &Error, trail: &Trail) -> bool {
-    match value.serialize(LocatingSerializer::new(alloc, trail)) {
-        Ok(_written) => false,
-        Err(again) => again.kind() == error.kind(),
+    let written = value.serialize(LocatingSerializer::new(alloc, &trail));
+    match written {
+        Err(again) if again.kind() == error.kind() => trail.into_place(),
+        _ => Place::new(),
     }
 }
