@@ -2,9 +2,5 @@
 #[derive(Debug, Drop)]
 pub enum Notice {
     Closed,
-    Answered {
-        by: String,
-        #[serde(skip_serializing_if = "Option::is_none")]
-        after: Option<u32>,
-    },
+    Answered { by: String, #[serde(skip_serializing_if = "Option::is_none")] after: Option<u32> },
 }
