@@ -1,17 +1,18 @@
--- What it means that a field of a struct isn't there, and which fields are left out.
+-- What a missing field of a struct is read as, and which fields are left out.
 use Rattle.std.specs.Prelude.{List, ℕ, Bool, true, false, ◌&&◌, bytes_eq, if◌then◌else◌}
 use Rattle.dynamo_ser.specs.Datum as datum
 use Rattle.dynamo_ser.specs.Datum.{Datum, Fields}
 use Rattle.dynamo_shape.specs.SameKey.{same_key}
 
--- A field that is required is always told, and has to be there when it is read; only an option reads as none without it. A
--- field may be read as a default where it isn't there; or it is left out besides, exactly where what it holds is the default.
+-- A required field is in every datum. If it is missing, an option is none, and any other field is refused. A field with a
+-- default is read as the default if it is missing. A field that is left out is so, too, and it is in a datum exactly if it
+-- doesn't hold its default.
 pub data Absence : Type 0 where
   required : Absence
   read_as : Datum → Absence
   left_out : Datum → Absence
 
--- this default: none, an empty list or map, a scalar, a unit variant, or a newtype over one
+-- whether a datum is this default: none, an empty list or map, a scalar, a unit variant, or a newtype over one
 abbrev pub same_default : Datum → Datum → Bool
 same_default datum.none datum.none = true
 same_default (datum.seq datum.no_elements) (datum.seq datum.no_elements) = true

@@ -1,7 +1,7 @@
 -- Clear shapes: those at which whatever is written reads back as it was. At every depth
 --   no option stands over what may be written as null itself,
 --   the names of fields are distinct, and so are those of variants, and a tag is none of its variants' fields,
---   a field is left out only for a default that is told from all else that is written at its shape,
+--   a field is left out only for a default that nothing else of its shape reads back as,
 --   map keys are booleans, integers, characters, texts, enums of unit variants, or newtypes over these,
 --   the elements of a set are such as the set holds, none of them under a newtype or an option,
 --   and no newtype has the name that asks for a set.
@@ -59,7 +59,7 @@ IsElement SetKind.numbers (shape.integer k) = ⊤
 IsElement SetKind.blobs shape.bytes = ⊤
 IsElement _ _ = ⊥
 
--- A default of this shape for which a field may be left out. None is one where none alone is written as null.
+-- A field of this shape may be left out if it holds this default. It may for none if nothing else is written as null.
 abbrev pub MayBeLeftOut : Shape → Datum → Type 0
 MayBeLeftOut shape.boolean (datum.boolean b) = ⊤
 MayBeLeftOut shape.char (datum.char c) = ⊤
@@ -74,7 +74,7 @@ MayBeLeftOut (shape.enum name vs) (datum.unit_variant v) = ⊤
 MayBeLeftOut (shape.newtype name s) (datum.newtype_struct other d) = MayBeLeftOut s d
 MayBeLeftOut _ _ = ⊥
 
--- P; and of a field that may be left out that its default is such a one
+-- P, and of a field that is left out, that it may be for its default
 abbrev pub AndLeftOut : Absence → Shape → Type 0 → Type 0
 AndLeftOut (left_out d) s P = P × MayBeLeftOut s d
 AndLeftOut _ s P = P

@@ -1,5 +1,6 @@
 -- The data that conform to a shape: they are built as the shape says, with its names, the fields of a struct each once and in
--- the shape's order but for those that are left out, a variant with its place in the enum, the keys of a map all different, and nothing refuses.
+-- the shape's order but for those that are left out, a variant with its place in the enum, the keys of a map all different, and
+-- nothing refuses.
 use Rattle.std.specs.Prelude.{◌≡◌, ◌⊎◌, ℕ, suc, ℤ, Bool, true, List, ⊤}
 use Rattle.std.specs.Str.{is_utf8}
 use Rattle.std.specs.Char.{IsScalar}
