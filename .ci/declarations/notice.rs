@@ -1,4 +1,4 @@
-/// What a help desk tells of a ticket: an enum with a field that may be left out.
+/// The state of a ticket of a help desk: an enum with a field that is left out if it is none.
 #[derive(Debug, Drop)]
 pub enum Notice {
     Closed,

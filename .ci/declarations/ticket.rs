@@ -1,4 +1,4 @@
-/// A ticket of a help desk, of which the item has what the ticket holds.
+/// A ticket of a help desk. Its item leaves out the fields that are empty.
 #[derive(Debug, Drop)]
 #[serde(rename_all = "camelCase")]
 pub struct Ticket {

@@ -12,11 +12,12 @@ pub struct Attributes {
     pub is_key: bool,
     /// Whether `Default` is derived.
     pub derives_default: bool,
+    /// Whether it is `transparent`.
     pub is_transparent: bool,
     pub rename: Option<String>,
     pub rename_all: Option<RenameRule>,
     pub is_default: bool,
-    /// The name of the type whose default is left out.
+    /// The type, such as `Vec`, whose function is in `skip_serializing_if`.
     pub omitted: Option<&'static str>,
     pub set: Option<SetKind>,
 
@@ -41,7 +42,7 @@ impl Attributes {
         Ok(())
     }
 
-    /// Checks that there is no `default`, for anything but fields and structs.
+    /// Checks that there is no `default`, for anything but named fields and structs that have them.
     ///
     /// # Errors
     ///
@@ -53,7 +54,8 @@ impl Attributes {
         Ok(())
     }
 
-    /// Returns whether each field of the struct with these attributes has its type's default.
+    /// Returns whether each missing field of the struct with these attributes is read as its type's
+    /// default.
     ///
     /// # Errors
     ///

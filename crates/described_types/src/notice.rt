@@ -18,7 +18,7 @@ use serde_dynamo::{AttributeValue, Shaped, reread_clear};
 use serde_json::Value;
 use std::alloc::Global;
 
-/// What a help desk tells of a ticket: an enum with a field that may be left out.
+/// The state of a ticket of a help desk: an enum with a field that is left out if it is none.
 #[derive(Debug, Drop)]
 pub enum Notice {
     Closed,
@@ -118,7 +118,8 @@ impl Shaped for Notice {
     }
 }
 
-/// Stores a notice and reads it back: it is the same variant, with the same fields.
+/// Stores a notice and reads it back. It returns the attribute value, its DynamoDB JSON, and the
+/// notice that was read, which is the same variant with the same fields.
 ///
 /// # Errors
 ///

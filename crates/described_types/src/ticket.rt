@@ -18,7 +18,7 @@ use serde_json::Value;
 use std::alloc::Global;
 use std::collections::{BTreeMap, HashMap};
 
-/// A ticket of a help desk, of which the item has what the ticket holds.
+/// A ticket of a help desk. Its item leaves out the fields that are empty.
 #[derive(Debug, Drop)]
 pub struct Ticket {
     pub id: String,
@@ -137,7 +137,8 @@ impl Shaped for Ticket {
     }
 }
 
-/// Stores a ticket and reads it back: each field is the same, those that are left out too.
+/// Stores a ticket and reads it back. It returns the attribute value, its DynamoDB JSON, and the
+/// ticket that was read, of which each field is the same, also if it was left out.
 ///
 /// # Errors
 ///

@@ -135,7 +135,7 @@ fn in_element(alloc: Global, prefix: Prefix, json: &Value) -> Found {
     }
 }
 
-// In what has no parts, by the result of reading it.
+// In a value without parts, by the result of reading it.
 fn in_whole<T: Drop>(alloc: Global, read: Result<T, Error>) -> Found {
     match read {
         Ok(_value) => Ok(None),

@@ -48,7 +48,7 @@ impl<'a> LocatingSerializer<'a> {
     }
 }
 
-/// What was written, as far as a set asks for it.
+/// The kind of value that was written, which decides whether it may be in a set.
 #[derive(Clone, Copy)]
 pub enum Written {
     /// A string.
@@ -77,7 +77,7 @@ pub struct Misfits {
 }
 
 impl Misfits {
-    /// Returns those of an empty list.
+    /// Returns the misfits of an empty list, which has none.
     pub(crate) fn none() -> Misfits {
         Misfits {
             strings: None,

@@ -12,6 +12,9 @@ use std::collections::{BTreeMap, HashMap};
 use std::marker::PhantomData;
 
 /// A type whose default can be left out of an item: `None`, and an empty string, list or map.
+///
+/// Implement it for a type of your own to leave out fields of it. The shape of a struct with such a
+/// field is clear only if nothing else reads back as the default.
 pub trait Omittable: Shaped {
     /// The type that says what the default is.
     type Default: DefaultValue<Value = Self>;
@@ -43,7 +46,8 @@ impl<T: Omittable> FieldType for Omitted<T> {
     }
 }
 
-/// The reference to an [`Omitted`] field, which writes the field unless it holds its default.
+/// The reference to an [`Omitted`] field. Under a name it writes the field unless it holds its
+/// default. As an element of a tuple struct or a tuple variant the field is always written.
 #[derive(Drop)]
 pub struct OmittedRef<T>(pub T);
 

@@ -17,7 +17,8 @@ pub trait RefList: Sized {
     // The shapes of the fields, before others.
     ghost shapes: { Shapes → Shapes };
 
-    // What it means that they aren't there, before others; so far as it says whether they are written.
+    // Which fields are left out, and for which default, before others. A field that is always
+    // written is `required` here, also if it has a default for reading.
     ghost absences: { Defaults → Defaults };
 
     // The data of the fields, before others.

@@ -71,14 +71,18 @@ pub fn reread<T: Shaped>(alloc: Global, value: &T) -> Result<(AttributeValue, Va
     Ok((written, json, reread))
 }
 
-/// Does what [`reread`] does, for a type with a clear shape.
+/// Writes a value of a type with a clear shape, passes it through its DynamoDB JSON, and reads it
+/// back. It returns what [`reread`] returns, and promises one thing of it: the value that was read
+/// is the same as the argument. Use [`reread`] for what it promises of the attribute value and the
+/// JSON value.
 ///
-/// The prover shows once, where this is called, that the shape is clear. In a contract over
-/// [`reread`] it does so for each clause, and it may not find that by itself if fields are left out.
+/// That the shape is clear is proved once, where this is called. Over [`reread`] it is proved for
+/// each clause of a contract, and the prover may fail to do so if fields are left out.
 ///
 /// # Errors
 ///
-/// Returns [`ErrorImpl::OutOfMemory`](dynamo_value::ErrorImpl::OutOfMemory) if memory runs out.
+/// Returns [`ErrorImpl::OutOfMemory`](dynamo_value::ErrorImpl::OutOfMemory) if memory runs out, and
+/// no other error.
 ///
 /// # Examples
 ///
