@@ -122,7 +122,7 @@ mod room {
 
     impl Keyed for Room {
         fn key_schema(alloc: Global) -> Result<KeySchema, AllocError> {
-            crate::schema(alloc, "hotel", "number")
+            crate::service::schema(alloc, "hotel", "number")
         }
     }
 }
@@ -157,7 +157,7 @@ mod booking {
 
     impl Keyed for Booking {
         fn key_schema(alloc: Global) -> std::result::Result<KeySchema, AllocError> {
-            crate::schema(alloc, "guestName", "night")
+            crate::service::schema(alloc, "guestName", "night")
         }
     }
 }
