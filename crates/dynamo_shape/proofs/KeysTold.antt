@@ -2,7 +2,7 @@
 use Rattle.std.proofs.Common.{◌≡◌, ℕ, ℤ, pos, Bool, true, false, cond, refl, List, [], String, Global, string_bytes, sym, ap, ◌∙◌}
 use Rattle.std.proofs.lemmas.Bool.Decides.{Decides-eqb, Decides-int_eq}
 use Rattle.std.specs.Cmp.{booleans_Decides}
-use Rattle.std.specs.Cmp.Lexicographic.{bytes_decides}
+use Rattle.std.specs.Cmp.Lexicographic.{pointwise, bytes_decides}
 use Rattle.std.specs.Ordering.{eq_by_cmp, int_eq, is_eq, is_lt, nat_cmp, int_cmp}
 use Rattle.std.specs.Bool.{beq}
 use Rattle.std.specs.Prelude.{nat_eq, nat_lt}
@@ -29,6 +29,7 @@ integer_in _ = pos 0
 
 abbrev text_in : Datum → List ℕ
 text_in (datum.string t) = t
+text_in (datum.bytes t) = t
 text_in _ = []
 
 pub bool_equal : EqualAsTold datum.boolean beq
@@ -56,6 +57,9 @@ char_equal a b = let d = Decides-eqb a b in (λ t. ap datum.char (d.0 t), λ e. 
 
 pub text_equal : EqualAsTold {K = String Global} (λ t. datum.string (string_bytes t)) string_eq
 text_equal a b = let d = bytes_decides (string_bytes a) (string_bytes b) in (λ t. ap datum.string (d.0 t), λ e. d.1 (ap text_in e))
+
+pub bytes_equal : {T : Type 0} (seen : T → List ℕ) → EqualAsTold (λ b. datum.bytes (seen b)) (λ a b. pointwise nat_eq (seen a) (seen b))
+bytes_equal seen a b = let d = bytes_decides (seen a) (seen b) in (λ t. ap datum.bytes (d.0 t), λ e. d.1 (ap text_in e))
 
 -- they are equal in the order exactly there, too
 pub in_order : {K : Type 0} (tells : K → Datum) (eq : K → K → Bool) (cmp : K → K → Ordering) → EqualAsTold tells eq → ((x y : K) → eq x y ≡ is_eq (cmp x y)) → EqualAsTold tells (eq_by_cmp cmp)
