@@ -14,3 +14,4 @@ pub mod Pairs
 pub mod Promises
 pub mod Reading
 pub mod Rows
+pub mod SetMembers

@@ -1,4 +1,5 @@
 -- What the types with content read, by what the types inside may answer on each source.
+use Rattle.std.specs.List.{list_any}
 use Rattle.std.specs.Map.{update_all}
 use Rattle.std.specs.Prelude.{◌≡◌, ◌⊎◌, Bool, List, [], ◌∷◌, Option, Some, None, Result, Ok, Err}
 use Rattle.std.specs.declared.alloc.Global.{Global}
@@ -47,6 +48,16 @@ ReadsMap {K} {V} get eq keys values es (Err f) = ReadsEach {T = K × V} (ReadsPa
 -- what a map has while these entries are left
 unfoldable pub MapSoFar : {K V M : Type 0} → (M → K → Option V) → (K → K → Bool) → (Source → Result K Fault → Type 0) → (Source → Result V Fault → Type 0) → List Entry → M → List Entry → Type 0
 MapSoFar {K} {V} get eq keys values es m left = (ps : List (K × V)) × ReadsSoFar (ReadsPair keys values) es ps left × ((q : K) → get m q ≡ update_all eq (λ _. None) ps q)
+
+-- The elements are read in order; the first fault is the fault. A set has what is equal to one of them: `has` tells what a
+-- set has, `eq` which values are equal.
+unfoldable pub ReadsSet : {T M : Type 0} → (M → T → Bool) → (T → T → Bool) → (Source → Result T Fault → Type 0) → List Source → Result M Fault → Type 0
+ReadsSet {T} has eq reads ss (Ok m) = (vs : List T) × ReadsEach reads ss (Ok vs) × ((q : T) → has m q ≡ list_any (λ v. eq v q) vs)
+ReadsSet {T} has eq reads ss (Err f) = ReadsEach {T = T} reads ss (Err f)
+
+-- what a set has while these sources are left
+unfoldable pub SetSoFar : {T M : Type 0} → (M → T → Bool) → (T → T → Bool) → (Source → Result T Fault → Type 0) → List Source → M → List Source → Type 0
+SetSoFar {T} has eq reads ss m left = (vs : List T) × ReadsSoFar reads ss vs left × ((q : T) → has m q ≡ list_any (λ v. eq v q) vs)
 
 -- The first source is read, and then the rest is gone on with; where there is none, a message.
 unfoldable pub ReadsFirst : {T V : Type 0} → (Source → Result T Fault → Type 0) → (T → List Source → Result V Fault → Type 0) → List Source → Result V Fault → Type 0

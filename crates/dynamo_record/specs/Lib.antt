@@ -13,6 +13,7 @@ pub mod Names
 pub mod Newtypes
 pub mod Records
 pub mod Refs
+pub mod SetValues
 pub mod Told
 pub mod TupleStructs
 pub mod UnitEnums

@@ -70,6 +70,7 @@ module _ {B V : Type 0} (name : Text) (field : B → V) (key : AboutKey V) where
     cmp = λ b c. key.cmp (field b) (field c);
     equal_as_told = newtype_equal key.eq key.equal_as_told;
     ordered_as_told = newtype_equal (eq_by_cmp key.cmp) key.ordered_as_told;
+    below_as_told = λ b c. key.below_as_told (field b) (field c);
     told_apart = newtype_apart;
   }
 

@@ -1,16 +1,18 @@
 -- Enums whose variants are all without content, described by their names.
-use Rattle.std.specs.Prelude.{◌≡◌, ◌↔◌, ◌<◌, ◌≤◌, ℕ, suc, Bool, true, false, ◌&&◌, List, [], ◌∷◌, Option, Some, None, Result, nat_eq}
-use Rattle.std.proofs.Common.{zero, length, refl, sym, ap, subst, ◌∙◌}
+use Rattle.std.specs.Prelude.{◌≡◌, ◌↔◌, ◌<◌, ◌≤◌, ℕ, suc, Bool, true, false, ◌&&◌, List, [], ◌∷◌, Option, Some, None, Result, nat_eq, nat_lt, cond}
+use Rattle.std.proofs.Common.{zero, length, refl, sym, ap, subst, ◌∙◌, inl, inr, arith, ltb-true, lt-ltb}
 use Rattle.std.proofs.lemmas.Bool.{true≢false}
 use Rattle.std.proofs.lemmas.Bool.Decides.{Decides-eqb}
-use Rattle.std.specs.Cmp.Derive.{bare_tied, of_values, points}
-use Rattle.std.specs.Ordering.{eq_by_cmp}
+use Rattle.std.specs.Cmp.{nat_cmp_total}
+use Rattle.std.specs.Cmp.Derive.{bare_tied, of_values, one_truth, points}
+use Rattle.std.specs.Ordering.{eq_by_cmp, is_lt, nat_cmp, ordering_reverse}
 use Rattle.std.specs.declared.cmp.Ordering.{Ordering}
 use Rattle.std.specs.declared.cmp.Ordering.TheVariants.{Less, Equal, Greater}
 use denote.Struct.Field.{Field}
 use denote.Enum.Bare.{sameb, tag_one, Bare}
-use denote.Enum.Declared.{Record, declared, rowss, tag_of}
-use denote.Enum.Enum.{tag_below}
+use denote.Enum.Compared.{by}
+use denote.Enum.Declared.{Record, Choice, declared, rowss, intoss, tag_of}
+use denote.Enum.Enum.{tag, tag_below}
 use Rattle.dynamo_value.specs.Fault.{Fault}
 use Rattle.dynamo_ser.specs.Datum as datum
 use Rattle.dynamo_ser.specs.Datum.{Datum}
@@ -38,6 +40,7 @@ pub record AboutUnits (T : Type 0) : Type 1 where
   pub one : (v w : T) → number v ≡ number w → v ≡ w
   pub equal : (v w : T) → ((eq v w ≡ true) ↔ (number v ≡ number w))
   pub tied : (v w : T) → eq v w ≡ eq_by_cmp cmp v w
+  pub ordered : (v w : T) → cmp v w ≡ nat_cmp (number v) (number w)
   pub named : differ names ≡ true
 
 -- the name of this number
@@ -98,7 +101,7 @@ module _ {T : Type 0} (a : AboutUnits T) where
 
   -- what a derive makes of `==` and the order, as keys
   abbrev pub key_units : AboutKey T
-  key_units = key_of about_units a.eq a.cmp unit_enum_equal a.tied unit_enum_apart
+  key_units = key_of about_units a.eq a.cmp unit_enum_equal a.tied (λ v w. ap is_lt (a.ordered v w)) unit_enum_apart
 
 -- ---- of an enum that is written out
 
@@ -125,6 +128,26 @@ rows_length : (Fss : List (List Field)) → length (rowss Fss) ≡ length Fss
 rows_length [] = refl
 rows_length (Fs ∷ Fss) = ap suc (rows_length Fss)
 
+first_below : (n : ℕ) → Less ≡ nat_cmp 0 (suc n)
+first_below n = rw (lt-ltb 0 (suc n) (omega arith)) refl
+
+first_above : (n : ℕ) → Greater ≡ nat_cmp (suc n) 0
+first_above n = ap ordering_reverse (first_below n) ∙ sym (nat_cmp_total.antisymm (suc n) 0)
+
+next_place : (m n : ℕ) → nat_cmp m n ≡ nat_cmp (suc m) (suc n)
+next_place m n =
+    let less = one_truth (nat_lt m n) (nat_lt (suc m) (suc n)) (λ h. let p = ltb-true m n h in lt-ltb (suc m) (suc n) (omega arith)) (λ h. let p = ltb-true (suc m) (suc n) h in lt-ltb m n (omega arith)) in
+    let equal = one_truth (nat_eq m n) (nat_eq (suc m) (suc n)) (λ h. (Decides-eqb (suc m) (suc n)).1 (ap suc ((Decides-eqb m n).0 h))) (λ h. let p = (Decides-eqb (suc m) (suc n)).0 h in (Decides-eqb m n).1 (omega arith)) in
+    λ i. cond (less i) Less (cond (equal i) Equal Greater)
+
+-- a derived order goes by the places of the variants
+pub by_place : (Fss : List (List Field)) (c d : Choice Fss) → by Less Greater Fss (points Equal Fss) c d ≡ nat_cmp (tag (rowss Fss) (intoss Fss c)) (tag (rowss Fss) (intoss Fss d))
+by_place [] c d = absurd c
+by_place (Fs ∷ Fss) (inl x) (inl y) = refl
+by_place (Fs ∷ Fss) (inl x) (inr y) = first_below (tag (rowss Fss) (intoss Fss y))
+by_place (Fs ∷ Fss) (inr x) (inl y) = first_above (tag (rowss Fss) (intoss Fss x))
+by_place (Fs ∷ Fss) (inr x) (inr y) = by_place Fss x y ∙ next_place (tag (rowss Fss) (intoss Fss x)) (tag (rowss Fss) (intoss Fss y))
+
 module _ (N : Record) (names : Names) (h : is_named_enum N names ≡ true) where
   counted : length N.parts ≡ length names
   counted = (Decides-eqb (length N.parts) (length names)).0 (both (nat_eq (length N.parts) (length names)) (differ names) (both (are_units N.parts) _ h).1).0
@@ -150,5 +173,6 @@ units_of N name names h = record {
   one = enum_one N names h;
   equal = λ v w. Decides-eqb (tag_of (declared N) v) (tag_of (declared N) w);
   tied = (bare_tied N).ties;
+  ordered = λ v w. by_place N.parts (N.as_values v) (N.as_values w);
   named = enum_named N names h;
 }

@@ -10,7 +10,7 @@ use dynamo_de::Error;
 use dynamo_types::{Shaped, ShapedKey};
 use dynamo_value::ByteBuf;
 use std::alloc::Global;
-use std::collections::{BTreeMap, HashMap};
+use std::collections::{BTreeMap, BTreeSet, HashMap};
 use std::marker::PhantomData;
 
 /// The value of a missing field.
@@ -242,6 +242,16 @@ impl<K: ShapedKey, V: Shaped> DefaultValue for HashMap<K, V> {
 
     fn value<E: Error>(alloc: Global) -> Result<HashMap<K, V>, E> {
         Ok(HashMap::new(alloc))
+    }
+}
+
+impl<T: ShapedKey> DefaultValue for BTreeSet<T> {
+    type Value = BTreeSet<T>;
+
+    ghost told = { datum.seq datum.no_elements };
+
+    fn value<E: Error>(alloc: Global) -> Result<BTreeSet<T>, E> {
+        Ok(BTreeSet::new(alloc))
     }
 }
 

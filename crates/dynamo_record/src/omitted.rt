@@ -8,10 +8,10 @@ use dynamo_de::Error;
 use dynamo_ser::{ListBuilder, Serializer, StructBuilder};
 use dynamo_types::{Shaped, ShapedKey};
 use std::alloc::Global;
-use std::collections::{BTreeMap, HashMap};
+use std::collections::{BTreeMap, BTreeSet, HashMap};
 use std::marker::PhantomData;
 
-/// A type whose default can be left out of an item: `None`, and an empty string, list or map.
+/// A type whose default can be left out of an item: `None`, and an empty string, list, set or map.
 ///
 /// Implement it for a type of your own to leave out fields of it. The shape of a struct with such a
 /// field is clear only if nothing else reads back as the default.
@@ -116,6 +116,14 @@ impl<K: ShapedKey, V: Shaped> Omittable for BTreeMap<K, V> {
 
 impl<K: ShapedKey, V: Shaped> Omittable for HashMap<K, V> {
     type Default = HashMap<K, V>;
+
+    fn is_default(&self) -> bool {
+        self.len() == 0
+    }
+}
+
+impl<T: ShapedKey> Omittable for BTreeSet<T> {
+    type Default = BTreeSet<T>;
 
     fn is_default(&self) -> bool {
         self.len() == 0

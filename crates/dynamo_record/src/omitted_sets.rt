@@ -1,13 +1,13 @@
 //! Sets that are left out of an item if they are empty. DynamoDB has no empty set.
 ghost use Rattle.std.specs.Prelude.{◌∷◌};
-ghost use Rattle.dynamo_ser.specs.Symbols.{strings, numbers, blobs};
+ghost use Rattle.dynamo_ser.specs.Datum as datum;
+ghost use Rattle.dynamo_ser.specs.Symbols.{symbol, strings, numbers, blobs};
 ghost use Rattle.dynamo_shape.specs.Absence.{left_out};
-ghost use Rattle.dynamo_shape.specs.Shape.{set};
-ghost use Rattle.dynamo_record.specs.FieldTypes.{about_set, empty_set, set_permitted, set_tells};
+ghost use Rattle.dynamo_record.specs.FieldTypes.{about_set, empty_set, set_permitted};
 
 use crate::names::first_of;
 use crate::{
-    FieldType, InBinarySet, InNumberSet, InStringSet, Omittable, Omitted, OmittedRef, RefList,
+    FieldType, InBinarySet, InNumberSet, InStringSet, Omitted, OmittedRef, RefList, SetValue,
 };
 use dynamo_de::Error;
 use dynamo_ser::{BinarySet, ListBuilder, NumberSet, Serializer, StringSet, StructBuilder};
@@ -28,12 +28,12 @@ impl<T: Shaped> FieldType for Omitted<InStringSet<T>> {
     }
 }
 
-impl<'a, T: Shaped> RefList for OmittedRef<StringSet<&'a Vec<T>>> {
-    ghost shapes = { λ ss. set strings T.about.shape ∷ ss };
+impl<'a, M: SetValue> RefList for OmittedRef<StringSet<&'a M>> {
+    ghost shapes = { λ ss. (M.about_set strings).shape ∷ ss };
 
     ghost absences = { λ gs. left_out (empty_set strings) ∷ gs };
 
-    ghost told = { λ value ds. set_tells strings T.about.tells value.0.0.now ∷ ds };
+    ghost told = { λ value ds. datum.newtype_struct (symbol strings) (M.about.tells value.0.0.now) ∷ ds };
 
     fn write_fields<S: Serializer, B: StructBuilder<S, Ok = S::Ok, Error = S::Error>>(
         &self,
@@ -41,8 +41,8 @@ impl<'a, T: Shaped> RefList for OmittedRef<StringSet<&'a Vec<T>>> {
         builder: &mut B,
     ) -> Result<&'static [&'static str], S::Error> {
         let (name, others) = first_of(names);
-        if !self.0.0.is_default() {
-            builder.add_field::<StringSet<&'a Vec<T>>>(name, &self.0)?;
+        if !self.0.0.has_no_elements() {
+            builder.add_field::<StringSet<&'a M>>(name, &self.0)?;
         }
         Ok(others)
     }
@@ -51,7 +51,7 @@ impl<'a, T: Shaped> RefList for OmittedRef<StringSet<&'a Vec<T>>> {
         &self,
         builder: &mut B,
     ) -> Result<(), S::Error> {
-        builder.add_element::<StringSet<&'a Vec<T>>>(&self.0)
+        builder.add_element::<StringSet<&'a M>>(&self.0)
     }
 
     fn conform(&self) {
@@ -73,12 +73,12 @@ impl<T: Shaped> FieldType for Omitted<InNumberSet<T>> {
     }
 }
 
-impl<'a, T: Shaped> RefList for OmittedRef<NumberSet<&'a Vec<T>>> {
-    ghost shapes = { λ ss. set numbers T.about.shape ∷ ss };
+impl<'a, M: SetValue> RefList for OmittedRef<NumberSet<&'a M>> {
+    ghost shapes = { λ ss. (M.about_set numbers).shape ∷ ss };
 
     ghost absences = { λ gs. left_out (empty_set numbers) ∷ gs };
 
-    ghost told = { λ value ds. set_tells numbers T.about.tells value.0.0.now ∷ ds };
+    ghost told = { λ value ds. datum.newtype_struct (symbol numbers) (M.about.tells value.0.0.now) ∷ ds };
 
     fn write_fields<S: Serializer, B: StructBuilder<S, Ok = S::Ok, Error = S::Error>>(
         &self,
@@ -86,8 +86,8 @@ impl<'a, T: Shaped> RefList for OmittedRef<NumberSet<&'a Vec<T>>> {
         builder: &mut B,
     ) -> Result<&'static [&'static str], S::Error> {
         let (name, others) = first_of(names);
-        if !self.0.0.is_default() {
-            builder.add_field::<NumberSet<&'a Vec<T>>>(name, &self.0)?;
+        if !self.0.0.has_no_elements() {
+            builder.add_field::<NumberSet<&'a M>>(name, &self.0)?;
         }
         Ok(others)
     }
@@ -96,7 +96,7 @@ impl<'a, T: Shaped> RefList for OmittedRef<NumberSet<&'a Vec<T>>> {
         &self,
         builder: &mut B,
     ) -> Result<(), S::Error> {
-        builder.add_element::<NumberSet<&'a Vec<T>>>(&self.0)
+        builder.add_element::<NumberSet<&'a M>>(&self.0)
     }
 
     fn conform(&self) {
@@ -118,12 +118,12 @@ impl<T: Shaped> FieldType for Omitted<InBinarySet<T>> {
     }
 }
 
-impl<'a, T: Shaped> RefList for OmittedRef<BinarySet<&'a Vec<T>>> {
-    ghost shapes = { λ ss. set blobs T.about.shape ∷ ss };
+impl<'a, M: SetValue> RefList for OmittedRef<BinarySet<&'a M>> {
+    ghost shapes = { λ ss. (M.about_set blobs).shape ∷ ss };
 
     ghost absences = { λ gs. left_out (empty_set blobs) ∷ gs };
 
-    ghost told = { λ value ds. set_tells blobs T.about.tells value.0.0.now ∷ ds };
+    ghost told = { λ value ds. datum.newtype_struct (symbol blobs) (M.about.tells value.0.0.now) ∷ ds };
 
     fn write_fields<S: Serializer, B: StructBuilder<S, Ok = S::Ok, Error = S::Error>>(
         &self,
@@ -131,8 +131,8 @@ impl<'a, T: Shaped> RefList for OmittedRef<BinarySet<&'a Vec<T>>> {
         builder: &mut B,
     ) -> Result<&'static [&'static str], S::Error> {
         let (name, others) = first_of(names);
-        if !self.0.0.is_default() {
-            builder.add_field::<BinarySet<&'a Vec<T>>>(name, &self.0)?;
+        if !self.0.0.has_no_elements() {
+            builder.add_field::<BinarySet<&'a M>>(name, &self.0)?;
         }
         Ok(others)
     }
@@ -141,7 +141,7 @@ impl<'a, T: Shaped> RefList for OmittedRef<BinarySet<&'a Vec<T>>> {
         &self,
         builder: &mut B,
     ) -> Result<(), S::Error> {
-        builder.add_element::<BinarySet<&'a Vec<T>>>(&self.0)
+        builder.add_element::<BinarySet<&'a M>>(&self.0)
     }
 
     fn conform(&self) {

@@ -1,12 +1,12 @@
 ghost use Rattle.std.specs.Prelude.{◌∷◌, map};
-ghost use Rattle.dynamo_ser.specs.Symbols.{strings, numbers, blobs};
-ghost use Rattle.dynamo_shape.specs.Shape.{set};
+ghost use Rattle.dynamo_ser.specs.Datum as datum;
+ghost use Rattle.dynamo_ser.specs.Symbols.{symbol, strings, numbers, blobs};
 ghost use Rattle.dynamo_shape.specs.Absence.{required};
 ghost use Rattle.dynamo_record.specs.Fields.{Defaults};
-ghost use Rattle.dynamo_record.specs.FieldTypes.{set_tells};
 ghost use Rattle.dynamo_record.specs.Listed.{Shapes, Data};
 ghost use Rattle.dynamo_record.specs.Refs.{PutsFields, PutsElements, ConformFront};
 
+use crate::SetValue;
 use crate::names::first_of;
 use dynamo_ser::{BinarySet, ListBuilder, NumberSet, Serializer, StringSet, StructBuilder};
 use dynamo_types::Shaped;
@@ -111,12 +111,12 @@ impl<L: RefList, R: RefList> RefList for (L, R) {
     }
 }
 
-impl<'a, T: Shaped> RefList for StringSet<&'a Vec<T>> {
-    ghost shapes = { λ ss. set strings T.about.shape ∷ ss };
+impl<'a, M: SetValue> RefList for StringSet<&'a M> {
+    ghost shapes = { λ ss. (M.about_set strings).shape ∷ ss };
 
     ghost absences = { λ gs. required ∷ gs };
 
-    ghost told = { λ value ds. set_tells strings T.about.tells value.0.now ∷ ds };
+    ghost told = { λ value ds. datum.newtype_struct (symbol strings) (M.about.tells value.0.now) ∷ ds };
 
     fn write_fields<S: Serializer, B: StructBuilder<S, Ok = S::Ok, Error = S::Error>>(
         &self,
@@ -124,7 +124,7 @@ impl<'a, T: Shaped> RefList for StringSet<&'a Vec<T>> {
         builder: &mut B,
     ) -> Result<&'static [&'static str], S::Error> {
         let (name, others) = first_of(names);
-        builder.add_field::<StringSet<&'a Vec<T>>>(name, self)?;
+        builder.add_field::<StringSet<&'a M>>(name, self)?;
         Ok(others)
     }
 
@@ -132,7 +132,7 @@ impl<'a, T: Shaped> RefList for StringSet<&'a Vec<T>> {
         &self,
         builder: &mut B,
     ) -> Result<(), S::Error> {
-        builder.add_element::<StringSet<&'a Vec<T>>>(self)
+        builder.add_element::<StringSet<&'a M>>(self)
     }
 
     fn conform(&self) {
@@ -140,12 +140,12 @@ impl<'a, T: Shaped> RefList for StringSet<&'a Vec<T>> {
     }
 }
 
-impl<'a, T: Shaped> RefList for NumberSet<&'a Vec<T>> {
-    ghost shapes = { λ ss. set numbers T.about.shape ∷ ss };
+impl<'a, M: SetValue> RefList for NumberSet<&'a M> {
+    ghost shapes = { λ ss. (M.about_set numbers).shape ∷ ss };
 
     ghost absences = { λ gs. required ∷ gs };
 
-    ghost told = { λ value ds. set_tells numbers T.about.tells value.0.now ∷ ds };
+    ghost told = { λ value ds. datum.newtype_struct (symbol numbers) (M.about.tells value.0.now) ∷ ds };
 
     fn write_fields<S: Serializer, B: StructBuilder<S, Ok = S::Ok, Error = S::Error>>(
         &self,
@@ -153,7 +153,7 @@ impl<'a, T: Shaped> RefList for NumberSet<&'a Vec<T>> {
         builder: &mut B,
     ) -> Result<&'static [&'static str], S::Error> {
         let (name, others) = first_of(names);
-        builder.add_field::<NumberSet<&'a Vec<T>>>(name, self)?;
+        builder.add_field::<NumberSet<&'a M>>(name, self)?;
         Ok(others)
     }
 
@@ -161,7 +161,7 @@ impl<'a, T: Shaped> RefList for NumberSet<&'a Vec<T>> {
         &self,
         builder: &mut B,
     ) -> Result<(), S::Error> {
-        builder.add_element::<NumberSet<&'a Vec<T>>>(self)
+        builder.add_element::<NumberSet<&'a M>>(self)
     }
 
     fn conform(&self) {
@@ -169,12 +169,12 @@ impl<'a, T: Shaped> RefList for NumberSet<&'a Vec<T>> {
     }
 }
 
-impl<'a, T: Shaped> RefList for BinarySet<&'a Vec<T>> {
-    ghost shapes = { λ ss. set blobs T.about.shape ∷ ss };
+impl<'a, M: SetValue> RefList for BinarySet<&'a M> {
+    ghost shapes = { λ ss. (M.about_set blobs).shape ∷ ss };
 
     ghost absences = { λ gs. required ∷ gs };
 
-    ghost told = { λ value ds. set_tells blobs T.about.tells value.0.now ∷ ds };
+    ghost told = { λ value ds. datum.newtype_struct (symbol blobs) (M.about.tells value.0.now) ∷ ds };
 
     fn write_fields<S: Serializer, B: StructBuilder<S, Ok = S::Ok, Error = S::Error>>(
         &self,
@@ -182,7 +182,7 @@ impl<'a, T: Shaped> RefList for BinarySet<&'a Vec<T>> {
         builder: &mut B,
     ) -> Result<&'static [&'static str], S::Error> {
         let (name, others) = first_of(names);
-        builder.add_field::<BinarySet<&'a Vec<T>>>(name, self)?;
+        builder.add_field::<BinarySet<&'a M>>(name, self)?;
         Ok(others)
     }
 
@@ -190,7 +190,7 @@ impl<'a, T: Shaped> RefList for BinarySet<&'a Vec<T>> {
         &self,
         builder: &mut B,
     ) -> Result<(), S::Error> {
-        builder.add_element::<BinarySet<&'a Vec<T>>>(self)
+        builder.add_element::<BinarySet<&'a M>>(self)
     }
 
     fn conform(&self) {

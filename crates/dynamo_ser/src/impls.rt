@@ -5,4 +5,5 @@ mod maps;
 mod numbers;
 mod options;
 mod sequences;
+mod sets;
 mod texts;

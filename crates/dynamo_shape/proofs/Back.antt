@@ -6,6 +6,7 @@ use Rattle.dynamo_de.proofs.Decimals.{parse_back}
 use Rattle.dynamo_shape.proofs.Keys.{key_back}
 use Rattle.dynamo_shape.proofs.Flat.{shape_clear}
 use Rattle.dynamo_shape.proofs.LeftOut.{left_back, default_back}
+use Rattle.dynamo_shape.proofs.Ordered.{kept_sorted, sorted_same}
 use Rattle.dynamo_shape.proofs.Sets.{set_back}
 use Rattle.dynamo_shape.proofs.Maps.{map_back, pairs_back, pairs_weaker}
 use Rattle.dynamo_shape.proofs.Structs.{FieldsBack, no_fields_back, field_back, all_named, behind_tag}
@@ -19,10 +20,11 @@ use Rattle.dynamo_ser.specs.Datum.{Variant, Datum, Fields}
 use Rattle.dynamo_shape.specs.Clear.{is_variant, is_tagged, is_field, NearlyClear, NearlyClearAll, NearlyClearFields, NearlyClearContent, NearlyClearVariants, NearlyClearTagged}
 use Rattle.dynamo_shape.specs.Conforms.{AllElements, conforms, conform_each, conform_fields, conforms_content, conforms_variant, conforms_tagged, tagged_struct}
 use Rattle.dynamo_shape.specs.Kept.{is_null, kept, kept_elements}
+use Rattle.dynamo_shape.specs.Order.{IsAscending, sorted}
 use Rattle.dynamo_shape.specs.Read.{read_list, read_each, read, read_one_of, read_inside, read_tag, read_tagged}
 use Rattle.dynamo_shape.specs.ReadsBack.{ReadsBack}
 use Rattle.dynamo_shape.specs.Same.{Same, SameElements}
-use Rattle.dynamo_shape.specs.Shape.{Shape, boolean, char, string, bytes, unit, integer, unit_struct, option, newtype, list, set, tuple, tuple_struct, map, struct, enum, tagged, Shapes, no_shapes, shape, FieldShapes, no_field_shapes, field_shape, Content, nothing, one, several, named, Variants, no_variants, variant, Tagged, no_tagged, tagged_variant}
+use Rattle.dynamo_shape.specs.Shape.{Shape, boolean, char, string, bytes, unit, integer, unit_struct, option, newtype, list, set, tuple, tuple_struct, map, struct, enum, tagged, ordered, Shapes, no_shapes, shape, FieldShapes, no_field_shapes, field_shape, Content, nothing, one, several, named, Variants, no_variants, variant, Tagged, no_tagged, tagged_variant}
 use Rattle.dynamo_value.specs.Av.{Av, N, S, B, Boolean, Null, L, M, Members, members_of}
 use Rattle.dynamo_write.specs.Collect.{collect}
 use Rattle.dynamo_write.specs.Set.{set_kind}
@@ -164,6 +166,11 @@ later_tagged v name fs vs tag d n (t, ms, e, h) = (
 tagged_back : (tag : Text) (vs : Tagged) (d : Datum) → TaggedBack vs tag d → ReadsBack (tagged tag vs) d
 tagged_back tag vs d (t, ms, e, h) = (M ms, e, h.wrote, rw h.named h.reads, h.alike)
 
+-- ---- lists and sets in order
+
+ordered_back : (s : Shape) (d : Datum) → ReadsBack s d → IsAscending d → ReadsBack (ordered s) d
+ordered_back s d (a, e, p, q, h) c = (a, sorted e, p, rw q refl, subst (λ x. Same x (sorted e)) (kept_sorted d c) (sorted_same (kept d) e h))
+
 -- ---- every shape
 
 moved : (s : Shape) (d e : Datum) → d ≡ e → ReadsBack s e → ReadsBack s d
@@ -194,6 +201,7 @@ mutual
   back (struct name fs) d n c = moved (struct name fs) _ _ c.1 (struct_back name fs c.0 n (back_fields fs c.0 n c.2))
   back (enum name vs) d n c = enum_back name vs d (back_variants vs name 0 d n c)
   back (tagged tag vs) d n c = tagged_back tag vs d (back_tagged vs tag d n c)
+  back (ordered s) d n c = ordered_back s d (back s d n c.0) c.1
 
   back_each : (ss : Shapes) (ds : datum.Elements) → NearlyClearAll ss → conform_each ss ds → ItemsBack (read_each ss) ds
   back_each no_shapes ds n c = subst (ItemsBack (read_each no_shapes)) (sym c) (av.no_elements, datum.no_elements, refl, refl, refl)

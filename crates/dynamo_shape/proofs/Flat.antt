@@ -11,7 +11,7 @@ use Rattle.dynamo_shape.specs.Absence.{Absence, required, read_as, left_out, is_
 use Rattle.dynamo_shape.specs.Clear.{IsElement, AndLeftOut, NearlyClear, NearlyClearAll, NearlyClearFields, NearlyClearContent, NearlyClearVariants, NearlyClearTagged, NoneNested, NoneNestedAll, NoneNestedFields, NoneNestedContent, NoneNestedVariants, NoneNestedTagged, Nullable, Clear}
 use Rattle.dynamo_shape.specs.Conforms.{AllElements, AllPairs, conforms, conform_each, conform_fields, conforms_content, conforms_variant, conforms_tagged, tagged_struct}
 use Rattle.dynamo_shape.specs.Kept.{is_null, kept, kept_elements, kept_pairs, kept_fields, is_written_null}
-use Rattle.dynamo_shape.specs.Shape.{Shape, boolean, char, string, bytes, unit, integer, unit_struct, option, newtype, list, set, tuple, tuple_struct, map, struct, enum, tagged, Shapes, no_shapes, shape, FieldShapes, no_field_shapes, field_shape, Content, nothing, one, several, named, Variants, no_variants, variant, Tagged, no_tagged, tagged_variant}
+use Rattle.dynamo_shape.specs.Shape.{Shape, boolean, char, string, bytes, unit, integer, unit_struct, option, newtype, list, set, tuple, tuple_struct, map, struct, enum, tagged, ordered, Shapes, no_shapes, shape, FieldShapes, no_field_shapes, field_shape, Content, nothing, one, several, named, Variants, no_variants, variant, Tagged, no_tagged, tagged_variant}
 use Rattle.dynamo_value.specs.Av.{Av, L}
 use Rattle.dynamo_value.specs.Fault.{Fault}
 use Rattle.dynamo_value.specs.Steps.{◌>>=◌}
@@ -72,6 +72,7 @@ not_null (map k s) d n c h = rw c.1 (some_null (written_pairs c.0) _ (λ a. refl
 not_null (struct name fs) d n c h = rw c.1 (some_null (written_fields c.0) _ (λ a. refl))
 not_null (enum name vs) d n c h = variant_null name 0 vs d c
 not_null (tagged tag vs) d n c h = tagged_null tag vs d c
+not_null (ordered s) d n c h = not_null s d n c.0 h
 
 flat_all : (s : Shape) → ((d : Datum) → conforms s d → kept d ≡ d) → (ds : datum.Elements) → AllElements (conforms s) ds → kept_elements ds ≡ ds
 flat_all s f datum.no_elements c = refl
@@ -118,6 +119,7 @@ mutual
   flat_at (struct name fs) d n m c = moved _ _ c.1 (ap (datum.struct name) (flat_named fs c.0 n m c.2))
   flat_at (enum name vs) d n m c = flat_variant vs name 0 d n m c
   flat_at (tagged tag vs) d n m c = flat_tagged vs tag d n m c
+  flat_at (ordered s) d n m c = flat_at s d n m c.0
 
   flat_each : (ss : Shapes) (ds : datum.Elements) → NearlyClearAll ss → NoneNestedAll ss → conform_each ss ds → kept_elements ds ≡ ds
   flat_each no_shapes ds n m c = rw c refl

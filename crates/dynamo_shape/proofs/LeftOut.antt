@@ -80,6 +80,7 @@ itself (shape.set k s) (datum.newtype_struct name (datum.seq datum.no_elements))
 itself (shape.map k s) (datum.map datum.no_pairs) m = refl
 itself (shape.enum name vs) (datum.unit_variant v) m = self_variant v
 itself (shape.newtype name s) (datum.newtype_struct other d) m = rw (same_bytes other) (itself s d m)
+itself (shape.ordered s) d m = itself s d m
 itself _ _ m = absurd m
 
 -- of a field that is left out the default is read, and left out
@@ -125,6 +126,7 @@ stays (shape.set k s) (datum.newtype_struct name (datum.seq datum.no_elements)) 
 stays (shape.map k s) (datum.map datum.no_pairs) e m n c = moved (datum.map datum.no_pairs) _ _ c.1 (no_pairs_stay c.0)
 stays (shape.enum name vs) (datum.unit_variant v) e m n c = variant_stays v name 0 vs e c
 stays (shape.newtype name s) (datum.newtype_struct other d) e m n c = moved (datum.newtype_struct other d) _ _ c.1 (ap (λ b. bytes_eq other name && b) (stays s d c.0 m n.1 c.2))
+stays (shape.ordered s) d e m n c = stays s d e m n c.0
 stays _ _ e m n c = absurd m
 
 -- what is read is left out where what was written is

@@ -2,6 +2,7 @@ pub mod Alike
 pub mod Answered
 pub mod Apart
 pub mod Back
+pub mod Below
 pub mod ByHand
 pub mod ByValue
 pub mod Counts
@@ -21,11 +22,14 @@ pub mod MapsRead
 pub mod MapsTold
 pub mod Members
 pub mod OneAnswer
+pub mod Ordered
 pub mod Pairs
 pub mod Puts
 pub mod Results
 pub mod Same
 pub mod Sets
+pub mod SetsRead
+pub mod SetsTold
 pub mod Structs
 pub mod Tuples
 pub mod TypesByHand

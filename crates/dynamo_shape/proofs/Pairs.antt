@@ -15,11 +15,12 @@ use Rattle.dynamo_de.specs.Source.{Text, key_text}
 use Rattle.dynamo_value.specs.Fault.{expected_string, expected_num}
 use Rattle.dynamo_ser.specs.Datum.{Variant, Datum, Pairs, no_pairs, pair}
 use Rattle.dynamo_shape.specs.Conforms.{HasKey, PairsDiffer}
+use Rattle.dynamo_shape.specs.Order.{sorted}
 use Rattle.dynamo_shape.specs.Read.{into, read, read_inside, read_one_of}
 use Rattle.dynamo_ser.specs.Without.{Without}
 use Rattle.dynamo_shape.specs.Same.{Same, SamePairs}
 use Rattle.dynamo_shape.specs.SameKey.{same_kind, same_integer, same_bool, same_variant, same_key, put_pair}
-use Rattle.dynamo_shape.specs.Shape.{Shape, boolean, char, string, bytes, integer, newtype, enum, Content, nothing, one, several, named, Variants, no_variants, variant}
+use Rattle.dynamo_shape.specs.Shape.{Shape, boolean, char, string, bytes, integer, newtype, enum, ordered, Content, nothing, one, several, named, Variants, no_variants, variant}
 use Rattle.dynamo_value.specs.Integer.{IntegerKind}
 
 -- ---- equal keys
@@ -152,6 +153,15 @@ newtype_self : (name : Text) (x : Answer Datum) → KeysOnly x → KeysOnly (int
 newtype_self name (Ok l) h = rw (same_bytes name, h) refl
 newtype_self name (Err r) h = tt
 
+sorted_key : (l : Datum) → IsKeyDatum l → IsKeyDatum (sorted l)
+sorted_key (datum.newtype_struct name l) h = let (a, b) = and_parts (bytes_eq name name) (same_key l l) h in rw (a, sorted_key l b) refl
+sorted_key (datum.seq ds) h = absurd (true≢false (sym h))
+sorted_key l h = h
+
+sorted_self : (x : Answer Datum) → KeysOnly x → KeysOnly (into sorted x)
+sorted_self (Ok l) h = sorted_key l h
+sorted_self (Err r) h = tt
+
 key_self : (k : Shape) (t : Text) → KeysOnly (read k (key_text t))
 key_self boolean t = bool_self (bytes_eq t (codes "true")) (bytes_eq t (codes "false"))
 key_self char t = char_self (one_char t)
@@ -160,6 +170,7 @@ key_self bytes t = same_bytes t
 key_self (integer k) t = integer_self k (parse k t)
 key_self (newtype name s) t = newtype_self name (read s (key_text t)) (key_self s t)
 key_self (enum name vs) t = named_self vs name 0 t
+key_self (ordered s) t = sorted_self (read s (key_text t)) (key_self s t)
 key_self _ t = tt
 
 pub read_self : (k : Shape) (t : Text) (l : Datum) → read k (key_text t) ≡ value l → IsKeyDatum l

@@ -20,7 +20,7 @@ use Rattle.dynamo_shape.specs.Conforms.{AllElements, AllPairs, conforms, conform
 use Rattle.dynamo_shape.specs.Kept.{kept, kept_elements, kept_pairs, kept_fields, is_written_null}
 use Rattle.dynamo_shape.specs.Read.{read}
 use Rattle.dynamo_shape.specs.Same.{Same}
-use Rattle.dynamo_shape.specs.Shape.{Shape, boolean, char, string, bytes, unit, integer, unit_struct, option, newtype, list, set, tuple, tuple_struct, map, struct, enum, tagged, Shapes, no_shapes, shape, FieldShapes, no_field_shapes, field_shape, Content, nothing, one, several, named, Variants, no_variants, variant, Tagged, no_tagged, tagged_variant}
+use Rattle.dynamo_shape.specs.Shape.{Shape, boolean, char, string, bytes, unit, integer, unit_struct, option, newtype, list, set, tuple, tuple_struct, map, struct, enum, tagged, ordered, Shapes, no_shapes, shape, FieldShapes, no_field_shapes, field_shape, Content, nothing, one, several, named, Variants, no_variants, variant, Tagged, no_tagged, tagged_variant}
 use Rattle.dynamo_value.specs.Av.{Av}
 use Rattle.dynamo_write.specs.Written.{written}
 
@@ -88,6 +88,7 @@ mutual
   well_keyed (struct name fs) d n c = moved _ _ c.1 (fields_keyed fs c.0 n c.2)
   well_keyed (enum name vs) d n c = variant_keyed vs name 0 d n c
   well_keyed (tagged tag vs) d n c = tagged_keyed vs tag d n c
+  well_keyed (ordered s) d n c = well_keyed s d n c.0
 
   each_keyed : (ss : Shapes) (ds : datum.Elements) → NearlyClearAll ss → conform_each ss ds → WellKeyedAll (kept_elements ds)
   each_keyed no_shapes ds n c = subst (λ x. WellKeyedAll (kept_elements x)) (sym c) tt

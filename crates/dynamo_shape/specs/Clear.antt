@@ -22,6 +22,7 @@ Nullable shape.unit = ⊤
 Nullable (shape.unit_struct name) = ⊤
 Nullable (shape.option s) = ⊤
 Nullable (shape.newtype name s) = Nullable s
+Nullable (shape.ordered s) = Nullable s
 Nullable _ = ⊥
 
 abbrev pub is_variant : Variants → Text → Bool
@@ -72,6 +73,7 @@ MayBeLeftOut (shape.set k s) (datum.newtype_struct name (datum.seq datum.no_elem
 MayBeLeftOut (shape.map k s) (datum.map datum.no_pairs) = ⊤
 MayBeLeftOut (shape.enum name vs) (datum.unit_variant v) = ⊤
 MayBeLeftOut (shape.newtype name s) (datum.newtype_struct other d) = MayBeLeftOut s d
+MayBeLeftOut (shape.ordered s) d = MayBeLeftOut s d
 MayBeLeftOut _ _ = ⊥
 
 -- P, and of a field that is left out, that it may be for its default
@@ -91,6 +93,7 @@ abbrev mutual
   NearlyClear (shape.struct name fs) = NearlyClearFields fs
   NearlyClear (shape.enum name vs) = NearlyClearVariants vs
   NearlyClear (shape.tagged tag vs) = NearlyClearTagged tag vs
+  NearlyClear (shape.ordered s) = NearlyClear s
   NearlyClear _ = ⊤
 
   pub NearlyClearAll : Shapes → Type 0
@@ -128,6 +131,7 @@ abbrev mutual
   NoneNested (shape.struct name fs) = NoneNestedFields fs
   NoneNested (shape.enum name vs) = NoneNestedVariants vs
   NoneNested (shape.tagged tag vs) = NoneNestedTagged vs
+  NoneNested (shape.ordered s) = NoneNested s
   NoneNested _ = ⊤
 
   pub NoneNestedAll : Shapes → Type 0

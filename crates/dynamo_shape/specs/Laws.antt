@@ -1,10 +1,13 @@
 -- What a type with a shape promises.
 use Rattle.std.specs.Prelude.{◌≡◌, ◌↔◌, Bool, true, Result, Ok, Err}
+use Rattle.std.specs.Ordering.{is_lt}
+use Rattle.std.specs.declared.cmp.Ordering.{Ordering}
 use Rattle.dynamo_value.specs.Fault.{Fault}
 use Rattle.dynamo_ser.specs.Datum.{Datum}
 use Rattle.dynamo_de.specs.Answer.{Answer, value}
 use Rattle.dynamo_de.specs.Source.{Source}
 use Rattle.dynamo_shape.specs.Conforms.{conforms}
+use Rattle.dynamo_shape.specs.Order.{is_below}
 use Rattle.dynamo_shape.specs.Permits.{Permits}
 use Rattle.dynamo_shape.specs.Read.{read}
 use Rattle.dynamo_shape.specs.Same.{Same}
@@ -34,3 +37,7 @@ EqualAsTold {K} tells eq = (k l : K) → ((eq k l ≡ true) ↔ (tells k ≡ tel
 -- what a key tells holds no map, whose order could differ
 abbrev pub ToldApart : {K : Type 0} → (K → Datum) → Type 0
 ToldApart {K} tells = (k l : K) → Same (tells k) (tells l) → tells k ≡ tells l
+
+-- one key is below another in their order exactly where what it tells is below
+abbrev pub BelowAsTold : {K : Type 0} → (K → Datum) → (K → K → Ordering) → Type 0
+BelowAsTold {K} tells cmp = (k l : K) → is_lt (cmp k l) ≡ is_below (tells k) (tells l)

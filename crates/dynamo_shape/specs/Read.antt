@@ -14,8 +14,9 @@ use Rattle.dynamo_de.specs.Ignored.{ignore}
 use Rattle.dynamo_de.specs.Source.{Source, Text, Entry, attribute, key_text}
 use Rattle.dynamo_shape.specs.Absence.{Absence, required, read_as, left_out, put_field}
 use Rattle.dynamo_shape.specs.Conforms.{tagged_struct}
+use Rattle.dynamo_shape.specs.Order.{sorted}
 use Rattle.dynamo_shape.specs.SameKey.{put_pair}
-use Rattle.dynamo_shape.specs.Shape.{Shape, boolean, char, string, bytes, unit, integer, unit_struct, option, newtype, list, set, tuple, tuple_struct, map, struct, enum, tagged, Shapes, no_shapes, shape, FieldShapes, no_field_shapes, field_shape, Content, nothing, one, several, named, Variants, no_variants, variant, Tagged, no_tagged, tagged_variant}
+use Rattle.dynamo_shape.specs.Shape.{Shape, boolean, char, string, bytes, unit, integer, unit_struct, option, newtype, list, set, tuple, tuple_struct, map, struct, enum, tagged, ordered, Shapes, no_shapes, shape, FieldShapes, no_field_shapes, field_shape, Content, nothing, one, several, named, Variants, no_variants, variant, Tagged, no_tagged, tagged_variant}
 
 -- f of what is read
 abbrev pub into : {A B : Type 0} → (A → B) → Answer A → Answer B
@@ -119,6 +120,7 @@ abbrev mutual
     es ← read_entries s
     t ← read_tag tag es
     read_tagged vs tag t es
+  read (ordered t) s = into sorted (read t s)
 
   -- the first elements; fewer are refused, more are let go unread
   pub read_each : Shapes → List Source → Answer Elements

@@ -6,7 +6,8 @@ use Rattle.dynamo_shape.specs.Absence.{Absence}
 
 -- One constructor for each form of data; a list's elements, a map's keys and values and an option's content have one shape
 -- each. A set is a list that is written as a set of its kind. The fields of a struct and the variants of an enum are in order.
--- A tagged enum is written as the struct of its variant, which the first field names, under the tag.
+-- A tagged enum is written as the struct of its variant, which the first field names, under the tag. A list or a set that is
+-- ordered has distinct elements, in their order.
 mutual
   pub data Shape : Type 0 where
     boolean char string bytes unit : Shape
@@ -22,6 +23,7 @@ mutual
     struct : List ℕ → FieldShapes → Shape
     enum : List ℕ → Variants → Shape
     tagged : List ℕ → Tagged → Shape
+    ordered : Shape → Shape
 
   pub data Shapes : Type 0 where
     no_shapes : Shapes

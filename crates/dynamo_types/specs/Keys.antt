@@ -5,7 +5,7 @@ use Rattle.std.specs.declared.alloc.Global.{Global}
 use Rattle.std.specs.declared.cmp.Ordering.{Ordering}
 use Rattle.std.specs.Bool.{beq}
 use Rattle.std.specs.Cmp.{unsigned_ties}
-use Rattle.std.specs.Cmp.Lexicographic.{texts_ties}
+use Rattle.std.specs.Cmp.Lexicographic.{pointwise, slice_cmp, texts_ties}
 use Rattle.std.specs.Map.{lookup}
 use Rattle.std.specs.Ordering.{bool_cmp, int_cmp, int_eq, nat_cmp, eq_by_cmp}
 use Rattle.std.specs.String.{string_eq, string_cmp}
@@ -18,23 +18,25 @@ use Rattle.dynamo_de.specs.Reading.{read_entries}
 use Rattle.dynamo_de.specs.Reads.{ReadsMap}
 use Rattle.dynamo_de.specs.Source.{Source}
 use Rattle.dynamo_shape.specs.ByValue.{SameMap}
-use Rattle.dynamo_shape.specs.Laws.{EqualAsTold, ToldApart, ReadsByShape}
+use Rattle.dynamo_shape.specs.Laws.{BelowAsTold, EqualAsTold, ToldApart, ReadsByShape}
 use Rattle.dynamo_shape.specs.Shape as shape
 use Rattle.dynamo_shape.specs.Shape.{Shape}
-use Rattle.dynamo_shape.proofs.KeysTold.{bool_equal, signed_equal, unsigned_equal, char_equal, text_equal, in_order}
+use Rattle.dynamo_shape.proofs.KeysTold.{bool_equal, signed_equal, unsigned_equal, unsigned_below, char_equal, text_equal, bytes_equal, in_order}
 use Rattle.dynamo_shape.proofs.MapsRead.{map_permitted}
 use Rattle.dynamo_shape.proofs.MapsTold.{map_told, map_alike}
 use Rattle.dynamo_shape.proofs.Pairs.{same_is}
-use Rattle.dynamo_types.specs.About.{About, about_bool, about_signed, about_unsigned, about_char, about_text}
+use Rattle.dynamo_types.specs.About.{About, about_bool, about_signed, about_unsigned, about_char, about_text, about_bytes}
 
 -- What is known of the values; their equality and order. Two keys are equal exactly where they tell the same datum, and equal
--- in the order exactly there, too. What a key tells holds no map, whose order could differ.
+-- in the order exactly there, too. One is below another exactly where what it tells is below. What a key tells holds no map,
+-- whose order could differ.
 pub record AboutKey (K : Type 0) : Type 1 where
   pub about : About K
   pub eq : K → K → Bool
   pub cmp : K → K → Ordering
   pub equal_as_told : EqualAsTold about.tells eq
   pub ordered_as_told : EqualAsTold about.tells (eq_by_cmp cmp)
+  pub below_as_told : BelowAsTold about.tells cmp
   pub told_apart : ToldApart about.tells
 
 -- so a type's shape, what its values tell, and its equality and order
@@ -48,8 +50,16 @@ abbrev pub own_key : {K : Type 0} (key : AboutKey K) → IsKeyOf key key.about.s
 own_key key = record { shape = refl; tells = refl; eq = refl; cmp = refl }
 
 -- keys whose equality is that of their order
-abbrev pub key_of : {K : Type 0} (about : About K) (eq : K → K → Bool) (cmp : K → K → Ordering) → EqualAsTold about.tells eq → ((x y : K) → eq x y ≡ eq_by_cmp cmp x y) → ToldApart about.tells → AboutKey K
-key_of about eq cmp equal tied apart = record { about = about; eq = eq; cmp = cmp; equal_as_told = equal; ordered_as_told = in_order about.tells eq cmp equal tied; told_apart = apart }
+abbrev pub key_of : {K : Type 0} (about : About K) (eq : K → K → Bool) (cmp : K → K → Ordering) → EqualAsTold about.tells eq → ((x y : K) → eq x y ≡ eq_by_cmp cmp x y) → BelowAsTold about.tells cmp → ToldApart about.tells → AboutKey K
+key_of about eq cmp equal tied below apart = record {
+  about = about;
+  eq = eq;
+  cmp = cmp;
+  equal_as_told = equal;
+  ordered_as_told = in_order about.tells eq cmp equal tied;
+  below_as_told = below;
+  told_apart = apart;
+}
 
 pub bools_tied : (x y : Bool) → beq x y ≡ eq_by_cmp bool_cmp x y
 bools_tied true true = refl
@@ -58,19 +68,22 @@ bools_tied false true = refl
 bools_tied false false = refl
 
 abbrev pub key_bool : AboutKey Bool
-key_bool = key_of about_bool beq bool_cmp bool_equal bools_tied (λ _ _ h. h)
+key_bool = key_of about_bool beq bool_cmp bool_equal bools_tied (λ _ _. refl) (λ _ _ h. h)
 
 abbrev pub key_signed : IntegerKind → AboutKey ℤ
-key_signed k = key_of (about_signed k) int_eq int_cmp (signed_equal k) (λ _ _. refl) (λ _ _ h. h)
+key_signed k = key_of (about_signed k) int_eq int_cmp (signed_equal k) (λ _ _. refl) (λ _ _. refl) (λ _ _ h. h)
 
 abbrev pub key_unsigned : IntegerKind → AboutKey ℕ
-key_unsigned k = key_of (about_unsigned k) nat_eq nat_cmp (unsigned_equal k) unsigned_ties (λ _ _ h. h)
+key_unsigned k = key_of (about_unsigned k) nat_eq nat_cmp (unsigned_equal k) unsigned_ties (unsigned_below k) (λ _ _ h. h)
 
 abbrev pub key_char : AboutKey ℕ
-key_char = key_of about_char nat_eq nat_cmp char_equal unsigned_ties (λ _ _ h. h)
+key_char = key_of about_char nat_eq nat_cmp char_equal unsigned_ties (λ _ _. refl) (λ _ _ h. h)
 
 abbrev pub key_text : AboutKey (String Global)
-key_text = key_of (about_text string_bytes) string_eq string_cmp text_equal (λ s t. texts_ties (string_bytes s) (string_bytes t)) (λ _ _ h. h)
+key_text = key_of (about_text string_bytes) string_eq string_cmp text_equal (λ s t. texts_ties (string_bytes s) (string_bytes t)) (λ _ _. refl) (λ _ _ h. h)
+
+abbrev pub key_bytes : {T : Type 0} → (T → List ℕ) → AboutKey T
+key_bytes seen = key_of (about_bytes seen) (λ a b. pointwise nat_eq (seen a) (seen b)) (λ a b. slice_cmp nat_cmp (seen a) (seen b)) (bytes_equal seen) (λ a b. texts_ties (seen a) (seen b)) (λ _ _. refl) (λ _ _ h. h)
 
 -- ---- maps, whose entries are looked up by an equality of keys
 

@@ -5,6 +5,7 @@ mod maps;
 mod numbers;
 mod options;
 mod sequences;
+mod sets;
 mod shaped;
 mod texts;
 

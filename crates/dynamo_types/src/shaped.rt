@@ -43,9 +43,10 @@ pub trait Shaped: Serialize + Deserialize {
     ghost reads_by_shape: { ReadsByShape about.shape about.tells Self.Deserialize.reads };
 }
 
-/// A type with a shape whose values can be the keys of maps.
+/// A type with a shape whose values can be the keys of maps and the members of sets.
 pub trait ShapedKey: Shaped + Eq + Hash + Ord {
     // Two keys are equal exactly if they have the same datum, and so they are in the type's order.
+    // One is below another exactly if its datum is below.
     ghost about_key: { AboutKey Self };
 
     /// Promises that the key's datum conforms to the shape, as [`Shaped::conforms`].

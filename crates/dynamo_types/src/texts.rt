@@ -3,7 +3,7 @@ ghost use Rattle.std.proofs.Common.{refl};
 ghost use Rattle.dynamo_value.specs.Bytes.{octets_of};
 ghost use Rattle.dynamo_shape.proofs.Scalars.{char_permitted, text_permitted, bytes_permitted, unit_permitted};
 ghost use Rattle.dynamo_types.specs.About.{about_char, about_text, about_bytes, about_unit};
-ghost use Rattle.dynamo_types.specs.Keys.{own_key, key_char, key_text};
+ghost use Rattle.dynamo_types.specs.Keys.{own_key, key_bytes, key_char, key_text};
 
 use crate::{Shaped, ShapedKey};
 use dynamo_de::Error;
@@ -66,6 +66,13 @@ impl Shaped for ByteBuf {
     }
 
     fn conforms(&self) {}
+}
+
+/// For the members of sets. A map with such keys has no clear shape.
+impl ShapedKey for ByteBuf {
+    ghost about_key = { key_bytes octets_of };
+
+    ghost is_key = { own_key (key_bytes octets_of) };
 }
 
 impl Shaped for () {

@@ -14,7 +14,7 @@ use crate::{Deserialize, Deserializer, Error, Reader, Request, SeqAccess};
 use std::alloc::Global;
 
 /// What is made of the elements of a sequence.
-trait FromElements: Sized + Drop {
+pub(super) trait FromElements: Sized + Drop {
     // What the elements may be read as.
     ghost of_elements: { List Source → Result Self Fault → Type 0 };
 
@@ -26,7 +26,7 @@ trait FromElements: Sized + Drop {
 }
 
 // Reads what is made of the elements of a sequence, which is asked for by this request.
-fn read_sequence<T: FromElements, R: Reader>(
+pub(super) fn read_sequence<T: FromElements, R: Reader>(
     alloc: Global,
     request: Request,
     reader: R,
