@@ -98,10 +98,10 @@ abbrev after : FieldShapes → List (Text × Datum) → Slots → Slots
 after no_field_shapes l os = []
 after (field_shape name s default fs) l os = last_of name l (first_slot os) ∷ after fs l (other_slots os)
 
-turned : (t u : Text) → bytes_eq t u ≡ true → bytes_eq u t ≡ true
+pub turned : (t u : Text) → bytes_eq t u ≡ true → bytes_eq u t ≡ true
 turned t u e = (bytes_eq-Decides u t).1 (sym ((bytes_eq-Decides t u).0 e))
 
-not_turned : (t u : Text) → bytes_eq t u ≡ false → bytes_eq u t ≡ false
+pub not_turned : (t u : Text) → bytes_eq t u ≡ false → bytes_eq u t ≡ false
 not_turned t u e = elim (bytes_eq u t) as (λ b. bytes_eq u t ≡ b → b ≡ false) [
   | true ↦ λ q. sym (turned u t q) ∙ e
   | false ↦ λ q. refl

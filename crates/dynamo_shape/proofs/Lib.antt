@@ -24,6 +24,7 @@ pub mod OneAnswer
 pub mod Pairs
 pub mod Puts
 pub mod Results
+pub mod Rules
 pub mod Same
 pub mod Sets
 pub mod Structs
@@ -33,3 +34,4 @@ pub mod WellKeyed
 pub mod Scalars
 mod ReadRows
 mod ShapeRows
+mod RulesRows
