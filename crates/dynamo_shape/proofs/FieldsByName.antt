@@ -72,7 +72,7 @@ behind_behind (suc i) f os = ap (λ more. first_slot os ∷ more) (behind_behind
 
 module _ {F S : Type 0} (entry : F → S → Av → Answer S) (slots : S → Slots) where
   -- an entry is read as by its field's shape, and fills the field's slot; so far as these fields go, the first of which has slot i
-  pub Reads : ℕ → FieldShapes → (Text → F) → Type 0
+  unfoldable pub Reads : ℕ → FieldShapes → (Text → F) → Type 0
   Reads i fs named = (t : Text) (u : S) (a : Av) → Both (λ new d. slots new ≡ behind i (fill_named fs t d) (slots u)) (entry (named t) u a) (read_field fs t a)
 
   -- a field: what is read of it is kept in its slot
