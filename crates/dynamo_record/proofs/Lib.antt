@@ -1,5 +1,7 @@
 pub mod Answering
 pub mod BothLists
+pub mod ByRules
+pub mod Closing
 pub mod Choosing
 pub mod Chosen
 pub mod Described
@@ -13,5 +15,6 @@ pub mod OneField
 pub mod OneVariant
 pub mod Passing
 pub mod Places
+pub mod Renaming
 pub mod Structs
 pub mod Variants

@@ -15,12 +15,23 @@ use Rattle.dynamo_shape.specs.Shape.{Shape}
 use Rattle.dynamo_shape.proofs.Alike.{same_refl}
 use Rattle.dynamo_shape.proofs.FieldsByName.{Slots, first_slot, other_slots}
 use Rattle.dynamo_record.specs.Fields.{Defaults, complete, missed_name, read_fields}
-use Rattle.dynamo_record.specs.Listed.{Shapes, Data, AlikeFront, Makes, Completes, IsRead, HoldsField}
+use Rattle.std.specs.Option.{is_some}
+use Rattle.dynamo_record.specs.Listed.{Shapes, Data, AlikeFront, Makes, Completes, IsRead, HoldsField, is_there}
 use Rattle.dynamo_record.specs.Names.{Names, first_name, other_names, missing_text}
 
 -- a datum in front of what follows
 abbrev pub front_of : Datum → Data → Data
 front_of d ds = d ∷ ds
+
+-- a field was read where its slot is filled
+pub there_alike : {T : Type 0} (s : Shape) (tells : T → Datum) (x : Option T) (os : Slots) → IsRead s tells x (first_slot os) → is_some x ≡ is_there (first_slot os)
+there_alike {T} s tells x os h = along x (first_slot os) h
+  where
+    along : (x : Option T) (o : Option Datum) → IsRead s tells x o → is_some x ≡ is_there o
+    along None None h = refl
+    along (Some v) (Some d) h = refl
+    along None (Some d) h = absurd h
+    along (Some v) None h = absurd h
 
 module _ {T : Type 0} (s : Shape) (tells : T → Datum) where
   abbrev shapes : Shapes → Shapes

@@ -13,6 +13,7 @@ use Rattle.dynamo_shape.specs.Shape.{Shape, FieldShapes, no_field_shapes, field_
 use Rattle.dynamo_shape.proofs.ByHand.{into_into, read_itself}
 use Rattle.dynamo_shape.proofs.FieldsByName as slots
 use Rattle.dynamo_shape.proofs.FieldsByName.{Slots, first_slot, other_slots, behind, fill, fill_slot, empty, close, NamesDiffer, Reads, all_named}
+use Rattle.dynamo_record.specs.ByRules.{pad}
 use Rattle.dynamo_record.specs.Entries.{fields_from, entry_at, finish, reads_on}
 use Rattle.dynamo_record.specs.Records.{place_in}
 
@@ -44,11 +45,6 @@ from_tail zero fs all h = h
 from_tail (suc i) fs no_field_shapes h = absurd h
 from_tail (suc i) fs (field_shape n s d gs) h = from_tail i fs gs h
 
--- the slots of all fields, and no more
-abbrev pad : FieldShapes → Slots → Slots
-pad no_field_shapes os = []
-pad (field_shape name s e fs) os = first_slot os ∷ pad fs (other_slots os)
-
 pad_fill : (i : ℕ) (own : Text) (s : Shape) (e : Absence) (fs all : FieldShapes) (d : Datum) (os : Slots) → Tail i (field_shape own s e fs) all → pad all (behind i (fill d) os) ≡ behind i (fill d) (pad all os)
 pad_fill zero own s x fs no_field_shapes d os h = absurd (subst IsNone h tt)
 pad_fill zero own s x fs (field_shape n t e gs) d os h = refl
@@ -61,16 +57,16 @@ pad_end zero (field_shape n t e gs) os h = refl
 pad_end (suc i) no_field_shapes os h = absurd h
 pad_end (suc i) (field_shape n t e gs) os h = ap (λ more. first_slot os ∷ more) (pad_end i gs (other_slots os) h)
 
-pad_empty : (fs : FieldShapes) → pad fs (empty fs) ≡ empty fs
+pub pad_empty : (fs : FieldShapes) → pad fs (empty fs) ≡ empty fs
 pad_empty no_field_shapes = refl
 pad_empty (field_shape n s d fs) = ap (λ more. None ∷ more) (pad_empty fs)
 
-close_pad : (fs : FieldShapes) (os : Slots) → close fs os ≡ close fs (pad fs os)
+pub close_pad : (fs : FieldShapes) (os : Slots) → close fs os ≡ close fs (pad fs os)
 close_pad no_field_shapes os = refl
 close_pad (field_shape name s e fs) os = ap (λ more. value_or (first_slot os) (missing s e) >>= λ d. more >>= λ gs. answer.value (put_field name e d gs)) (close_pad fs (other_slots os))
 
 module _ (all : FieldShapes) where
-  reads_from : (i : ℕ) (fs : FieldShapes) → Tail i fs all → Reads (entry_at all) (pad all) i fs (place_in i fs)
+  pub reads_from : (i : ℕ) (fs : FieldShapes) → Tail i fs all → Reads (entry_at all) (pad all) i fs (place_in i fs)
   reads_from i no_field_shapes h = slots.unknown (entry_at all) (pad all) i i (λ u a. rw (from_tail i no_field_shapes all h) (into_into (λ _. datum.unit) (λ d. u) (ignore a))) (λ u. pad_end i all u h)
   reads_from i (field_shape own s e fs) h =
       slots.known (entry_at all) (pad all) i own s e fs i (place_in (suc i) fs) (read s) (λ d. d) (λ d u. fill_slot i d u) (read_itself s)

@@ -18,6 +18,8 @@ use Rattle.dynamo_record.specs.Records.{AboutRecord, AreNamed, record_fields, Fr
 use Rattle.dynamo_record.specs.Apart.{names_differ}
 use Rattle.dynamo_record.proofs.Described.{empty_unread, close_complete, in_order_listed, answer_of, struct_made, struct_missed, struct_fails, after_struct, by_entries}
 use Rattle.dynamo_record.proofs.Described as described
+use Rattle.dynamo_record.proofs.Closing as closing
+use Rattle.dynamo_record.proofs.Closing.{Last}
 use Rattle.dynamo_record.proofs.Entries as entries
 
 module _ {V L : Type 0} (a : AboutRecord V L) where
@@ -73,13 +75,8 @@ module _ {V L : Type 0} (a : AboutRecord V L) where
 
       -- after the last entry
       module _ (taken : TakesEntry source l new None) where
-        last : (os : Slots) × front x os × ((r : Result V Fault) → After (finish (datum.struct a.name) (record_fields a) os) (IsAlike a) r → After (entries.answered (datum.struct a.name) (record_fields a) es) (IsAlike a) r)
+        last : Last a holds x (entries.answered (datum.struct a.name) (record_fields a) es)
         last = entries.ends (datum.struct a.name) (record_fields a) (IsAlike a) front es source l new x so_far taken
-
-        closed : (r : Result V Fault) → RecordAnswers a (answer_of a (complete (a.list.shapes []) (a.list.defaults []) last.0)) r → FromParts a (by_name es) r
-        closed r h =
-            let shut = subst (λ fs. RecordAnswers a (into (datum.struct a.name) fs) r) (sym (close_complete a.names (a.list.shapes []) (a.list.defaults []) last.0)) h in
-            whole r (last.2 r (after_struct a (finish (datum.struct a.name) (record_fields a) last.0) r shut))
 
         -- all fields are there, or one is missed
         module _ (N : Type 0) (missed : Slots → Option Text) where
@@ -87,10 +84,7 @@ module _ {V L : Type 0} (a : AboutRecord V L) where
           Ends r = (os : Slots) → holds x os [] → Completes fault a.list.shapes a.list.told (complete (a.list.shapes []) (a.list.defaults []) os) (answer.value []) (missed os) (λ _. None) r
 
           pub all_made : (m : L) (others : N) (v : V) → a.parts v ≡ m → Ends (Ok (m, others)) → FromParts a (by_name es) (Ok v)
-          all_made m others v e h = closed (Ok v) (struct_made a named (complete (a.list.shapes []) (a.list.defaults []) last.0) m v e (h last.0 last.1).0)
+          all_made m others v e h = closing.all_made a named holds x (entries.answered (datum.struct a.name) (record_fields a) es) (FromParts a (by_name es)) whole last fault N missed m others v e h
 
           pub one_missed : (e : E) → Ends (Err e) → Meets {V = V} fault (FromParts a (by_name es)) (Err e)
-          one_missed e h = elim (h last.0 last.1) [
-            | inl lacks ↦ inl lacks
-            | inr told ↦ inr (closed (Err (fault e)) (struct_missed a (complete (a.list.shapes []) (a.list.defaults []) last.0) (fault e) told.1 (missing_text told.0, told.3)))
-          ]
+          one_missed e h = closing.one_missed a named holds x (entries.answered (datum.struct a.name) (record_fields a) es) (FromParts a (by_name es)) whole last fault N missed e h

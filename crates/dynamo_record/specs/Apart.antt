@@ -27,7 +27,7 @@ none_named s ss h = subst IsZero h tt
 pub no_shape : (n : Text) (ns : Names) → length (n ∷ ns) ≡ length {A = Shape} [] → ⊥
 no_shape n ns h = subst IsZero (sym h) tt
 
-field_named : (ns : Names) (ss : Shapes) (gs : Defaults) (t : Text) → length ns ≡ length ss → is_field (field_shapes ns ss gs) t ≡ is_named ns t
+pub field_named : (ns : Names) (ss : Shapes) (gs : Defaults) (t : Text) → length ns ≡ length ss → is_field (field_shapes ns ss gs) t ≡ is_named ns t
 field_named [] [] gs t h = refl
 field_named [] (s ∷ ss) gs t h = absurd (none_named s ss h)
 field_named (n ∷ ns) [] gs t h = absurd (no_shape n ns h)

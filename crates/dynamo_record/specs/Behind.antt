@@ -4,13 +4,16 @@ use Rattle.dynamo_ser.specs.Datum.{Datum}
 use Rattle.dynamo_shape.specs.Shape.{Shape}
 use Rattle.dynamo_shape.proofs.FieldsByName.{fill_slot}
 use Rattle.dynamo_record.specs.Fields.{read_nth}
-use Rattle.dynamo_record.specs.Listed.{Shapes, Holds, HoldsField, HoldsBoth, HoldsBehind, ReadBehind, Counts}
+use Rattle.dynamo_record.specs.Listed.{Shapes, Holds, HoldsField, HoldsBoth, HoldsBehind, FilledBehind, ReadBehind, Counts, is_filled}
 
 next : (i : ℕ) → suc i ≡ 1 + i
 next i = omega arith
 
 pub field_behind : {T : Type 0} (s : Shape) (tells : T → Datum) → HoldsBehind 1 (HoldsField s tells)
 field_behind s tells x os more i d h = subst (λ n. HoldsField s tells x (fill_slot n d os) (fill_slot i d more)) (next i) (h.0, ap (fill_slot i d) h.1)
+
+pub field_filled : {T : Type 0} (s : Shape) (tells : T → Datum) → FilledBehind 1 (HoldsField s tells)
+field_filled s tells x os more i h = ap (λ n. is_filled n os) (sym (next i)) ∙ ap (is_filled i) (sym h.1)
 
 pub field_read : (s : Shape) → ReadBehind 1 (λ ss. s ∷ ss)
 field_read s ss i source = subst (λ n. read_nth n (s ∷ ss) source ≡ read_nth i ss source) (next i) refl
@@ -24,6 +27,9 @@ grouped a b i = omega arith
 pub both_behind : {X Y : Type 0} (a b : ℕ) (left : Holds X) (right : Holds Y) → HoldsBehind a left → HoldsBehind b right → HoldsBehind (a + b) (HoldsBoth left right)
 both_behind a b left right behind behind_right x os more i d h =
     (fill_slot (b + i) d h.0, subst (λ n. left x.0 (fill_slot n d os) (fill_slot (b + i) d h.0)) (grouped a b i) (behind x.0 os h.0 (b + i) d h.1), behind_right x.1 h.0 more i d h.2)
+
+pub both_filled : {X Y : Type 0} (a b : ℕ) (left : Holds X) (right : Holds Y) → FilledBehind a left → FilledBehind b right → FilledBehind (a + b) (HoldsBoth left right)
+both_filled a b left right first second x os more i h = ap (λ n. is_filled n os) (sym (grouped a b i)) ∙ (first x.0 os h.0 (b + i) h.1 ∙ second x.1 h.0 more i h.2)
 
 pub both_read : (a b : ℕ) (left right : Shapes → Shapes) → ReadBehind a left → ReadBehind b right → ReadBehind (a + b) (λ ss. left (right ss))
 both_read a b left right first second ss i source = ap (λ n. read_nth n (left (right ss)) source) (sym (grouped a b i)) ∙ (first (right ss) (b + i) source ∙ second ss i source)

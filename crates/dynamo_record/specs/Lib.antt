@@ -1,5 +1,6 @@
 pub mod Apart
 pub mod Behind
+pub mod ByRules
 pub mod Contents
 pub mod Entries
 pub mod Enums

@@ -1,6 +1,7 @@
 -- Lists of fields by their types, each put in front of whatever follows, so that two lists are one list by going on with the
 -- second behind the first.
-use Rattle.std.specs.Prelude.{◌≡◌, ◌⊎◌, ◌+◌, ℕ, List, ◌∷◌, Option, Some, None, Result, Ok, Err, length, ⊤}
+use Rattle.std.specs.Prelude.{◌≡◌, ◌⊎◌, ◌+◌, ℕ, suc, Bool, true, false, List, ◌∷◌, Option, Some, None, Result, Ok, Err, length, ⊤}
+use Rattle.std.proofs.Common.{zero}
 use Rattle.dynamo_value.specs.Fault.{Fault, message, out_of_memory}
 use Rattle.dynamo_ser.specs.Datum.{Datum}
 use Rattle.dynamo_de.specs.Answer.{Answer, refused, After}
@@ -112,6 +113,19 @@ HoldsBoth left right x os more = (rest : Slots) × left x.0 os rest × right x.1
 -- a slot behind these may be filled
 abbrev pub HoldsBehind : {X : Type 0} → ℕ → Holds X → Type 0
 HoldsBehind {X} count holds = (x : X) (os more : Slots) (i : ℕ) (d : Datum) → holds x os more → holds x (fill_slot (count + i) d os) (fill_slot i d more)
+
+abbrev pub is_there : Option Datum → Bool
+is_there None = false
+is_there (Some d) = true
+
+-- whether the field of a number was read
+abbrev pub is_filled : ℕ → Slots → Bool
+is_filled zero os = is_there (first_slot os)
+is_filled (suc i) os = is_filled i (other_slots os)
+
+-- a slot behind these is filled where it is among those that follow
+abbrev pub FilledBehind : {X : Type 0} → ℕ → Holds X → Type 0
+FilledBehind {X} count holds = (x : X) (os more : Slots) (i : ℕ) → holds x os more → is_filled (count + i) os ≡ is_filled i more
 
 -- the fields behind these are those that follow
 abbrev pub ReadBehind : ℕ → (Shapes → Shapes) → Type 0

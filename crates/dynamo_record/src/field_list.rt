@@ -3,8 +3,8 @@ ghost use Rattle.dynamo_value.specs.Fault.{message, out_of_memory};
 ghost use Rattle.dynamo_de.specs.Meets.{Meets};
 ghost use Rattle.dynamo_shape.proofs.FieldsByName.{Slots};
 ghost use Rattle.dynamo_record.specs.Fields.{Defaults, unread, complete, missed_name, read_fields};
-ghost use Rattle.dynamo_record.specs.Listed.{AboutList, about_field, about_both, Shapes, Holds, HoldsField, HoldsBoth, HoldsBehind, ReadBehind, Counts, Fills, Completes, MakesOrFails};
-ghost use Rattle.dynamo_record.specs.Behind.{both_behind, both_read, both_counted, field_behind, field_read, field_counted};
+ghost use Rattle.dynamo_record.specs.Listed.{AboutList, about_field, about_both, Shapes, Holds, HoldsField, HoldsBoth, HoldsBehind, FilledBehind, ReadBehind, Counts, Fills, is_filled, Completes, MakesOrFails};
+ghost use Rattle.dynamo_record.specs.Behind.{both_behind, both_filled, both_read, both_counted, field_behind, field_filled, field_read, field_counted};
 ghost use Rattle.dynamo_record.specs.Names.{missing_text};
 
 use crate::names::first_of;
@@ -49,6 +49,10 @@ pub trait FieldList: Sized {
     ) -> Result<(), D::Error>
         ensures { place < about.count → place + 1 < 2 ^ 64 → (ss : Shapes) (os more : Slots) → holds slots.old os more → Meets D.Error.fault (Fills holds (about.shapes ss) place os more slots.new (D.source value)) result };
 
+    /// Returns whether the field with this index is read.
+    fn is_read(slots: &Self::Slots, place: usize) -> bool
+        ensures { place < about.count → place + 1 < 2 ^ 64 → (os more : Slots) → holds slots.now os more → result ≡ is_filled place os };
+
     /// Returns the fields, and the names that follow theirs.
     ///
     /// # Errors
@@ -82,6 +86,9 @@ pub trait FieldList: Sized {
     // A slot behind these may be filled.
     ghost behind: { HoldsBehind about.count holds };
 
+    // A slot behind these is filled if it is among those that follow.
+    ghost filled_behind: { FilledBehind about.count holds };
+
     // The fields behind these are those that follow.
     ghost read_behind: { ReadBehind about.count about.shapes };
 
@@ -108,6 +115,8 @@ impl<F: FieldType> FieldList for Field<F> {
 
     ghost behind = { field_behind F.about.shape F.about.tells };
 
+    ghost filled_behind = { field_filled F.about.shape F.about.tells };
+
     ghost read_behind = { field_read F.about.shape };
 
     ghost counted = { field_counted F.about.shape };
@@ -129,6 +138,10 @@ impl<F: FieldType> FieldList for Field<F> {
         let read = F::Value::deserialize(alloc, value)?;
         *slots = Some(read);
         Ok(())
+    }
+
+    fn is_read(slots: &Option<F::Value>, _place: usize) -> bool {
+        slots.is_some()
     }
 
     fn complete<E: Error>(
@@ -176,6 +189,8 @@ impl<L: FieldList, R: FieldList> FieldList for (L, R) {
 
     ghost behind = { both_behind L.about.count R.about.count L.holds R.holds L.behind R.behind };
 
+    ghost filled_behind = { both_filled L.about.count R.about.count L.holds R.holds L.filled_behind R.filled_behind };
+
     ghost read_behind = { both_read L.about.count R.about.count L.about.shapes R.about.shapes L.read_behind R.read_behind };
 
     ghost counted = { both_counted L.about.count R.about.count L.about.shapes R.about.shapes L.counted R.counted };
@@ -199,6 +214,15 @@ impl<L: FieldList, R: FieldList> FieldList for (L, R) {
             L::read_value(&mut slots.0, place, value, alloc)
         } else {
             R::read_value(&mut slots.1, place - first, value, alloc)
+        }
+    }
+
+    fn is_read(slots: &(L::Slots, R::Slots), place: usize) -> bool {
+        let first = L::count();
+        if place < first {
+            L::is_read(&slots.0, place)
+        } else {
+            R::is_read(&slots.1, place - first)
         }
     }
 

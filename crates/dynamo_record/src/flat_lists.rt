@@ -1,7 +1,7 @@
 //! Lists of four and of eight lists, which keep the lists of many fields flat: each is read as the
 //! pairs of its halves.
 ghost use Rattle.std.specs.Prelude.{◌+◌};
-ghost use Rattle.dynamo_record.specs.Behind.{both_behind, both_read, both_counted};
+ghost use Rattle.dynamo_record.specs.Behind.{both_behind, both_filled, both_read, both_counted};
 ghost use Rattle.dynamo_record.specs.Flat.{about_four, about_eight};
 ghost use Rattle.dynamo_record.specs.Listed.{HoldsBoth, Shapes};
 
@@ -17,6 +17,8 @@ impl<A: FieldList, B: FieldList, C: FieldList, D: FieldList> FieldList for (A, B
     ghost holds = { HoldsBoth (HoldsBoth A.holds B.holds) (HoldsBoth C.holds D.holds) };
 
     ghost behind = { both_behind (A.about.count + B.about.count) (C.about.count + D.about.count) (HoldsBoth A.holds B.holds) (HoldsBoth C.holds D.holds) (both_behind A.about.count B.about.count A.holds B.holds A.behind B.behind) (both_behind C.about.count D.about.count C.holds D.holds C.behind D.behind) };
+
+    ghost filled_behind = { both_filled (A.about.count + B.about.count) (C.about.count + D.about.count) (HoldsBoth A.holds B.holds) (HoldsBoth C.holds D.holds) (both_filled A.about.count B.about.count A.holds B.holds A.filled_behind B.filled_behind) (both_filled C.about.count D.about.count C.holds D.holds C.filled_behind D.filled_behind) };
 
     ghost read_behind = { both_read (A.about.count + B.about.count) (C.about.count + D.about.count) (λ (ss : Shapes). A.about.shapes (B.about.shapes ss)) (λ (ss : Shapes). C.about.shapes (D.about.shapes ss)) (both_read A.about.count B.about.count A.about.shapes B.about.shapes A.read_behind B.read_behind) (both_read C.about.count D.about.count C.about.shapes D.about.shapes C.read_behind D.read_behind) };
 
@@ -37,6 +39,10 @@ impl<A: FieldList, B: FieldList, C: FieldList, D: FieldList> FieldList for (A, B
         alloc: Global,
     ) -> Result<(), X::Error> {
         <((A, B), (C, D)) as FieldList>::read_value(slots, place, value, alloc)
+    }
+
+    fn is_read(slots: &((A::Slots, B::Slots), (C::Slots, D::Slots)), place: usize) -> bool {
+        <((A, B), (C, D)) as FieldList>::is_read(slots, place)
     }
 
     fn complete<X: Error>(
@@ -98,6 +104,8 @@ impl<
 
     ghost behind = { both_behind ((A.about.count + B.about.count) + (C.about.count + D.about.count)) ((E.about.count + F.about.count) + (G.about.count + H.about.count)) (HoldsBoth (HoldsBoth A.holds B.holds) (HoldsBoth C.holds D.holds)) (HoldsBoth (HoldsBoth E.holds F.holds) (HoldsBoth G.holds H.holds)) (both_behind (A.about.count + B.about.count) (C.about.count + D.about.count) (HoldsBoth A.holds B.holds) (HoldsBoth C.holds D.holds) (both_behind A.about.count B.about.count A.holds B.holds A.behind B.behind) (both_behind C.about.count D.about.count C.holds D.holds C.behind D.behind)) (both_behind (E.about.count + F.about.count) (G.about.count + H.about.count) (HoldsBoth E.holds F.holds) (HoldsBoth G.holds H.holds) (both_behind E.about.count F.about.count E.holds F.holds E.behind F.behind) (both_behind G.about.count H.about.count G.holds H.holds G.behind H.behind)) };
 
+    ghost filled_behind = { both_filled ((A.about.count + B.about.count) + (C.about.count + D.about.count)) ((E.about.count + F.about.count) + (G.about.count + H.about.count)) (HoldsBoth (HoldsBoth A.holds B.holds) (HoldsBoth C.holds D.holds)) (HoldsBoth (HoldsBoth E.holds F.holds) (HoldsBoth G.holds H.holds)) (both_filled (A.about.count + B.about.count) (C.about.count + D.about.count) (HoldsBoth A.holds B.holds) (HoldsBoth C.holds D.holds) (both_filled A.about.count B.about.count A.holds B.holds A.filled_behind B.filled_behind) (both_filled C.about.count D.about.count C.holds D.holds C.filled_behind D.filled_behind)) (both_filled (E.about.count + F.about.count) (G.about.count + H.about.count) (HoldsBoth E.holds F.holds) (HoldsBoth G.holds H.holds) (both_filled E.about.count F.about.count E.holds F.holds E.filled_behind F.filled_behind) (both_filled G.about.count H.about.count G.holds H.holds G.filled_behind H.filled_behind)) };
+
     ghost read_behind = { both_read ((A.about.count + B.about.count) + (C.about.count + D.about.count)) ((E.about.count + F.about.count) + (G.about.count + H.about.count)) (λ (ss : Shapes). (λ (ss : Shapes). A.about.shapes (B.about.shapes ss)) ((λ (ss : Shapes). C.about.shapes (D.about.shapes ss)) ss)) (λ (ss : Shapes). (λ (ss : Shapes). E.about.shapes (F.about.shapes ss)) ((λ (ss : Shapes). G.about.shapes (H.about.shapes ss)) ss)) (both_read (A.about.count + B.about.count) (C.about.count + D.about.count) (λ (ss : Shapes). A.about.shapes (B.about.shapes ss)) (λ (ss : Shapes). C.about.shapes (D.about.shapes ss)) (both_read A.about.count B.about.count A.about.shapes B.about.shapes A.read_behind B.read_behind) (both_read C.about.count D.about.count C.about.shapes D.about.shapes C.read_behind D.read_behind)) (both_read (E.about.count + F.about.count) (G.about.count + H.about.count) (λ (ss : Shapes). E.about.shapes (F.about.shapes ss)) (λ (ss : Shapes). G.about.shapes (H.about.shapes ss)) (both_read E.about.count F.about.count E.about.shapes F.about.shapes E.read_behind F.read_behind) (both_read G.about.count H.about.count G.about.shapes H.about.shapes G.read_behind H.read_behind)) };
 
     ghost counted = { both_counted ((A.about.count + B.about.count) + (C.about.count + D.about.count)) ((E.about.count + F.about.count) + (G.about.count + H.about.count)) (λ (ss : Shapes). (λ (ss : Shapes). A.about.shapes (B.about.shapes ss)) ((λ (ss : Shapes). C.about.shapes (D.about.shapes ss)) ss)) (λ (ss : Shapes). (λ (ss : Shapes). E.about.shapes (F.about.shapes ss)) ((λ (ss : Shapes). G.about.shapes (H.about.shapes ss)) ss)) (both_counted (A.about.count + B.about.count) (C.about.count + D.about.count) (λ (ss : Shapes). A.about.shapes (B.about.shapes ss)) (λ (ss : Shapes). C.about.shapes (D.about.shapes ss)) (both_counted A.about.count B.about.count A.about.shapes B.about.shapes A.counted B.counted) (both_counted C.about.count D.about.count C.about.shapes D.about.shapes C.counted D.counted)) (both_counted (E.about.count + F.about.count) (G.about.count + H.about.count) (λ (ss : Shapes). E.about.shapes (F.about.shapes ss)) (λ (ss : Shapes). G.about.shapes (H.about.shapes ss)) (both_counted E.about.count F.about.count E.about.shapes F.about.shapes E.counted F.counted) (both_counted G.about.count H.about.count G.about.shapes H.about.shapes G.counted H.counted)) };
@@ -123,6 +131,16 @@ impl<
         alloc: Global,
     ) -> Result<(), X::Error> {
         <((A, B, C, D), (E, F, G, H)) as FieldList>::read_value(slots, place, value, alloc)
+    }
+
+    fn is_read(
+        slots: &(
+            ((A::Slots, B::Slots), (C::Slots, D::Slots)),
+            ((E::Slots, F::Slots), (G::Slots, H::Slots)),
+        ),
+        place: usize,
+    ) -> bool {
+        <((A, B, C, D), (E, F, G, H)) as FieldList>::is_read(slots, place)
     }
 
     fn complete<X: Error>(

@@ -4,6 +4,7 @@
 //! | Type | Trait | Functions for its impls |
 //! |---|---|---|
 //! | struct with named fields | [`Record`] | [`write_record`], [`read_record`] |
+//! | its other names, and unknown fields | [`RecordRules`] | [`read_record_by_rules`] |
 //! | tuple struct | [`TupleStruct`] | [`write_tuple_struct`], [`read_tuple_struct`] |
 //! | newtype struct | | [`write_newtype`], [`read_newtype`] |
 //! | unit struct | | [`read_unit_struct`] |
@@ -29,6 +30,7 @@ mod newtype;
 mod omitted;
 mod omitted_sets;
 mod record;
+mod record_rules;
 mod ref_list;
 mod set_value;
 mod tuple_struct;
@@ -49,6 +51,7 @@ pub use named::{Named, NamedFields};
 pub use newtype::{read_newtype, write_newtype};
 pub use omitted::{Omittable, Omitted, OmittedRef};
 pub use record::{Record, read_record, record_conforms, write_record};
+pub use record_rules::{RecordRules, read_record_by_rules};
 pub use ref_list::RefList;
 pub use set_value::SetValue;
 pub use tuple_struct::{TupleStruct, read_tuple_struct, tuple_struct_conforms, write_tuple_struct};

@@ -1,4 +1,5 @@
 ghost use Rattle.std.specs.Prelude.{◌≡◌, map};
+ghost use Rattle.dynamo_shape.specs.NameRules.{own_name};
 ghost use Rattle.dynamo_record.specs.Names.{first_name, other_names, place_of};
 
 /// The first of some names and the others. Without names it is empty.
@@ -22,4 +23,19 @@ pub(crate) fn place_of(names: &'static [&'static str], key: &str) -> usize
         }
     }
     names.len()
+}
+
+/// The own name of the field with this other name, or the name itself.
+pub(crate) fn own_name<'a>(
+    aliases: &'static [(&'static str, &'static str)],
+    name: &'a str,
+) -> &'a str
+    ensures { result.now ≡ own_name (map (λ a. (a.0.now, a.1.now)) aliases.now) name.now }
+{
+    for alias in aliases {
+        if name == alias.0 {
+            return alias.1;
+        }
+    }
+    name
 }

@@ -4,14 +4,14 @@ ghost use Rattle.dynamo_ser.specs.Writes.{Writes};
 ghost use Rattle.dynamo_de.specs.Answer.{After};
 ghost use Rattle.dynamo_de.specs.Meets.{Meets};
 ghost use Rattle.dynamo_de.specs.Reading as reading;
-ghost use Rattle.dynamo_de.specs.Source.{Entry};
+ghost use Rattle.dynamo_de.specs.Source.{Entry, attribute};
 ghost use Rattle.dynamo_de.specs.Visitors.{by_name, in_order};
 ghost use Rattle.dynamo_shape.specs.Conforms.{conforms};
 ghost use Rattle.dynamo_shape.specs.Shape.{struct};
 ghost use Rattle.dynamo_shape.proofs.FieldsByName.{Slots};
 ghost use Rattle.dynamo_record.specs.Entries.{IsEntry, Enters};
 ghost use Rattle.dynamo_record.specs.Fields.{field_shapes, named_fields};
-ghost use Rattle.dynamo_record.specs.Records.{AboutRecord, listed, record_fields, record_reads, FromParts, AreNamed, AsLong};
+ghost use Rattle.dynamo_record.specs.Records.{AboutRecord, listed, record_fields, record_reads, FromParts, AreNamed, AsLong, place_in};
 
 use crate::content::too_few;
 use crate::names::place_of;
@@ -137,6 +137,27 @@ pub trait Record: Sized + Drop {
     ghost named: { AreNamed about };
 }
 
+/// Reads a value as the field at this place. Behind the last field the value is ignored.
+pub(crate) fn read_place<R: Record, D: Reader>(
+    slots: &mut <R::Fields as FieldList>::Slots,
+    place: usize,
+    value: D,
+    alloc: Global,
+) -> Result<(), D::Error>
+where
+    R::Fields: FieldList,
+    requires { AreNamed (listed R.about R.Fields.about) }
+    ensures { (e : Entry) (os : Slots) → place ≡ place_in 0 (record_fields (listed R.about R.Fields.about)) e.0 → D.source value ≡ attribute e.1 → R.Fields.holds slots.old os [] → Meets D.Error.fault (Enters (λ x os. R.Fields.holds x os []) (record_fields (listed R.about R.Fields.about)) os slots.new e) result }
+{
+    let names = R::names();
+    if place < names.len() {
+        <R::Fields as FieldList>::read_value(slots, place, value, alloc)
+    } else {
+        IgnoredAny::deserialize(alloc, value)?;
+        Ok(())
+    }
+}
+
 /// Reads an entry as the field with the name of its key. The value of any other key is ignored.
 fn read_entry<R: Record, D: Reader>(
     slots: &mut <R::Fields as FieldList>::Slots,
@@ -152,12 +173,7 @@ where
     let name = identifier_of(alloc, key, "field identifier")?;
     let names = R::names();
     let place = place_of(names, name.as_str());
-    if place < names.len() {
-        <R::Fields as FieldList>::read_value(slots, place, value, alloc)
-    } else {
-        IgnoredAny::deserialize(alloc, value)?;
-        Ok(())
-    }
+    read_place::<R, D>(slots, place, value, alloc)
 }
 
 /// Reads the entries of a map as the fields of a struct.
@@ -181,7 +197,7 @@ where
 }
 
 /// Reads the elements of a sequence as the fields of a struct, in order.
-fn read_in_order<R: Record, D: Reader>(
+pub(crate) fn read_in_order<R: Record, D: Reader>(
     alloc: Global,
     mut elements: D::Elements,
 ) -> Result<R, D::Error>

@@ -23,23 +23,42 @@ pub(crate) fn unknown_variant<E: Error>(
 ) -> E
     ensures { ((text : _) × (E.fault result ≡ message text)) ⊎ (E.fault result ≡ out_of_memory) }
 {
-    match no_such_variant(alloc, text, names) {
+    match no_such_name(alloc, "variant", text, names) {
         Ok(refusal) => E::custom(alloc, refusal.as_str()),
         Err(_) => E::out_of_memory(),
     }
 }
 
-// The message of that error, as serde has it.
-fn no_such_variant(
+/// The error of a string that isn't the name of a field.
+pub(crate) fn unknown_field<E: Error>(
     alloc: Global,
+    text: &str,
+    names: &'static [&'static str],
+) -> E
+    ensures { ((text : _) × (E.fault result ≡ message text)) ⊎ (E.fault result ≡ out_of_memory) }
+{
+    match no_such_name(alloc, "field", text, names) {
+        Ok(refusal) => E::custom(alloc, refusal.as_str()),
+        Err(_) => E::out_of_memory(),
+    }
+}
+
+// The message of these errors, as serde has it.
+fn no_such_name(
+    alloc: Global,
+    kind: &str,
     text: &str,
     names: &'static [&'static str],
 ) -> Result<String, AllocError> {
     let mut refusal = String::new(alloc);
-    refusal.push_str("unknown variant `")?;
+    refusal.push_str("unknown ")?;
+    refusal.push_str(kind)?;
+    refusal.push_str(" `")?;
     refusal.push_str(text)?;
     if names.is_empty() {
-        refusal.push_str("`, there are no variants")?;
+        refusal.push_str("`, there are no ")?;
+        refusal.push_str(kind)?;
+        refusal.push_str("s")?;
         return Ok(refusal);
     }
     refusal.push_str("`, expected ")?;

@@ -9,6 +9,7 @@ use Rattle.dynamo_shape.proofs.LeftOut.{left_back, default_back}
 use Rattle.dynamo_shape.proofs.Ordered.{kept_sorted, sorted_same}
 use Rattle.dynamo_shape.proofs.Sets.{set_back}
 use Rattle.dynamo_shape.proofs.Maps.{map_back, pairs_back, pairs_weaker}
+use Rattle.dynamo_shape.proofs.Rules.{named_by_rules}
 use Rattle.dynamo_shape.proofs.Structs.{FieldsBack, no_fields_back, field_back, all_named, behind_tag}
 use Rattle.dynamo_shape.proofs.Found.{or_false, same_bytes}
 use Rattle.dynamo_shape.proofs.Results.{chars-encode}
@@ -17,6 +18,8 @@ use Rattle.dynamo_ser.specs.Datum as datum
 use Rattle.dynamo_de.specs.Answer.{Answer, value}
 use Rattle.dynamo_de.specs.Source.{attribute, Text, Source, values_of, entries_of}
 use Rattle.dynamo_ser.specs.Datum.{Variant, Datum, Fields}
+use Rattle.dynamo_shape.specs.NameRules.{NameRules}
+use Rattle.dynamo_shape.specs.Clear.{AliasesApart}
 use Rattle.dynamo_shape.specs.Clear.{is_variant, is_tagged, is_field, NearlyClear, NearlyClearAll, NearlyClearFields, NearlyClearContent, NearlyClearVariants, NearlyClearTagged}
 use Rattle.dynamo_shape.specs.Conforms.{AllElements, conforms, conform_each, conform_fields, conforms_content, conforms_variant, conforms_tagged, tagged_struct}
 use Rattle.dynamo_shape.specs.Kept.{is_null, kept, kept_elements}
@@ -24,7 +27,7 @@ use Rattle.dynamo_shape.specs.Order.{IsAscending, sorted}
 use Rattle.dynamo_shape.specs.Read.{read_list, read_each, read, read_one_of, read_inside, read_tag, read_tagged}
 use Rattle.dynamo_shape.specs.ReadsBack.{ReadsBack}
 use Rattle.dynamo_shape.specs.Same.{Same, SameElements}
-use Rattle.dynamo_shape.specs.Shape.{Shape, boolean, char, string, bytes, unit, integer, unit_struct, option, newtype, list, set, tuple, tuple_struct, map, struct, enum, tagged, ordered, Shapes, no_shapes, shape, FieldShapes, no_field_shapes, field_shape, Content, nothing, one, several, named, Variants, no_variants, variant, Tagged, no_tagged, tagged_variant}
+use Rattle.dynamo_shape.specs.Shape.{Shape, boolean, char, string, bytes, unit, integer, unit_struct, option, newtype, list, set, tuple, tuple_struct, map, struct, struct_by, enum, tagged, ordered, Shapes, no_shapes, shape, FieldShapes, no_field_shapes, field_shape, Content, nothing, one, several, named, Variants, no_variants, variant, Tagged, no_tagged, tagged_variant}
 use Rattle.dynamo_value.specs.Av.{Av, N, S, B, Boolean, Null, L, M, Members, members_of}
 use Rattle.dynamo_write.specs.Collect.{collect}
 use Rattle.dynamo_write.specs.Set.{set_kind}
@@ -63,6 +66,10 @@ tuple_struct_back name ss ds t = (L t.0, datum.tuple_struct name t.1, rw t.2 ref
 
 struct_back : (name : Text) (fs : FieldShapes) (gs : Fields) → NearlyClearFields fs → FieldsBack fs gs → ReadsBack (struct name fs) (datum.struct name gs)
 struct_back name fs gs n t = let r = all_named fs gs n t in (M (members_of (collect r.0)), datum.struct name r.1, rw r.2 refl, rw r.3 refl, (r.1, refl, r.4))
+
+-- of what is written nothing is refused by the rules
+rules_back : (rules : NameRules) (name : Text) (fs : FieldShapes) (gs : Fields) → AliasesApart fs rules.aliases → NearlyClearFields fs → FieldsBack fs gs → ReadsBack (struct_by rules name fs) (datum.struct name gs)
+rules_back rules name fs gs a n t = let r = named_by_rules rules fs gs a n t in (M (members_of (collect r.0)), datum.struct name r.1, rw r.2 refl, rw r.3 refl, (r.1, refl, r.4))
 
 -- ---- enums
 
@@ -199,6 +206,7 @@ mutual
   back (tuple_struct name ss) d n c = moved (tuple_struct name ss) _ _ c.1 (tuple_struct_back name ss c.0 (back_each ss c.0 n c.2))
   back (map k s) d n c = moved (map k s) _ _ c.1 (map_back k s c.0 c.3 (pairs_back k s c.0 (pairs_weaker _ _ (λ l e h. (key_back k l n.0 h.0, back s e n.1 h.1)) c.0 c.2)))
   back (struct name fs) d n c = moved (struct name fs) _ _ c.1 (struct_back name fs c.0 n (back_fields fs c.0 n c.2))
+  back (struct_by rules name fs) d n c = moved (struct_by rules name fs) _ _ c.1 (rules_back rules name fs c.0 n.0 n.1 (back_fields fs c.0 n.1 c.2))
   back (enum name vs) d n c = enum_back name vs d (back_variants vs name 0 d n c)
   back (tagged tag vs) d n c = tagged_back tag vs d (back_tagged vs tag d n c)
   back (ordered s) d n c = ordered_back s d (back s d n c.0) c.1

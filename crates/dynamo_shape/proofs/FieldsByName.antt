@@ -72,7 +72,7 @@ behind_behind (suc i) f os = ap (λ more. first_slot os ∷ more) (behind_behind
 
 module _ {F S : Type 0} (entry : F → S → Av → Answer S) (slots : S → Slots) where
   -- an entry is read as by its field's shape, and fills the field's slot; so far as these fields go, the first of which has slot i
-  pub Reads : ℕ → FieldShapes → (Text → F) → Type 0
+  unfoldable pub Reads : ℕ → FieldShapes → (Text → F) → Type 0
   Reads i fs named = (t : Text) (u : S) (a : Av) → Both (λ new d. slots new ≡ behind i (fill_named fs t d) (slots u)) (entry (named t) u a) (read_field fs t a)
 
   -- a field: what is read of it is kept in its slot
@@ -98,10 +98,10 @@ abbrev after : FieldShapes → List (Text × Datum) → Slots → Slots
 after no_field_shapes l os = []
 after (field_shape name s default fs) l os = last_of name l (first_slot os) ∷ after fs l (other_slots os)
 
-turned : (t u : Text) → bytes_eq t u ≡ true → bytes_eq u t ≡ true
+pub turned : (t u : Text) → bytes_eq t u ≡ true → bytes_eq u t ≡ true
 turned t u e = (bytes_eq-Decides u t).1 (sym ((bytes_eq-Decides t u).0 e))
 
-not_turned : (t u : Text) → bytes_eq t u ≡ false → bytes_eq u t ≡ false
+pub not_turned : (t u : Text) → bytes_eq t u ≡ false → bytes_eq u t ≡ false
 not_turned t u e = elim (bytes_eq u t) as (λ b. bytes_eq u t ≡ b → b ≡ false) [
   | true ↦ λ q. sym (turned u t q) ∙ e
   | false ↦ λ q. refl

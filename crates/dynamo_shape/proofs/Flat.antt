@@ -11,7 +11,7 @@ use Rattle.dynamo_shape.specs.Absence.{Absence, required, read_as, left_out, is_
 use Rattle.dynamo_shape.specs.Clear.{IsElement, AndLeftOut, NearlyClear, NearlyClearAll, NearlyClearFields, NearlyClearContent, NearlyClearVariants, NearlyClearTagged, NoneNested, NoneNestedAll, NoneNestedFields, NoneNestedContent, NoneNestedVariants, NoneNestedTagged, Nullable, Clear}
 use Rattle.dynamo_shape.specs.Conforms.{AllElements, AllPairs, conforms, conform_each, conform_fields, conforms_content, conforms_variant, conforms_tagged, tagged_struct}
 use Rattle.dynamo_shape.specs.Kept.{is_null, kept, kept_elements, kept_pairs, kept_fields, is_written_null}
-use Rattle.dynamo_shape.specs.Shape.{Shape, boolean, char, string, bytes, unit, integer, unit_struct, option, newtype, list, set, tuple, tuple_struct, map, struct, enum, tagged, ordered, Shapes, no_shapes, shape, FieldShapes, no_field_shapes, field_shape, Content, nothing, one, several, named, Variants, no_variants, variant, Tagged, no_tagged, tagged_variant}
+use Rattle.dynamo_shape.specs.Shape.{Shape, boolean, char, string, bytes, unit, integer, unit_struct, option, newtype, list, set, tuple, tuple_struct, map, struct, struct_by, enum, tagged, ordered, Shapes, no_shapes, shape, FieldShapes, no_field_shapes, field_shape, Content, nothing, one, several, named, Variants, no_variants, variant, Tagged, no_tagged, tagged_variant}
 use Rattle.dynamo_value.specs.Av.{Av, L}
 use Rattle.dynamo_value.specs.Fault.{Fault}
 use Rattle.dynamo_value.specs.Steps.{◌>>=◌}
@@ -70,6 +70,7 @@ not_null (tuple ss) d n c h = rw c.1 (some_null (written_elements c.0) L (λ a. 
 not_null (tuple_struct name ss) d n c h = rw c.1 (some_null (written_elements c.0) L (λ a. refl))
 not_null (map k s) d n c h = rw c.1 (some_null (written_pairs c.0) _ (λ a. refl))
 not_null (struct name fs) d n c h = rw c.1 (some_null (written_fields c.0) _ (λ a. refl))
+not_null (struct_by rules name fs) d n c h = rw c.1 (some_null (written_fields c.0) _ (λ a. refl))
 not_null (enum name vs) d n c h = variant_null name 0 vs d c
 not_null (tagged tag vs) d n c h = tagged_null tag vs d c
 not_null (ordered s) d n c h = not_null s d n c.0 h
@@ -117,6 +118,7 @@ mutual
   flat_at (tuple_struct name ss) d n m c = moved _ _ c.1 (ap (datum.tuple_struct name) (flat_each ss c.0 n m c.2))
   flat_at (map k s) d n m c = moved _ _ c.1 (ap datum.map (flat_map _ (λ l e h. ((key_back k l n.0 h.0).2, flat_at s e n.1 m.1 h.1)) c.0 c.2))
   flat_at (struct name fs) d n m c = moved _ _ c.1 (ap (datum.struct name) (flat_named fs c.0 n m c.2))
+  flat_at (struct_by rules name fs) d n m c = moved _ _ c.1 (ap (datum.struct name) (flat_named fs c.0 n.1 m c.2))
   flat_at (enum name vs) d n m c = flat_variant vs name 0 d n m c
   flat_at (tagged tag vs) d n m c = flat_tagged vs tag d n m c
   flat_at (ordered s) d n m c = flat_at s d n m c.0

@@ -26,6 +26,7 @@ pub mod Ordered
 pub mod Pairs
 pub mod Puts
 pub mod Results
+pub mod Rules
 pub mod Same
 pub mod Sets
 pub mod SetsRead
@@ -37,3 +38,4 @@ pub mod WellKeyed
 pub mod Scalars
 mod ReadRows
 mod ShapeRows
+mod RulesRows

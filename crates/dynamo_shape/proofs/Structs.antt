@@ -138,10 +138,10 @@ pub record IsBack (fs : FieldShapes) (gs : Fields) (es : List (Text × Av)) (hs 
   pub reads : ReadAt (read_field fs) (λ t. last t es None) fs hs
   pub alike : SameFields (kept_fields gs) hs
 
-pub FieldsBack : FieldShapes → Fields → Type 0
+unfoldable pub FieldsBack : FieldShapes → Fields → Type 0
 FieldsBack fs gs = (es : List (Text × Av)) × (hs : Fields) × IsBack fs gs es hs
 
-named_read : (fs : FieldShapes) (es : List (Text × Av)) (hs : Fields) → NearlyClearFields fs → AllByRecursion (λ e. Readable (read_field fs) e.0 e.1) es → ReadAt (read_field fs) (λ t. last t es None) fs hs → fields_by_name fs (read_field fs) (entries_of (members_of (collect es))) ≡ value hs
+pub named_read : (fs : FieldShapes) (es : List (Text × Av)) (hs : Fields) → NearlyClearFields fs → AllByRecursion (λ e. Readable (read_field fs) e.0 e.1) es → ReadAt (read_field fs) (λ t. last t es None) fs hs → fields_by_name fs (read_field fs) (entries_of (members_of (collect es))) ≡ value hs
 named_read fs es hs n readable reads =
     let R = read_field fs in
     let r = entries_read R (members_of (collect es)) (collected (Readable R) es readable) in

@@ -1,12 +1,13 @@
 -- Clear shapes: those at which whatever is written reads back as it was. At every depth
 --   no option stands over what may be written as null itself,
 --   the names of fields are distinct, and so are those of variants, and a tag is none of its variants' fields,
+--   no other name of a field is the own name of one,
 --   a field is left out only for a default that nothing else of its shape reads back as,
 --   map keys are booleans, integers, characters, texts, enums of unit variants, or newtypes over these,
 --   the elements of a set are such as the set holds, none of them under a newtype or an option,
 --   and no newtype has the name that asks for a set.
 -- Without the first condition a shape is nearly clear: then some of null reads back as none.
-use Rattle.std.specs.Prelude.{◌≡◌, Bool, false, None, ◌||◌, bytes_eq, ⊤}
+use Rattle.std.specs.Prelude.{◌≡◌, Bool, false, List, [], ◌∷◌, None, ◌||◌, bytes_eq, ⊤}
 use Rattle.dynamo_ser.specs.Datum as datum
 use Rattle.dynamo_ser.specs.Datum.{Datum}
 use Rattle.dynamo_ser.specs.Symbols.{SetKind}
@@ -32,6 +33,11 @@ is_variant (shape.variant v c vs) t = bytes_eq v t || is_variant vs t
 abbrev pub is_field : FieldShapes → Text → Bool
 is_field shape.no_field_shapes t = false
 is_field (shape.field_shape name s default fs) t = bytes_eq t name || is_field fs t
+
+-- no other name is the own name of a field
+abbrev pub AliasesApart : FieldShapes → List (Text × Text) → Type 0
+AliasesApart fs [] = ⊤
+AliasesApart fs (a ∷ others) = (is_field fs a.0 ≡ false) × AliasesApart fs others
 
 abbrev pub is_tagged : Tagged → Text → Bool
 is_tagged shape.no_tagged t = false
@@ -91,6 +97,7 @@ abbrev mutual
   NearlyClear (shape.tuple_struct name ss) = NearlyClearAll ss
   NearlyClear (shape.map k s) = IsKey k × NearlyClear s
   NearlyClear (shape.struct name fs) = NearlyClearFields fs
+  NearlyClear (shape.struct_by rules name fs) = AliasesApart fs rules.aliases × NearlyClearFields fs
   NearlyClear (shape.enum name vs) = NearlyClearVariants vs
   NearlyClear (shape.tagged tag vs) = NearlyClearTagged tag vs
   NearlyClear (shape.ordered s) = NearlyClear s
@@ -129,6 +136,7 @@ abbrev mutual
   NoneNested (shape.tuple_struct name ss) = NoneNestedAll ss
   NoneNested (shape.map k s) = NoneNested k × NoneNested s
   NoneNested (shape.struct name fs) = NoneNestedFields fs
+  NoneNested (shape.struct_by rules name fs) = NoneNestedFields fs
   NoneNested (shape.enum name vs) = NoneNestedVariants vs
   NoneNested (shape.tagged tag vs) = NoneNestedTagged vs
   NoneNested (shape.ordered s) = NoneNested s

@@ -10,7 +10,7 @@ use Rattle.dynamo_ser.specs.Symbols.{symbol}
 use Rattle.dynamo_de.specs.Number.{fits}
 use Rattle.dynamo_shape.specs.Absence.{put_field}
 use Rattle.dynamo_shape.specs.Order.{IsAscending}
-use Rattle.dynamo_shape.specs.Shape.{Shape, boolean, char, string, bytes, unit, integer, unit_struct, option, newtype, list, set, tuple, tuple_struct, map, struct, enum, tagged, ordered, Shapes, no_shapes, shape, FieldShapes, no_field_shapes, field_shape, Content, nothing, one, several, named, Variants, no_variants, variant, Tagged, no_tagged, tagged_variant}
+use Rattle.dynamo_shape.specs.Shape.{Shape, boolean, char, string, bytes, unit, integer, unit_struct, option, newtype, list, set, tuple, tuple_struct, map, struct, struct_by, enum, tagged, ordered, Shapes, no_shapes, shape, FieldShapes, no_field_shapes, field_shape, Content, nothing, one, several, named, Variants, no_variants, variant, Tagged, no_tagged, tagged_variant}
 
 abbrev pub AllElements : (Datum → Type 0) → Elements → Type 0
 AllElements P datum.no_elements = ⊤
@@ -49,6 +49,7 @@ abbrev mutual
   conforms (tuple_struct name ss) d = (ds : Elements) × (d ≡ datum.tuple_struct name ds) × conform_each ss ds
   conforms (map k s) d = (ps : Pairs) × (d ≡ datum.map ps) × AllPairs (λ l e. conforms k l × conforms s e) ps × PairsDiffer ps
   conforms (struct name fs) d = (gs : Fields) × (d ≡ datum.struct name gs) × conform_fields fs gs
+  conforms (struct_by rules name fs) d = (gs : Fields) × (d ≡ datum.struct name gs) × conform_fields fs gs
   conforms (enum name vs) d = conforms_variant name 0 vs d
   conforms (tagged tag vs) d = conforms_tagged tag vs d
   conforms (ordered s) d = conforms s d × IsAscending d

@@ -12,6 +12,7 @@ pub mod Clear
 pub mod Conforms
 pub mod Kept
 pub mod Laws
+pub mod NameRules
 pub mod Order
 pub mod Permits
 pub mod Read

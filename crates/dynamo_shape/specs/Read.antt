@@ -1,6 +1,6 @@
 -- Reading by a shape: the datum that a source reads as, or the fault. The scalars and what is inside of a source are read as
 -- every type of that form reads them (`Scalars`, `Contents` of dynamo_de).
-use Rattle.std.specs.Prelude.{ℕ, suc, List, [], ◌∷◌, Option, Some, None, if◌then◌else◌, bytes_eq}
+use Rattle.std.specs.Prelude.{ℕ, suc, Bool, List, [], ◌∷◌, ◌++◌, Option, Some, None, if◌then◌else◌, bytes_eq}
 use Rattle.std.specs.List.{list_any}
 use Rattle.dynamo_value.specs.Av.{Av}
 use Rattle.dynamo_ser.specs.Datum as datum
@@ -13,10 +13,12 @@ use Rattle.dynamo_de.specs.Visitors.{Parts, by_name, in_order}
 use Rattle.dynamo_de.specs.Ignored.{ignore}
 use Rattle.dynamo_de.specs.Source.{Source, Text, Entry, attribute, key_text}
 use Rattle.dynamo_shape.specs.Absence.{Absence, required, read_as, left_out, put_field}
+use Rattle.dynamo_shape.specs.Clear.{is_field}
 use Rattle.dynamo_shape.specs.Conforms.{tagged_struct}
+use Rattle.dynamo_shape.specs.NameRules.{NameRules, own_name}
 use Rattle.dynamo_shape.specs.Order.{sorted}
 use Rattle.dynamo_shape.specs.SameKey.{put_pair}
-use Rattle.dynamo_shape.specs.Shape.{Shape, boolean, char, string, bytes, unit, integer, unit_struct, option, newtype, list, set, tuple, tuple_struct, map, struct, enum, tagged, ordered, Shapes, no_shapes, shape, FieldShapes, no_field_shapes, field_shape, Content, nothing, one, several, named, Variants, no_variants, variant, Tagged, no_tagged, tagged_variant}
+use Rattle.dynamo_shape.specs.Shape.{Shape, boolean, char, string, bytes, unit, integer, unit_struct, option, newtype, list, set, tuple, tuple_struct, map, struct, struct_by, enum, tagged, ordered, Shapes, no_shapes, shape, FieldShapes, no_field_shapes, field_shape, Content, nothing, one, several, named, Variants, no_variants, variant, Tagged, no_tagged, tagged_variant}
 
 -- f of what is read
 abbrev pub into : {A B : Type 0} → (A → B) → Answer A → Answer B
@@ -85,6 +87,27 @@ abbrev pub fields_of : FieldShapes → (List Source → Answer Fields) → (Text
 fields_of fs listed reads (by_name es) = fields_by_name fs reads es
 fields_of fs listed reads (in_order ss) = listed ss
 
+-- ---- the fields of a struct by its rules
+
+-- A second entry of a field is refused, and if the rules deny it, an entry of no field.
+abbrev pub is_refused : Bool → FieldShapes → List (Text × Datum) → Text → Bool
+is_refused denies fs before own = if is_field fs own then list_any (λ x. bytes_eq own x.0) before else denies
+
+-- an entry is read as one of the own name of its field
+abbrev pub entry_by_rules : NameRules → FieldShapes → (Text → Av → Answer Datum) → List (Text × Datum) → Entry → Answer (Text × Datum)
+entry_by_rules rules fs reads before e =
+    let own = own_name rules.aliases e.0 in
+    if is_refused rules.denies fs before own then refused else into (λ d. (own, d)) (reads own e.1)
+
+-- entry by entry, each behind what was read before; the first fault is the fault
+abbrev pub read_by_rules : NameRules → FieldShapes → (Text → Av → Answer Datum) → List (Text × Datum) → List Entry → Answer (List (Text × Datum))
+read_by_rules rules fs reads before [] = value before
+read_by_rules rules fs reads before (e ∷ es) = entry_by_rules rules fs reads before e >>= λ x. read_by_rules rules fs reads (before ++ x ∷ []) es
+
+abbrev pub fields_by_rules : NameRules → FieldShapes → (List Source → Answer Fields) → (Text → Av → Answer Datum) → Parts → Answer Fields
+fields_by_rules rules fs listed reads (by_name es) = read_by_rules rules fs reads [] es >>= fields_among fs []
+fields_by_rules rules fs listed reads (in_order ss) = listed ss
+
 -- ---- the tag of an enum
 
 -- the name of a variant, where there is one
@@ -115,6 +138,7 @@ abbrev mutual
   read (tuple_struct name ts) s = into (datum.tuple_struct name) (read_elements s >>= read_each ts)
   read (map k t) s = into datum.map (read_entries s >>= read_pairs (read k) (read t) datum.no_pairs)
   read (struct name fs) s = into (datum.struct name) (read_parts s >>= fields_of fs (fields_in_order fs) (read_field fs))
+  read (struct_by rules name fs) s = into (datum.struct name) (read_parts s >>= fields_by_rules rules fs (fields_in_order fs) (read_field fs))
   read (enum name vs) s = read_variant s >>= λ v. read_one_of vs name 0 v.0 v.1
   read (tagged tag vs) s = do
     es ← read_entries s

@@ -3,11 +3,13 @@ use Rattle.std.specs.Prelude.{ℕ, List}
 use Rattle.dynamo_value.specs.Integer.{IntegerKind}
 use Rattle.dynamo_ser.specs.Symbols.{SetKind}
 use Rattle.dynamo_shape.specs.Absence.{Absence}
+use Rattle.dynamo_shape.specs.NameRules.{NameRules}
 
 -- One constructor for each form of data; a list's elements, a map's keys and values and an option's content have one shape
 -- each. A set is a list that is written as a set of its kind. The fields of a struct and the variants of an enum are in order.
--- A tagged enum is written as the struct of its variant, which the first field names, under the tag. A list or a set that is
--- ordered has distinct elements, in their order.
+-- A tagged enum is written as the struct of its variant, which the first field names, under the tag. A struct by rules is
+-- written as the struct, and reads the entries of a map by its rules. A list or a set that is ordered has distinct elements, in
+-- their order.
 mutual
   pub data Shape : Type 0 where
     boolean char string bytes unit : Shape
@@ -21,6 +23,7 @@ mutual
     tuple_struct : List ℕ → Shapes → Shape
     map : Shape → Shape → Shape
     struct : List ℕ → FieldShapes → Shape
+    struct_by : NameRules → List ℕ → FieldShapes → Shape
     enum : List ℕ → Variants → Shape
     tagged : List ℕ → Tagged → Shape
     ordered : Shape → Shape
