@@ -5,6 +5,8 @@ pub mod Chosen
 pub mod Described
 pub mod EmptyTold
 pub mod Entries
+pub mod HeldEntries
+pub mod HeldStructs
 pub mod Inside
 pub mod InsideNamed
 pub mod InTuple
@@ -13,5 +15,9 @@ pub mod OneField
 pub mod OneVariant
 pub mod Passing
 pub mod Places
+pub mod Skipped
 pub mod Structs
+pub mod TaggedChoice
+pub mod TaggedRead
+pub mod TaggedTold
 pub mod Variants

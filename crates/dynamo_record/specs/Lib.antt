@@ -6,6 +6,7 @@ pub mod Enums
 pub mod FieldTypes
 pub mod Fields
 pub mod Flat
+pub mod Held
 pub mod InOrder
 pub mod Indices
 pub mod Listed
@@ -13,6 +14,8 @@ pub mod Names
 pub mod Newtypes
 pub mod Records
 pub mod Refs
+pub mod TaggedEnums
+pub mod TaggedLists
 pub mod Told
 pub mod TupleStructs
 pub mod UnitEnums
