@@ -19,7 +19,7 @@ use Rattle.dynamo_record.specs.Enums.{AboutEnum, AsMany, of_variants, NamesVaria
 use Rattle.dynamo_record.specs.Names.{Names, first_name, other_names, names_from, place_of}
 use Rattle.dynamo_record.specs.Variants.{AboutVariants, Contents, ReadsAt, read_at, tag, variants_of}
 
-shift : (ns : Names) (i : ℕ) (t : Text) → place_of (suc i) ns t ≡ suc (place_of i ns t)
+pub shift : (ns : Names) (i : ℕ) (t : Text) → place_of (suc i) ns t ≡ suc (place_of i ns t)
 shift [] i t = refl
 shift (n ∷ ns) i t = elim (bytes_eq t n) as (λ b. (if b then suc i else place_of (suc (suc i)) ns t) ≡ suc (if b then i else place_of (suc i) ns t)) [
   | true ↦ refl

@@ -7,6 +7,8 @@ pub mod Chosen
 pub mod Described
 pub mod EmptyTold
 pub mod Entries
+pub mod HeldEntries
+pub mod HeldStructs
 pub mod Inside
 pub mod InsideNamed
 pub mod InTuple
@@ -16,5 +18,9 @@ pub mod OneVariant
 pub mod Passing
 pub mod Places
 pub mod Renaming
+pub mod Skipped
 pub mod Structs
+pub mod TaggedChoice
+pub mod TaggedRead
+pub mod TaggedTold
 pub mod Variants

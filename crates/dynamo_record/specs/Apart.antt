@@ -33,11 +33,11 @@ field_named [] (s ∷ ss) gs t h = absurd (none_named s ss h)
 field_named (n ∷ ns) [] gs t h = absurd (no_shape n ns h)
 field_named (n ∷ ns) (s ∷ ss) gs t h = ap (λ r. bytes_eq t n || r) (field_named ns ss (other_defaults gs) t (same_length s n ns ss h))
 
-both_true : (a b : Bool) → a && b ≡ true → (a ≡ true) × (b ≡ true)
+pub both_true : (a b : Bool) → a && b ≡ true → (a ≡ true) × (b ≡ true)
 both_true true b h = (refl, h)
 both_true false b h = absurd (true≢false (sym h))
 
-not_true : (a : Bool) → not a ≡ true → a ≡ false
+pub not_true : (a : Bool) → not a ≡ true → a ≡ false
 not_true true h = absurd (true≢false (sym h))
 not_true false h = refl
 

@@ -7,6 +7,7 @@ pub mod Enums
 pub mod FieldTypes
 pub mod Fields
 pub mod Flat
+pub mod Held
 pub mod InOrder
 pub mod Indices
 pub mod Listed
@@ -15,6 +16,8 @@ pub mod Newtypes
 pub mod Records
 pub mod Refs
 pub mod SetValues
+pub mod TaggedEnums
+pub mod TaggedLists
 pub mod Told
 pub mod TupleStructs
 pub mod UnitEnums

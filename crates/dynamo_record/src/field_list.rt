@@ -97,7 +97,7 @@ pub trait FieldList: Sized {
 }
 
 /// The error of a map without an entry for the field with this name.
-fn missing_field<E: Error>(alloc: Global, name: &str) -> E
+pub(crate) fn missing_field<E: Error>(alloc: Global, name: &str) -> E
     ensures { (E.fault result ≡ message (missing_text name.now)) ⊎ (E.fault result ≡ out_of_memory) }
 {
     match format!(in alloc; "missing field `{name}`") {

@@ -10,6 +10,7 @@
 //! | unit struct | | [`read_unit_struct`] |
 //! | enum | [`Enumeration`] | [`write_unit`], [`write_one`] and others, [`read_enum`] |
 //! | enum of unit variants | [`UnitEnum`] | [`write_unit_enum`], [`read_unit_enum`] |
+//! | internally tagged enum | [`TaggedEnum`] | [`write_tagged_unit`] and others, [`read_tagged`] |
 //!
 //! A function with `conform` in its name is for `Shaped::conforms`. `dynamo_derive` prints these
 //! implementations for a declaration. [`Record`] has a complete example.
@@ -23,6 +24,7 @@ mod field_list;
 mod field_types;
 mod flat_lists;
 mod flat_refs;
+mod held;
 mod member_sets;
 mod named;
 mod names;
@@ -33,12 +35,15 @@ mod record;
 mod record_rules;
 mod ref_list;
 mod set_value;
+mod tagged_enum;
+mod tagged_list;
 mod tuple_struct;
 mod unit_enum;
 mod unit_struct;
 mod variant_list;
 mod variant_names;
 mod write_enum;
+mod write_tagged;
 
 pub use content::{Nothing, One, Several};
 pub use default_value::{DefaultValue, WithDefault};
@@ -54,6 +59,8 @@ pub use record::{Record, read_record, record_conforms, write_record};
 pub use record_rules::{RecordRules, read_record_by_rules};
 pub use ref_list::RefList;
 pub use set_value::SetValue;
+pub use tagged_enum::{TaggedEnum, read_tagged};
+pub use tagged_list::{Inner, TaggedList};
 pub use tuple_struct::{TupleStruct, read_tuple_struct, tuple_struct_conforms, write_tuple_struct};
 pub use unit_enum::{UnitEnum, conform_unit_enum, read_unit_enum, variant_at, write_unit_enum};
 pub use unit_struct::read_unit_struct;
@@ -61,4 +68,8 @@ pub use variant_list::{Choice, VariantList};
 pub use write_enum::{
     named_conform, one_conforms, several_conform, unit_conforms, write_one, write_several,
     write_struct, write_unit,
+};
+pub use write_tagged::{
+    tagged_inner_conforms, tagged_struct_conforms, tagged_unit_conforms, write_tagged_inner,
+    write_tagged_struct, write_tagged_unit,
 };
