@@ -41,6 +41,7 @@ impl<T: Serialize + Ord + Hash> Serialize for HashSet<T> {
 }
 
 // References to the members, in their order.
+#[tactic(auto, using(crate::proofs::MembersInOrder::insert_now))]
 fn in_order<T: Ord + Hash>(
     alloc: Global,
     set: &HashSet<T>,
@@ -49,8 +50,9 @@ fn in_order<T: Ord + Hash>(
 {
     let mut ordered = BTreeSet::new(alloc);
     for member in set {
-        if ordered.insert(member).is_err() {
-            return Err(AllocError);
+        match ordered.insert(member) {
+            Ok(_is_new) => {}
+            Err(_) => return Err(AllocError),
         }
     }
     Ok(ordered)
