@@ -2,6 +2,7 @@ ghost use Rattle.std.specs.Prelude.{◌≡◌, ◌≤◌, All, IfErr, IfOk, Ok, 
 ghost use Rattle.std.specs.Fn.{FnOnceReturnsAt};
 ghost use Rattle.table_key.specs.KeyOf.{ReadsKey, words_of};
 ghost use Rattle.table_query.specs.Conditions.{holds};
+ghost use Rattle.table_store.specs.Depth.{Checked, IsKept};
 ghost use Rattle.table_store.specs.Content.{FailsToChange, HasKey, HasThisKey, IsFound, KeepsKey, NeedsKey, schema_of};
 
 use crate::depth::is_kept;
@@ -126,6 +127,7 @@ impl<S: Alter + Drop> TableStore<S> {
     /// DynamoDB doesn't keep.
     pub fn check(&self, item: &Item) -> Result<(), StoreError>
         ensures needs { NeedsKey (schema_of self.now) item.now result }
+        ensures exact { Checked (schema_of self.now) item.now result }
     {
         self.table.schema.key_of(item)?;
         if is_kept(item) {
@@ -173,6 +175,7 @@ impl<S: Alter + Drop> TableStore<S> {
     /// Otherwise returns the error of [`TableStore::get`].
     pub fn put(&mut self, item: &Item) -> Result<Option<Item>, StoreError>
         ensures needs { NeedsKey (schema_of self.old) item.now result }
+        ensures kept { OnOk result (IsKept item.now) }
         ensures schema { schema_of self.new ≡ schema_of self.old }
     {
         self.put_if(Condition::Always, item)
@@ -188,6 +191,7 @@ impl<S: Alter + Drop> TableStore<S> {
     pub fn put_if(&mut self, condition: Condition, item: &Item) -> Result<Option<Item>, StoreError>
         ensures needs { NeedsKey (schema_of self.old) item.now result }
         ensures condition { IfOk result (λ before. holds condition (is_some before) ≡ true) }
+        ensures kept { OnOk result (IsKept item.now) }
         ensures schema { schema_of self.new ≡ schema_of self.old }
     {
         let (_, before) = self.put_if_returning_key(condition, item)?;
@@ -202,6 +206,7 @@ impl<S: Alter + Drop> TableStore<S> {
     pub fn put_returning_key(&mut self, item: &Item) -> Result<Key, StoreError>
         ensures needs { NeedsKey (schema_of self.old) item.now result }
         ensures key { IfOk result (λ key. ReadsKey (schema_of self.old) item.now (Ok key)) }
+        ensures kept { OnOk result (IsKept item.now) }
         ensures schema { schema_of self.new ≡ schema_of self.old }
     {
         let (key, _) = self.put_if_returning_key(Condition::Always, item)?;
@@ -222,6 +227,7 @@ impl<S: Alter + Drop> TableStore<S> {
         ensures needs { NeedsKey (schema_of self.old) item.now result }
         ensures key { IfOk result (λ done. ReadsKey (schema_of self.old) item.now (Ok done.0)) }
         ensures condition { IfOk result (λ done. holds condition (is_some done.1) ≡ true) }
+        ensures kept { OnOk result (IsKept item.now) }
         ensures schema { schema_of self.new ≡ schema_of self.old }
     {
         let key = self.table.schema.key_of(item)?;
@@ -365,6 +371,7 @@ impl<S: Alter + Drop> TableStore<S> {
     /// [`StoreError::Database`] if the database fails.
     pub fn write_all(&mut self, items: &[Item]) -> Result<(), StoreError>
         ensures keys { OnOk result (All (HasKey (schema_of self.old)) items.now) }
+        ensures kept { OnOk result (All IsKept items.now) }
         ensures schema { schema_of self.new ≡ schema_of self.old }
     {
         table_rows::run(&mut self.conn, "BEGIN")?;
@@ -379,6 +386,7 @@ impl<S: Alter + Drop> TableStore<S> {
 
     // Puts an item under a key if DynamoDB keeps it, so that its text can be read again.
     fn put_at(&mut self, key: &KeyBytes, item: &Item) -> Result<(), StoreError>
+        ensures kept { OnOk result (IsKept item.now) }
         ensures schema { schema_of self.new ≡ schema_of self.old }
     {
         if !is_kept(item) {
@@ -389,6 +397,7 @@ impl<S: Alter + Drop> TableStore<S> {
 
     fn put_each(&mut self, items: &[Item]) -> Result<(), StoreError>
         ensures keys { OnOk result (All (HasKey (schema_of self.old)) items.now) }
+        ensures kept { OnOk result (All IsKept items.now) }
         ensures schema { schema_of self.new ≡ schema_of self.old }
     {
         for item in items {
