@@ -1,0 +1,54 @@
+// A derived twin of a described type with sets.
+use crate::derived::random::Random;
+use crate::derived::twins::reads_as_twin;
+use described_types as own;
+use dynamo_value::{ByteBuf, Result};
+use serde::{Deserialize, Serialize};
+use std::alloc::Global;
+use std::collections::BTreeSet;
+use std::test::Fail;
+
+#[derive(Drop, Serialize, Deserialize)]
+struct Roster {
+    id: String,
+    #[serde(with = "dynamo_serde::string_set")]
+    names: BTreeSet<String>,
+    #[serde(with = "dynamo_serde::number_set")]
+    badges: BTreeSet<u32>,
+    #[serde(default, skip_serializing_if = "BTreeSet::is_empty", with = "dynamo_serde::binary_set")]
+    tokens: BTreeSet<Vec<u8>>,
+    hours: BTreeSet<u8>,
+}
+
+fn random_roster(alloc: Global, random: &mut Random) -> Result<own::Roster> {
+    let mut roster = own::Roster {
+        id: random.text(alloc)?,
+        names: BTreeSet::new(alloc),
+        badges: BTreeSet::new(alloc),
+        tokens: BTreeSet::new(alloc),
+        hours: BTreeSet::new(alloc),
+    };
+    for _ in 0..random.count() {
+        roster.names.insert(random.text(alloc)?)?;
+    }
+    for _ in 0..random.count() {
+        roster.badges.insert(u32::from(random.byte()) * 1000)?;
+    }
+    for _ in 0..random.count() {
+        roster.tokens.insert(ByteBuf::from(random.bytes(alloc)?))?;
+    }
+    for _ in 0..random.count() {
+        roster.hours.insert(random.byte())?;
+    }
+    Ok(roster)
+}
+
+#[test]
+fn a_thousand_values_with_sets(rt: HostRuntime) -> std::result::Result<(), Fail> {
+    let alloc = rt.alloc();
+    let mut random = Random::new();
+    for _ in 0..1000 {
+        reads_as_twin::<Roster, _>(&rt, alloc, &random_roster(alloc, &mut random)?)?;
+    }
+    Ok(())
+}

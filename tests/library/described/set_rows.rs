@@ -1,0 +1,88 @@
+// Sets of Rust in described types: what is written of them, and what reads as them.
+use super::rows::{reads, rereads};
+use described_types::Roster;
+use serde_dynamo::ByteBuf;
+use std::alloc::Global;
+use std::collections::BTreeSet;
+use std::test::Fail;
+
+fn text(alloc: Global, text: &str) -> serde_dynamo::Result<String> {
+    Ok(String::from_str(alloc, text)?)
+}
+
+fn empty_roster(alloc: Global) -> serde_dynamo::Result<Roster> {
+    Ok(Roster {
+        id: text(alloc, "r-1")?,
+        names: BTreeSet::new(alloc),
+        badges: BTreeSet::new(alloc),
+        tokens: BTreeSet::new(alloc),
+        hours: BTreeSet::new(alloc),
+    })
+}
+
+#[test]
+fn an_empty_set_is_written_unless_it_is_left_out(rt: HostRuntime) -> Result<(), Fail> {
+    let alloc = rt.alloc();
+    rereads(
+        &rt,
+        alloc,
+        empty_roster(alloc)?,
+        r#"{"M":{"badges":{"NS":[]},"hours":{"L":[]},"id":{"S":"r-1"},"names":{"SS":[]}}}"#,
+        r#"Roster { id: "r-1", names: {}, badges: {}, tokens: {}, hours: {} }"#,
+    )
+}
+
+#[test]
+fn sets_are_written_in_their_order(rt: HostRuntime) -> Result<(), Fail> {
+    let alloc = rt.alloc();
+    let mut roster = empty_roster(alloc)?;
+    for name in ["b", "", "a", "b"] {
+        roster.names.insert(text(alloc, name)?)?;
+    }
+    for badge in [10, 9, 10] {
+        roster.badges.insert(badge)?;
+    }
+    roster.tokens.insert(ByteBuf::from(vec![in alloc; 2u8]?))?;
+    roster.tokens.insert(ByteBuf::from(vec![in alloc; 1u8, 0]?))?;
+    for hour in [17, 9] {
+        roster.hours.insert(hour)?;
+    }
+    rereads(
+        &rt,
+        alloc,
+        roster,
+        r#"{"M":{"badges":{"NS":["9","10"]},"hours":{"L":[{"N":"9"},{"N":"17"}]},"id":{"S":"r-1"},"names":{"SS":["","a","b"]},"tokens":{"BS":["AQA=","Ag=="]}}}"#,
+        r#"Roster { id: "r-1", names: {"", "a", "b"}, badges: {9, 10}, tokens: {ByteBuf { bytes: [1, 0] }, ByteBuf { bytes: [2] }}, hours: {9, 17} }"#,
+    )
+}
+
+#[test]
+fn sets_are_read_in_any_order(rt: HostRuntime) -> Result<(), Fail> {
+    let alloc = rt.alloc();
+    for json in [
+        r#"{"M":{"badges":{"NS":["10","9"]},"hours":{"L":[{"N":"9"}]},"id":{"S":"r-1"},"names":{"SS":["b","a"]}}}"#,
+        r#"{"M":{"badges":{"NS":["9","10","09"]},"hours":{"L":[{"N":"9"},{"N":"9"}]},"id":{"S":"r-1"},"names":{"L":[{"S":"b"},{"S":"a"},{"S":"b"}]}}}"#,
+        r#"{"M":{"badges":{"L":[{"N":"9"},{"N":"10"}]},"hours":{"NS":["9"]},"id":{"S":"r-1"},"names":{"SS":["a","b"]},"tokens":{"BS":[]}}}"#,
+    ] {
+        let read = r#"Roster { id: "r-1", names: {"a", "b"}, badges: {9, 10}, tokens: {}, hours: {9} }"#;
+        reads::<Roster>(&rt, alloc, json, read)?;
+    }
+    Ok(())
+}
+
+#[test]
+fn a_set_of_another_kind_is_refused(rt: HostRuntime) -> Result<(), Fail> {
+    let alloc = rt.alloc();
+    for (json, error) in [
+        (r#"{"M":{"badges":{"NS":[]},"hours":{"L":[]},"id":{"S":"r-1"}}}"#, "missing field `names`"),
+        (r#"{"M":{"badges":{"NS":[]},"id":{"S":"r-1"},"names":{"SS":[]}}}"#, "missing field `hours`"),
+        (r#"{"M":{"names":{"NULL":true}}}"#, "Expected seq"),
+        (r#"{"M":{"tokens":{"NULL":true}}}"#, "Expected seq"),
+        (r#"{"M":{"names":{"S":"a"}}}"#, "Expected seq"),
+        (r#"{"M":{"names":{"NS":["1"]}}}"#, "Expected string"),
+        (r#"{"M":{"hours":{"L":[{"S":"9"}]}}}"#, "Expected num"),
+    ] {
+        reads::<Roster>(&rt, alloc, json, error)?;
+    }
+    Ok(())
+}
