@@ -2,5 +2,6 @@
 mod enum_rows;
 mod left_out_rows;
 mod rows;
+mod rules_rows;
 mod struct_rows;
 mod wide_rows;
