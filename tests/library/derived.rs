@@ -11,6 +11,7 @@ mod left_out_twins;
 mod order_rows;
 mod random;
 mod rows;
+mod rules_twins;
 mod scalars;
 mod set_twins;
 mod twins;

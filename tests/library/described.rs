@@ -2,6 +2,7 @@
 mod enum_rows;
 mod left_out_rows;
 mod rows;
+mod rules_rows;
 mod set_rows;
 mod struct_rows;
 mod wide_rows;

@@ -5,6 +5,7 @@
 
 mod address;
 mod code;
+mod contact;
 mod lots;
 mod notice;
 mod order;
@@ -27,6 +28,7 @@ mod wide_40_stored;
 
 pub use address::{Address, stored_address};
 pub use code::Code;
+pub use contact::{Contact, stored_contact};
 pub use lots::{Lots, stored_lots};
 pub use notice::{Notice, stored_notice};
 pub use order::{Order, stored_order};

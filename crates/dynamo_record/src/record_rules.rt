@@ -23,7 +23,31 @@ use std::alloc::Global;
 /// fields, as by serde's `alias`, and whether an unknown field is an error, as by serde's
 /// `deny_unknown_fields`.
 ///
-/// The struct is written as by [`Record`] alone. It is read by [`read_record_by_rules`].
+/// The struct is written as by [`Record`] alone. It is read by [`read_record_by_rules`]: each entry
+/// is taken under the own name of its field. A second entry for one field is an error, and so is an
+/// unknown field if the rules deny it. So what was written reads back if no other name is the own
+/// name of a field.
+///
+/// # Examples
+///
+/// The names of a struct whose field `phone` has another name, and which denies unknown fields:
+///
+/// ```text
+/// impl RecordRules for Contact {
+///     ghost rules = { record { aliases = (codes "tel", codes "phone") ∷ []; denies = true } };
+///
+///     fn aliases() -> &'static [(&'static str, &'static str)] {
+///         &[("tel", "phone")]
+///     }
+///
+///     fn denies_unknown() -> bool {
+///         true
+///     }
+/// }
+/// ```
+///
+/// Its `reads` is `rules_reads`, and its `about` is `about_by_rules`, with the rules before the
+/// description.
 pub trait RecordRules: Record {
     // The other names of fields, each with the name of its field, and whether unknown ones are refused.
     ghost rules: { NameRules };

@@ -173,7 +173,7 @@ fn read_own<O: serde_dynamo::ser::Serialize + serde_dynamo::de::Deserialize>(all
     })
 }
 
-fn alike<D, O>(rt: &impl Abort, alloc: Global, rows: &[&str]) -> std::result::Result<(), Fail>
+pub(crate) fn alike<D, O>(rt: &impl Abort, alloc: Global, rows: &[&str]) -> std::result::Result<(), Fail>
 where
     D: Serialize + DeserializeOwned,
     O: serde_dynamo::ser::Serialize + serde_dynamo::de::Deserialize,
