@@ -1,15 +1,13 @@
 -- A described struct by its rules, entry by entry.
-use Rattle.std.proofs.Common.{◌≡◌, ℕ, zero, suc, Bool, true, false, ◌||◌, cond, List, [], ◌∷◌, ◌++◌, Option, Some, None, Result, Ok, Err, length, ◌<◌, ◌≤◌, refl, sym, ap, subst, ◌∙◌, inl, inr, arith}
-use Rattle.std.specs.Prelude.{bytes_eq, if◌then◌else◌}
+use Rattle.std.proofs.Common.{◌≡◌, ℕ, suc, Bool, true, false, ◌||◌, cond, List, [], ◌∷◌, ◌++◌, Option, Some, None, Result, Ok, Err, length, ◌<◌, ◌≤◌, refl, sym, ap, subst, ◌∙◌, inl, inr}
+use Rattle.std.specs.Prelude.{bytes_eq}
 use Rattle.std.specs.List.{list_any}
-use Rattle.std.proofs.lemmas.Bool.{true≢false, cases_Bool}
+use Rattle.std.proofs.lemmas.Bool.{true≢false}
 use Rattle.std.proofs.lemmas.Slice.Eq.{bytes_eq-Decides}
-use Rattle.dynamo_value.specs.Av.{Av}
 use Rattle.dynamo_value.specs.Fault.{Fault}
-use Rattle.dynamo_value.specs.Refusal.{Refusal}
 use Rattle.dynamo_value.specs.Steps.{◌>>=◌}
 use Rattle.dynamo_ser.specs.Datum as datum
-use Rattle.dynamo_ser.specs.Datum.{Datum, Fields}
+use Rattle.dynamo_ser.specs.Datum.{Datum}
 use Rattle.dynamo_de.specs.Answer as answer
 use Rattle.dynamo_de.specs.Answer.{Answer, After, value_or}
 use Rattle.dynamo_de.specs.Fields.{LeadsTo}
@@ -32,7 +30,7 @@ use Rattle.dynamo_shape.proofs.ByHand.{Both, same_next}
 use Rattle.dynamo_shape.proofs.FieldsByName.{Slots, first_slot, other_slots, behind, fill, fill_named, empty, close, NamesDiffer, Reads, turned, not_turned}
 use Rattle.dynamo_shape.proofs.Found.{Unseen, unseen_none, unseen_more, or_false}
 use Rattle.dynamo_record.specs.ByRules.{Before, slots_of, pad, Held, EntersByRules, struct_left, RulesSoFar, FromPartsByRules, rules_reads}
-use Rattle.dynamo_record.specs.Entries.{read_at, fill_at, IsEntry, Enters, entry_at, finish}
+use Rattle.dynamo_record.specs.Entries.{read_at, fill_at, IsEntry, Enters}
 use Rattle.dynamo_record.specs.Apart.{field_named}
 use Rattle.dynamo_record.specs.Fields.{unread}
 use Rattle.dynamo_record.specs.Listed.{Holds, IfRead, is_there, is_filled}

@@ -1,5 +1,5 @@
 -- Other names passed one after another, until one is found; and names found by their places.
-use Rattle.std.proofs.Common.{◌≡◌, ℕ, zero, suc, Bool, true, false, ◌||◌, cond, List, [], ◌∷◌, length, ◌<◌, ◌≤◌, ◌+◌, drop, get_or, map, refl, sym, ap, subst, ◌∙◌, inl, inr, arith}
+use Rattle.std.proofs.Common.{◌≡◌, ℕ, suc, true, false, ◌||◌, List, [], ◌∷◌, length, ◌<◌, ◌≤◌, ◌+◌, drop, get_or, map, sym, ap, subst, ◌∙◌, inl, inr, arith}
 use Rattle.std.specs.Prelude.{bytes_eq, if◌then◌else◌}
 use Rattle.std.proofs.Math.Seq.{drop-cons}
 use Rattle.std.proofs.Math.ListN.{drop_of_length-le}
@@ -26,7 +26,14 @@ module _ {A : Type 0} (f : A → Text × Text) (xs : List A) (i : ℕ) where
   pub none_found : (t all : Text) → all ≡ own_name (map f (drop i xs)) t → length xs ≤ i → t ≡ all
   none_found t all so_far h = sym (so_far ∙ ap (λ l. own_name (map f l) t) (drop_of_length-le xs h))
 
+-- the own name of a key, by the names that are listed
+pub own_as : (found key name : Text) (listed aliases : List (Text × Text)) → found ≡ own_name listed key → listed ≡ aliases → key ≡ name → found ≡ own_name aliases name
+own_as found key name listed aliases h same is = h ∙ (ap (λ others. own_name others key) same ∙ ap (own_name aliases) is)
+
 -- ---- places of names
+
+pub place_as : (found : ℕ) (t : Text) (listed names : Names) → found ≡ place_of 0 listed t → listed ≡ names → found ≡ place_of 0 names t
+place_as found t listed names h same = h ∙ ap (λ ns. place_of 0 ns t) same
 
 ends : (i : ℕ) → i ≡ i + 0
 ends i = omega arith

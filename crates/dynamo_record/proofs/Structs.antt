@@ -10,13 +10,13 @@ use Rattle.dynamo_de.specs.Shows.{TakesEntry}
 use Rattle.dynamo_de.specs.Source.{Source, Entry, Text}
 use Rattle.dynamo_shape.specs.Read.{into}
 use Rattle.dynamo_shape.proofs.FieldsByName.{Slots}
-use Rattle.dynamo_record.specs.Entries.{IsEntry, Enters, finish, StructSoFar}
+use Rattle.dynamo_record.specs.Entries.{IsEntry, Enters, StructSoFar}
 use Rattle.dynamo_record.specs.Fields.{unread, complete, read_fields}
 use Rattle.dynamo_record.specs.Listed.{Data, Holds, Completes, MakesOrFails}
-use Rattle.dynamo_record.specs.Names.{Names, place_of, missing_text}
+use Rattle.dynamo_record.specs.Names.{Names, place_of}
 use Rattle.dynamo_record.specs.Records.{AboutRecord, AreNamed, record_fields, FromParts, RecordAnswers, IsAlike, place_in}
 use Rattle.dynamo_record.specs.Apart.{names_differ}
-use Rattle.dynamo_record.proofs.Described.{empty_unread, close_complete, in_order_listed, answer_of, struct_made, struct_missed, struct_fails, after_struct, by_entries}
+use Rattle.dynamo_record.proofs.Described.{empty_unread, in_order_listed, answer_of, struct_made, struct_missed, struct_fails, by_entries}
 use Rattle.dynamo_record.proofs.Described as described
 use Rattle.dynamo_record.proofs.Closing as closing
 use Rattle.dynamo_record.proofs.Closing.{Last}

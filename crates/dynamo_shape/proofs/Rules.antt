@@ -17,7 +17,7 @@ use Rattle.dynamo_write.proofs.Collected.{less, halves, nothing_more, sorted-col
 use Rattle.dynamo_shape.specs.Clear.{is_field, AliasesApart, NearlyClearFields}
 use Rattle.dynamo_shape.specs.Kept.{kept_fields}
 use Rattle.dynamo_shape.specs.NameRules.{NameRules, own_name}
-use Rattle.dynamo_shape.specs.Read.{into, read_field, read_each_entry, fields_among, is_refused, entry_by_rules, read_by_rules}
+use Rattle.dynamo_shape.specs.Read.{into, read_field, read_each_entry, fields_among, entry_by_rules, read_by_rules}
 use Rattle.dynamo_shape.specs.Same.{SameFields}
 use Rattle.dynamo_shape.specs.Shape.{FieldShapes}
 use Rattle.dynamo_shape.proofs.FieldsByName.{not_turned}

@@ -10,7 +10,6 @@ use Rattle.dynamo_de.specs.Answer.{value, fault, refused}
 use Rattle.dynamo_de.specs.Source.{Text, attribute}
 use Rattle.dynamo_shape.specs.Absence.{required}
 use Rattle.dynamo_shape.specs.Clear.{NearlyClear}
-use Rattle.dynamo_shape.specs.NameRules.{NameRules}
 use Rattle.dynamo_shape.specs.Read.{read}
 use Rattle.dynamo_shape.specs.Shape.{Shape, string, option, struct_by, no_field_shapes, field_shape}
 

@@ -1,4 +1,3 @@
-use Rattle.std.proofs.Common.{[]}
 use Rattle.dynamo_record.proofs.Renaming.{alias_found, alias_passed, none_found}
 use Rattle.dynamo_record.proofs.names.own_name.Goals as goal
 

@@ -1,4 +1,4 @@
-use Rattle.std.proofs.Common.{◌≡◌, ◌<◌, sym, ap, ◌∙◌, arith}
+use Rattle.std.proofs.Common.{◌≡◌, ap, ◌∙◌, arith}
 use Rattle.dynamo_record.specs.Listed.{is_filled}
 use Rattle.dynamo_record.proofs.OneField.{there_alike}
 use Rattle.dynamo_record.proofs.field_list.FieldFieldList.is_read.Goals as goal

@@ -1,4 +1,4 @@
-use Rattle.std.proofs.Common.{◌≡◌, ◌<◌, ◌+◌, ◌-◌, ◌^◌, sym, ap, subst, ◌∙◌, arith}
+use Rattle.std.proofs.Common.{◌≡◌, ◌<◌, ◌+◌, ◌-◌, ◌^◌, sym, ap, ◌∙◌, arith}
 use Rattle.dynamo_record.specs.Listed.{is_filled}
 use Rattle.dynamo_record.proofs.field_list.Tuple2FieldList.is_read.Goals as goal
 
