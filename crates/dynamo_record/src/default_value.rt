@@ -10,7 +10,7 @@ use dynamo_de::Error;
 use dynamo_types::{Shaped, ShapedKey};
 use dynamo_value::ByteBuf;
 use std::alloc::Global;
-use std::collections::{BTreeMap, BTreeSet, HashMap};
+use std::collections::{BTreeMap, BTreeSet, HashMap, HashSet};
 use std::marker::PhantomData;
 
 /// The value of a missing field.
@@ -252,6 +252,16 @@ impl<T: ShapedKey> DefaultValue for BTreeSet<T> {
 
     fn value<E: Error>(alloc: Global) -> Result<BTreeSet<T>, E> {
         Ok(BTreeSet::new(alloc))
+    }
+}
+
+impl<T: ShapedKey> DefaultValue for HashSet<T> {
+    type Value = HashSet<T>;
+
+    ghost told = { datum.seq datum.no_elements };
+
+    fn value<E: Error>(alloc: Global) -> Result<HashSet<T>, E> {
+        Ok(HashSet::new(alloc))
     }
 }
 

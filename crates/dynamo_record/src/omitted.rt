@@ -8,7 +8,7 @@ use dynamo_de::Error;
 use dynamo_ser::{ListBuilder, Serializer, StructBuilder};
 use dynamo_types::{Shaped, ShapedKey};
 use std::alloc::Global;
-use std::collections::{BTreeMap, BTreeSet, HashMap};
+use std::collections::{BTreeMap, BTreeSet, HashMap, HashSet};
 use std::marker::PhantomData;
 
 /// A type whose default can be left out of an item: `None`, and an empty string, list, set or map.
@@ -124,6 +124,14 @@ impl<K: ShapedKey, V: Shaped> Omittable for HashMap<K, V> {
 
 impl<T: ShapedKey> Omittable for BTreeSet<T> {
     type Default = BTreeSet<T>;
+
+    fn is_default(&self) -> bool {
+        self.len() == 0
+    }
+}
+
+impl<T: ShapedKey> Omittable for HashSet<T> {
+    type Default = HashSet<T>;
 
     fn is_default(&self) -> bool {
         self.len() == 0

@@ -6,6 +6,7 @@ pub mod AttributeDatum
 pub mod Datum
 pub mod JsonValue
 pub mod Key
+pub mod Members
 pub mod Options
 pub mod Pieces
 pub mod Symbols

@@ -12,6 +12,7 @@ pub mod FieldsByName
 pub mod FieldsTold
 pub mod Flat
 pub mod Found
+pub mod HashedSets
 pub mod InOrder
 pub mod Keys
 pub mod KeysTold

@@ -23,7 +23,7 @@ use Rattle.dynamo_shape.proofs.Lists.{told_each, each_answered}
 use Rattle.dynamo_shape.proofs.Ordered.{HasElement, sorts_to, sorted_alike}
 use Rattle.dynamo_shape.proofs.SetsTold.{told_is, any_told, told_any, told_list, told_set, in_ordered_list, in_ordered_set}
 
-all_in : (P : Datum → Type 0) (ds es : Elements) → ((z : Datum) → HasElement z ds → HasElement z es) → AllElements P es → AllElements P ds
+pub all_in : (P : Datum → Type 0) (ds es : Elements) → ((z : Datum) → HasElement z ds → HasElement z es) → AllElements P es → AllElements P ds
 all_in P no_elements es f c = tt
 all_in P (element d ds) es f c = (at es (f d (inl refl)) c, all_in P ds es (λ z h. f z (inr h)) c)
   where
