@@ -8,7 +8,7 @@ use dynamo_de::Error;
 use std::alloc::Global;
 use std::marker::PhantomData;
 
-/// A field of the type `M`, as `BTreeSet<T>`, that is stored as a string set.
+/// A field of the type `M`, as `BTreeSet<T>` or `HashSet<T>`, that is stored as a string set.
 ///
 /// For a field of type `Vec<T>`, [`InStringSet<T>`](crate::InStringSet) is the same.
 pub struct AsStringSet<M> {
@@ -59,7 +59,7 @@ impl<M: SetValue> FieldType for Omitted<AsStringSet<M>> {
     }
 }
 
-/// A field of the type `M`, as `BTreeSet<T>`, that is stored as a number set.
+/// A field of the type `M`, as `BTreeSet<T>` or `HashSet<T>`, that is stored as a number set.
 ///
 /// For a field of type `Vec<T>`, [`InNumberSet<T>`](crate::InNumberSet) is the same.
 pub struct AsNumberSet<M> {
@@ -110,7 +110,7 @@ impl<M: SetValue> FieldType for Omitted<AsNumberSet<M>> {
     }
 }
 
-/// A field of the type `M`, as `BTreeSet<T>`, that is stored as a binary set.
+/// A field of the type `M`, as `BTreeSet<T>` or `HashSet<T>`, that is stored as a binary set.
 ///
 /// For a field of type `Vec<T>`, [`InBinarySet<T>`](crate::InBinarySet) is the same.
 pub struct AsBinarySet<M> {
