@@ -5,6 +5,7 @@
 //!
 //! - no option holds what may be null itself, as in `Option<Option<u8>>`;
 //! - the names of fields differ, and so do those of variants;
+//! - no other name of a field is the own name of one;
 //! - the keys of maps are booleans, integers, characters, strings, enums of unit variants, or
 //!   newtype structs of these;
 //! - the elements of a set are written as the set's kind, and are neither newtype structs nor
