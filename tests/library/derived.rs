@@ -12,6 +12,7 @@ mod order_rows;
 mod random;
 mod rows;
 mod scalars;
+mod tagged_twins;
 mod twins;
 mod values;
 mod wide;

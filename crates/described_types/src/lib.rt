@@ -5,6 +5,7 @@
 
 mod address;
 mod code;
+mod entity;
 mod lots;
 mod notice;
 mod order;
@@ -26,6 +27,7 @@ mod wide_40_stored;
 
 pub use address::{Address, stored_address};
 pub use code::Code;
+pub use entity::{Customer, Entity, stored_entity};
 pub use lots::{Lots, stored_lots};
 pub use notice::{Notice, stored_notice};
 pub use order::{Order, stored_order};
