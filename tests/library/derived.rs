@@ -14,6 +14,7 @@ mod rows;
 mod rules_twins;
 mod scalars;
 mod set_twins;
+mod tagged_twins;
 mod twins;
 mod values;
 mod wide;

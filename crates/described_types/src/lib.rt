@@ -6,6 +6,7 @@
 mod address;
 mod code;
 mod contact;
+mod entity;
 mod lots;
 mod notice;
 mod order;
@@ -29,6 +30,7 @@ mod wide_40_stored;
 pub use address::{Address, stored_address};
 pub use code::Code;
 pub use contact::{Contact, stored_contact};
+pub use entity::{Customer, Entity, stored_entity};
 pub use lots::{Lots, stored_lots};
 pub use notice::{Notice, stored_notice};
 pub use order::{Order, stored_order};
