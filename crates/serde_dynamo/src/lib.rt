@@ -185,7 +185,8 @@
 //! # Enums
 //!
 //! A unit variant is the string of its name. Any other variant is a map of one entry, from its name
-//! to its content. A derived enum can also have serde's other forms, by `#[serde(tag = "..")]`,
+//! to its content. A described enum can also be the map of its variant's fields with the variant's
+//! name under a tag, by `#[serde(tag = "..")]`, and a derived one have serde's other forms, by
 //! `content` and `untagged`.
 //!
 //! ```rust
