@@ -67,7 +67,10 @@ impl Enumeration for Notice {
     fn make(variant: NoticeVariants) -> Notice {
         match variant {
             Choice::Left(Nothing) => Notice::Closed,
-            Choice::Right(Named((Field(by), Field(after)))) => Notice::Answered { by, after },
+            Choice::Right(Named(fields)) => {
+                let (Field(by), Field(after)) = fields;
+                Notice::Answered { by, after }
+            }
         }
     }
 }

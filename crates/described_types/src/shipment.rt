@@ -78,8 +78,12 @@ impl Enumeration for Shipment {
         match variant {
             Choice::Left(Choice::Left(Nothing)) => Shipment::Waiting,
             Choice::Left(Choice::Right(One(n))) => Shipment::Tracked(n),
-            Choice::Right(Choice::Left(Several((Field(a), Field(b))))) => Shipment::Between(a, b),
-            Choice::Right(Choice::Right(Named((Field(at), Field(to))))) => {
+            Choice::Right(Choice::Left(Several(fields))) => {
+                let (Field(a), Field(b)) = fields;
+                Shipment::Between(a, b)
+            }
+            Choice::Right(Choice::Right(Named(fields))) => {
+                let (Field(at), Field(to)) = fields;
                 Shipment::Delivered { at, to }
             }
         }

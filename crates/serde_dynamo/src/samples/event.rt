@@ -70,8 +70,12 @@ impl Enumeration for Event {
         match variant {
             Choice::Left(Choice::Left(Nothing)) => Event::Unit,
             Choice::Left(Choice::Right(One(n))) => Event::Newtype(n),
-            Choice::Right(Choice::Left(Several((Field(a), Field(b))))) => Event::Tuple(a, b),
-            Choice::Right(Choice::Right(Named((Field(one), Field(two))))) => {
+            Choice::Right(Choice::Left(Several(fields))) => {
+                let (Field(a), Field(b)) = fields;
+                Event::Tuple(a, b)
+            }
+            Choice::Right(Choice::Right(Named(fields))) => {
+                let (Field(one), Field(two)) = fields;
                 Event::Structy { one, two }
             }
         }
