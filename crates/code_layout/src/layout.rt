@@ -64,14 +64,36 @@ pub fn statement(alloc: Global, code: &Code, behind: &str) -> Result<String, All
 ///
 /// Returns [`AllocError`] if memory runs out.
 pub fn binding(alloc: Global, pattern: &Code) -> Result<String, AllocError> {
-    let before = format!(in alloc; "{BODY}let ")?;
-    let pattern = pattern.laid_out(alloc, BODY, before.as_str(), " =")?;
+    binding_at(alloc, BODY, pattern)
+}
+
+// That statement at this indent.
+fn binding_at(alloc: Global, indent: &str, pattern: &Code) -> Result<String, AllocError> {
+    let before = format!(in alloc; "{indent}let ")?;
+    let pattern = pattern.laid_out(alloc, indent, before.as_str(), " =")?;
     let line = format!(in alloc; "{before}{pattern} = fields;")?;
     if pattern.contains('\n') || fits(line.as_str()) {
         format!(in alloc; "let {pattern} = fields;")
     } else {
-        format!(in alloc; "let {pattern} =\n{ARM}fields;")
+        format!(in alloc; "let {pattern} =\n{indent}    fields;")
     }
+}
+
+/// An arm of a match whose body first binds the names of a pattern to the fields, as [`binding`].
+///
+/// # Errors
+///
+/// Returns [`AllocError`] if memory runs out.
+pub fn binding_arm(
+    alloc: Global,
+    pattern: &Code,
+    fields: &Code,
+    body: &Code,
+) -> Result<String, AllocError> {
+    let pattern = pattern.laid_out(alloc, ARM, ARM, " => {")?;
+    let binding = binding_at(alloc, INSIDE_ARM, fields)?;
+    let body = body.laid_out(alloc, INSIDE_ARM, INSIDE_ARM, "")?;
+    format!(in alloc; "{ARM}{pattern} => {{\n{INSIDE_ARM}{binding}\n{INSIDE_ARM}{body}\n{ARM}}}\n")
 }
 
 /// An arm of a match. Its body is on the line of the pattern, or else between braces.

@@ -5,4 +5,4 @@ mod code;
 mod layout;
 
 pub use code::{Code, ListKind};
-pub use layout::{BODY, arm, binding, filled, fits, quoted, signature, statement};
+pub use layout::{BODY, arm, binding, binding_arm, filled, fits, quoted, signature, statement};

@@ -17,6 +17,8 @@ pub struct Attributes {
     pub rename: Option<String>,
     pub rename_all: Option<RenameRule>,
     pub is_default: bool,
+    /// The tag of an enum that is internally tagged.
+    pub tag: Option<String>,
     /// The type, such as `Vec`, whose function is in `skip_serializing_if`.
     pub omitted: Option<&'static str>,
     pub set: Option<SetKind>,
@@ -92,6 +94,18 @@ impl Attributes {
         }
     }
 
+    /// Checks that there is no `tag`, for anything but enums.
+    ///
+    /// # Errors
+    ///
+    /// Returns [`Failure::Refused`] with the line if there is one.
+    pub fn refuse_tag(&self) -> Result<(), Failure> {
+        match self.tag {
+            Some(_) => Err(Failure::Refused(self.line, Reason::Misplaced("tag"))),
+            None => Ok(()),
+        }
+    }
+
     /// Returns how a field of this type with these attributes is stored.
     ///
     /// # Errors
@@ -134,6 +148,7 @@ pub fn read_attributes(alloc: Global, tokens: &[Token]) -> Result<Attributes, Fa
         rename: None,
         rename_all: None,
         is_default: false,
+        tag: None,
         omitted: None,
         set: None,
         line: 0,
@@ -208,10 +223,12 @@ fn read_valued(
         if found.rename.is_some() {
             return Err(Failure::Refused(name.line, Reason::Twice("rename")));
         }
-        if !text.text.chars().all(is_plain) {
-            return Err(Failure::Refused(text.line, Reason::Text));
+        found.rename = Some(plain_text(text)?);
+    } else if name.is("tag") {
+        if found.tag.is_some() {
+            return Err(Failure::Refused(name.line, Reason::Twice("tag")));
         }
-        found.rename = Some(text.text.clone()?);
+        found.tag = Some(plain_text(text)?);
     } else if name.is("rename_all") {
         if found.rename_all.is_some() {
             return Err(Failure::Refused(name.line, Reason::Twice("rename_all")));
@@ -231,6 +248,14 @@ fn read_valued(
         return unknown(alloc, name);
     }
     Ok(())
+}
+
+// A name that is printed as it is.
+fn plain_text(text: &Token) -> Result<String, Failure> {
+    if !text.text.chars().all(is_plain) {
+        return Err(Failure::Refused(text.line, Reason::Text));
+    }
+    Ok(text.text.clone()?)
 }
 
 fn is_plain(c: char) -> bool {

@@ -48,6 +48,9 @@ pub enum Body {
 
     /// An enum of which some variant has contents.
     Choices(Vec<Variant>),
+
+    /// An enum that is internally tagged, by its tag.
+    Tagged(String, Vec<Variant>),
 }
 
 impl Declaration {
@@ -61,7 +64,7 @@ impl Declaration {
         let mut names = Vec::new(alloc);
         match &self.body {
             Body::Record(_) | Body::Tuple(_) => names.push(self.name.as_str())?,
-            Body::Choices(variants) => {
+            Body::Choices(variants) | Body::Tagged(_, variants) => {
                 for variant in variants {
                     if let Contents::Named(_) = variant.contents {
                         names.push(variant.name.as_str())?;
@@ -77,7 +80,7 @@ impl Declaration {
 impl Body {
     /// Returns whether it is that of an enum.
     pub fn is_enum(&self) -> bool {
-        matches!(self, Body::Units(_) | Body::Choices(_))
+        matches!(self, Body::Units(_) | Body::Choices(_) | Body::Tagged(_, _))
     }
 
     /// Returns whether it is that of an enum of unit variants.

@@ -78,6 +78,12 @@ pub enum Reason {
     SameList(String),
     /// A set in a field that isn't a `Vec<T>`.
     NoSet,
+    /// A variant of several fields without names, of an enum with a tag.
+    TaggedTuple,
+    /// A newtype variant of an enum with a tag, whose field isn't a struct of the same file.
+    NoStruct(String),
+    /// A field with the name of the tag.
+    FieldIsTag(String),
     /// An import of another form.
     Import,
 
@@ -139,6 +145,12 @@ impl fmt::Display for Reason {
                 f,
                 "`{name}` is another name in the impls that are printed: name the type otherwise"
             ),
+            Reason::NoStruct(name) => write!(
+                f,
+                "`{name}` is no struct with named fields of this file, which a variant behind a \
+tag holds"
+            ),
+            Reason::FieldIsTag(name) => write!(f, "the field `{name}` has the name of the tag"),
             Reason::FieldType(name) => write!(
                 f,
                 "no field has a type with `{name}`: {FIELD_TYPES}"
@@ -181,6 +193,8 @@ impl Reason {
             Reason::OwnDefault => "`default` of a struct is described if it derives `Default`",
             Reason::NoDefault =>
                 "a field that is skipped if it is empty needs `default` to be read",
+            Reason::TaggedTuple =>
+                "a variant of several fields without names has no place behind a tag",
             Reason::NoSet => "only a field of type `Vec<T>` is stored as a set",
             _ => "this is not described",
         }

@@ -5,6 +5,7 @@ use crate::import::{Import, read_imports};
 use crate::lexer::tokens;
 use crate::parser::{ends_item, is_end, read_declaration, refuse_equal_lists};
 use crate::parts::{attributed, bracketed, parts};
+use crate::tagged::refuse_tagged;
 use crate::token::Token;
 use std::alloc::{AllocError, Global};
 
@@ -52,6 +53,7 @@ pub fn read_module(alloc: Global, text: &str) -> Result<Module, Failure> {
         }
     }
     refuse_equal_lists(alloc, declarations.as_slice())?;
+    refuse_tagged(declarations.as_slice())?;
     let text = cut_text(alloc, text, cuts.as_slice())?;
     let (docs, text) = without_docs(alloc, text.as_str())?;
     Ok(Module {

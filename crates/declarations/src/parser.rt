@@ -5,6 +5,7 @@ use crate::lexer::tokens;
 use crate::module::imported;
 use crate::parts::{after_visibility, attributed, bracketed, line_of, parts, type_text};
 use crate::rename::RenameRule;
+use crate::tagged::refuse_tagged;
 use crate::token::Token;
 use crate::types::refuse_type;
 use crate::variants::enum_body;
@@ -29,6 +30,7 @@ pub fn read_declarations(alloc: Global, text: &str) -> Result<Vec<Declaration>, 
         }
     }
     refuse_equal_lists(alloc, found.as_slice())?;
+    refuse_tagged(found.as_slice())?;
     Ok(found)
 }
 
@@ -84,9 +86,10 @@ pub fn read_declaration(alloc: Global, item: &[Token]) -> Result<Declaration, Fa
         None => (Vec::new(alloc), rest),
     };
     let body = if is_struct {
+        about.refuse_tag()?;
         struct_body(alloc, rest, &parameters, &about, line)?
     } else if parameters.is_empty() {
-        enum_body(alloc, rest, about.rename_all, line)?
+        enum_body(alloc, rest, &about, line)?
     } else {
         return Err(Failure::Refused(line, Reason::GenericEnum));
     };
@@ -276,6 +279,7 @@ fn named_field(
     let mut about = read_attributes(alloc, above)?;
     about.refuse_rename_all()?;
     about.refuse_transparent()?;
+    about.refuse_tag()?;
     about.is_default = about.is_default || all_default;
     let (name, of) = match after_visibility(rest) {
         [name, colon, of @ ..] if name.is_word() && colon.is(":") => (name, of),

@@ -1,4 +1,4 @@
-use crate::attributes::read_attributes;
+use crate::attributes::{Attributes, read_attributes};
 use crate::declaration::{Body, Contents, Variant};
 use crate::failure::{Failure, Reason};
 use crate::parser::{named_fields, unnamed_fields};
@@ -7,8 +7,8 @@ use crate::rename::RenameRule;
 use crate::token::Token;
 use std::alloc::Global;
 
-/// The body of an enum. Where variants have no names of their own, those that they are written
-/// under go by the rule.
+/// The body of an enum with these attributes. Where variants have no names of their own, those that
+/// they are written under go by its rule.
 ///
 /// # Errors
 ///
@@ -18,7 +18,7 @@ use std::alloc::Global;
 pub fn enum_body(
     alloc: Global,
     rest: &[Token],
-    rule: Option<RenameRule>,
+    about: &Attributes,
     line: u32,
 ) -> Result<Body, Failure> {
     if let [word, ..] = rest
@@ -31,15 +31,15 @@ pub fn enum_body(
     };
     let mut variants = Vec::new(alloc);
     for part in parts(alloc, inside)? {
-        variants.push(read_variant(alloc, part, rule, line)?)?;
+        variants.push(read_variant(alloc, part, about.rename_all, line)?)?;
     }
     if variants.is_empty() {
         return Err(Failure::Refused(line, Reason::NoVariants));
     }
-    if variants.iter().all(|variant| variant.is_unit()) {
-        Ok(Body::Units(variants))
-    } else {
-        Ok(Body::Choices(variants))
+    match &about.tag {
+        Some(tag) => Ok(Body::Tagged(tag.clone()?, variants)),
+        None if variants.iter().all(|variant| variant.is_unit()) => Ok(Body::Units(variants)),
+        None => Ok(Body::Choices(variants)),
     }
 }
 
@@ -55,6 +55,7 @@ fn read_variant(
     about.refuse_field_forms()?;
     about.refuse_default()?;
     about.refuse_transparent()?;
+    about.refuse_tag()?;
     let (name, rest) = match rest {
         [name, rest @ ..] if name.is_word() => (name, rest),
         _ => return Err(Failure::Refused(line_of(rest, line), Reason::Name)),

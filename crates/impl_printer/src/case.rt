@@ -1,6 +1,6 @@
 use crate::tree::{leaf_refs, letters, names, tree, wrapped};
 use code_layout::{Code, ListKind};
-use declarations::{Contents, Field, Variant};
+use declarations::{Contents, Declaration, Variant, fields_of};
 use std::alloc::{AllocError, Global};
 
 /// A variant, by what describes it in the impls of its enum.
@@ -25,6 +25,11 @@ enum Kind {
     One(String),
     Several(Vec<String>),
     Named,
+
+    // Variants behind a tag: nothing, a struct of this type, and fields with names.
+    Bare,
+    Inner(String),
+    Behind,
 }
 
 /// The cases of an enum.
@@ -43,6 +48,24 @@ pub fn cases(alloc: Global, of: &str, variants: &[Variant]) -> Result<Vec<Case>,
             names,
             refs,
         })?;
+    }
+    Ok(found)
+}
+
+/// The cases of an enum with a tag. The structs in its newtype variants are among the declarations.
+///
+/// # Errors
+///
+/// Returns [`AllocError`] if memory runs out.
+pub fn tagged_cases(
+    alloc: Global,
+    of: &str,
+    variants: &[Variant],
+    declarations: &[Declaration],
+) -> Result<Vec<Case>, AllocError> {
+    let mut found = cases(alloc, of, variants)?;
+    for case in &mut found {
+        case.put_behind(alloc, declarations)?;
     }
     Ok(found)
 }
@@ -81,6 +104,26 @@ fn held(
 }
 
 impl Case {
+    // Makes it the case of a variant behind a tag.
+    fn put_behind(
+        &mut self,
+        alloc: Global,
+        declarations: &[Declaration],
+    ) -> Result<(), AllocError> {
+        let kind = match &self.kind {
+            Kind::Nothing => Kind::Bare,
+            Kind::Named => Kind::Behind,
+            Kind::One(ty) => {
+                let fields = fields_of(declarations, ty.as_str()).unwrap_or(&[]);
+                self.refs = leaf_refs(alloc, fields, "&n.")?;
+                Kind::Inner(ty.clone()?)
+            }
+            _ => return Ok(()),
+        };
+        self.kind = kind;
+        Ok(())
+    }
+
     /// Its pattern, as `Event::Tuple(a, b)`.
     ///
     /// # Errors
@@ -103,29 +146,41 @@ impl Case {
     fn with_fields(&self, alloc: Global, unnamed: ListKind) -> Result<Code, AllocError> {
         let Case { name, of, .. } = self;
         let (kind, bracket) = match self.kind {
-            Kind::Nothing => return Ok(Code::Text(format!(in alloc; "{of}::{name}")?)),
-            Kind::Named => (ListKind::Fields, " {"),
+            Kind::Nothing | Kind::Bare => {
+                return Ok(Code::Text(format!(in alloc; "{of}::{name}")?));
+            }
+            Kind::Named | Kind::Behind => (ListKind::Fields, " {"),
             _ => (unnamed, "("),
         };
         let open = format!(in alloc; "{of}::{name}{bracket}")?;
         Code::list_of_texts(alloc, kind, open.as_str(), self.names.as_slice())
     }
 
-    /// Its pattern in the list of variants, as `Several((Field(a), Field(b)))`.
+    /// Its pattern in the list of variants, as `Named(Field(a))`. Several fields are bound after it,
+    /// since no pattern moves several parts out of an enum: it is `Named(fields)`, and the second
+    /// the pattern of these, as `(Field(a), Field(b))`.
     ///
     /// # Errors
     ///
     /// Returns [`AllocError`] if memory runs out.
-    pub fn listed(&self, alloc: Global) -> Result<Code, AllocError> {
+    pub fn listed(&self, alloc: Global) -> Result<(Code, Option<Code>), AllocError> {
         let open = match self.kind {
-            Kind::Nothing => return Code::text(alloc, "Nothing"),
-            Kind::One(_) => return Code::text(alloc, "One(n)"),
+            Kind::Nothing | Kind::Bare => return Ok((Code::text(alloc, "Nothing")?, None)),
+            Kind::One(_) => return Ok((Code::text(alloc, "One(n)")?, None)),
+            Kind::Inner(_) => return Ok((Code::text(alloc, "Inner(n)")?, None)),
             Kind::Several(_) => "Several(",
-            Kind::Named => "Named(",
+            Kind::Named | Kind::Behind => "Named(",
         };
         let leaves = wrapped(alloc, self.names.as_slice(), "Field(", ")")?;
         let leaves = tree(alloc, ListKind::TuplePattern, leaves.as_slice())?;
-        Code::list(alloc, ListKind::TuplePattern, open, vec![in alloc; leaves]?)
+        let (inside, fields) = if self.names.len() < 2 {
+            (leaves, None)
+        } else {
+            (Code::text(alloc, "fields")?, Some(leaves))
+        };
+        let inside = vec![in alloc; inside]?;
+        let listed = Code::list(alloc, ListKind::TuplePattern, open, inside)?;
+        Ok((listed, fields))
     }
 
     /// Its type in the list of variants, as `Several<(Field<u8>, Field<u8>)>`.
@@ -135,8 +190,9 @@ impl Case {
     /// Returns [`AllocError`] if memory runs out.
     pub fn listed_type(&self, alloc: Global) -> Result<Code, AllocError> {
         match &self.kind {
-            Kind::Nothing => Code::text(alloc, "Nothing"),
+            Kind::Nothing | Kind::Bare => Code::text(alloc, "Nothing"),
             Kind::One(ty) => Ok(Code::Text(format!(in alloc; "One<{ty}>")?)),
+            Kind::Inner(ty) => Ok(Code::Text(format!(in alloc; "Inner<{ty}>")?)),
             Kind::Several(types) => {
                 let leaves = wrapped(alloc, types.as_slice(), "Field<", ">")?;
                 let leaves = tree(alloc, ListKind::TupleType, leaves.as_slice())?;
@@ -147,7 +203,7 @@ impl Case {
                     vec![in alloc; leaves]?,
                 )
             }
-            Kind::Named => {
+            Kind::Named | Kind::Behind => {
                 let name = self.name.as_str();
                 Ok(Code::Text(format!(in alloc; "Named<{name}Fields>")?))
             }
@@ -176,18 +232,18 @@ impl Case {
     pub fn ghost_parts(&self, alloc: Global) -> Result<String, AllocError> {
         let names = ghost_names(alloc, self.names.as_slice())?;
         let leaves = match self.kind {
-            Kind::Nothing => return String::from_str(alloc, "_"),
-            Kind::One(_) => names,
+            Kind::Nothing | Kind::Bare => return String::from_str(alloc, "_"),
+            Kind::One(_) | Kind::Inner(_) => names,
             _ => wrapped(alloc, names.as_slice(), "record { 0 = ", " }")?,
         };
         let leaves = tree(alloc, ListKind::Tuple, leaves.as_slice())?.line(alloc)?;
         format!(in alloc; "record {{ 0 = {leaves} }}")
     }
 
-    /// The proof in a ghost member that no two of its fields have the same name.
+    /// The proof in a ghost member that no two of its fields, with the tag, have the same name.
     pub fn ghost_named(&self) -> &'static str {
         match self.kind {
-            Kind::Named => "(refl, refl)",
+            Kind::Named | Kind::Inner(_) | Kind::Behind => "(refl, refl)",
             _ => "_",
         }
     }
@@ -204,6 +260,11 @@ impl Case {
             Kind::One(ty) => format!(in alloc; "write_one::<{of}, {ty}, S>(")?,
             Kind::Several(_) => format!(in alloc; "write_several::<{of}, _, S>(")?,
             Kind::Named => format!(in alloc; "write_struct::<{of}, {name}Fields, _, S>(")?,
+            Kind::Bare => format!(in alloc; "write_tagged_unit::<{of}, S>(")?,
+            Kind::Inner(ty) => format!(in alloc; "write_tagged_inner::<{of}, {ty}, _, S>(")?,
+            Kind::Behind => {
+                format!(in alloc; "write_tagged_struct::<{of}, {name}Fields, _, S>(")?
+            }
         };
         let serializer = Code::text(alloc, "serializer")?;
         self.call(alloc, open.as_str(), vec![in alloc; serializer]?, index)
@@ -221,6 +282,11 @@ impl Case {
             Kind::One(ty) => format!(in alloc; "one_conforms::<{of}, {ty}>(")?,
             Kind::Several(_) => format!(in alloc; "several_conform::<{of}, _>(")?,
             Kind::Named => format!(in alloc; "named_conform::<{of}, {name}Fields, _>(")?,
+            Kind::Bare => format!(in alloc; "tagged_unit_conforms::<{of}>(")?,
+            Kind::Inner(ty) => format!(in alloc; "tagged_inner_conforms::<{of}, {ty}, _>(")?,
+            Kind::Behind => {
+                format!(in alloc; "tagged_struct_conforms::<{of}, {name}Fields, _>(")?
+            }
         };
         self.call(alloc, open.as_str(), Vec::new(alloc), index)
     }
@@ -237,7 +303,7 @@ impl Case {
         arguments.push(Code::Text(format!(in alloc; "{index}")?))?;
         let refs = tree(alloc, ListKind::Tuple, self.refs.as_slice())?;
         match self.kind {
-            Kind::Nothing => {}
+            Kind::Nothing | Kind::Bare => {}
             Kind::One(_) => arguments.push(refs)?,
             _ => arguments.push(refs.borrowed(alloc)?)?,
         }

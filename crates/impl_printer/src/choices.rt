@@ -5,7 +5,7 @@ use crate::shared::{
     print_shaped, variant_names,
 };
 use crate::tree::{leaf_types, shown_names, tree};
-use code_layout::{ListKind, arm, signature};
+use code_layout::{ListKind, arm, binding_arm, signature};
 use declarations::{Contents, Field, Variant};
 use std::alloc::{AllocError, Global};
 use std::fmt::Write;
@@ -33,7 +33,7 @@ pub fn print_choices(
 }
 
 // Prints the type of the list of the variants.
-fn print_variant_list(
+pub(crate) fn print_variant_list(
     alloc: Global,
     out: &mut String,
     name: &str,
@@ -80,7 +80,7 @@ fn print_traits(
 }
 
 // Prints the lists of the fields of those variants whose fields have names.
-fn print_fields(
+pub(crate) fn print_fields(
     alloc: Global,
     out: &mut String,
     of: &str,
@@ -163,7 +163,7 @@ fn print_description(
 
 // Prints the function that makes a value of a variant in the list, which is the last of the
 // description.
-fn print_make(
+pub(crate) fn print_make(
     alloc: Global,
     out: &mut String,
     name: &str,
@@ -184,7 +184,7 @@ fn print_make(
 }
 
 // The cases of what a value is in the list of variants.
-fn parts(alloc: Global, cases: &[Case], alias: &str) -> Result<String, AllocError> {
+pub(crate) fn parts(alloc: Global, cases: &[Case], alias: &str) -> Result<String, AllocError> {
     let mut lines = String::new(alloc);
     for (index, case) in cases.iter().enumerate() {
         let name = case.name.as_str();
@@ -199,14 +199,20 @@ fn parts(alloc: Global, cases: &[Case], alias: &str) -> Result<String, AllocErro
 fn make_arms(alloc: Global, cases: &[Case]) -> Result<String, AllocError> {
     let mut arms = String::new(alloc);
     for (index, case) in cases.iter().enumerate() {
-        let pattern = pattern_branch(alloc, index, cases.len(), case.listed(alloc)?)?;
-        arms.push_str(arm(alloc, &pattern, &case.value(alloc)?)?.as_str())?;
+        let (listed, fields) = case.listed(alloc)?;
+        let pattern = pattern_branch(alloc, index, cases.len(), listed)?;
+        let value = case.value(alloc)?;
+        let arm = match fields {
+            Some(fields) => binding_arm(alloc, &pattern, &fields, &value)?,
+            None => arm(alloc, &pattern, &value)?,
+        };
+        arms.push_str(arm.as_str())?;
     }
     Ok(arms)
 }
 
 // The match that writes a value.
-fn write_match(alloc: Global, cases: &[Case]) -> Result<String, AllocError> {
+pub(crate) fn write_match(alloc: Global, cases: &[Case]) -> Result<String, AllocError> {
     let mut text = String::from_str(alloc, "match self {\n")?;
     for (index, case) in cases.iter().enumerate() {
         let call = case.write_call(alloc, index)?;
@@ -217,7 +223,7 @@ fn write_match(alloc: Global, cases: &[Case]) -> Result<String, AllocError> {
 }
 
 // The match by which a value conforms.
-fn conform_match(alloc: Global, cases: &[Case]) -> Result<String, AllocError> {
+pub(crate) fn conform_match(alloc: Global, cases: &[Case]) -> Result<String, AllocError> {
     let mut text = String::from_str(alloc, "match self {\n")?;
     for (index, case) in cases.iter().enumerate() {
         let call = case.conform_call(alloc, index)?;

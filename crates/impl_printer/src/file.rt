@@ -51,7 +51,7 @@ fn print_imports(
     own: Option<&[Import]>,
 ) -> Result<(), Failure> {
     let found = mentioned(declarations);
-    if !path.is_given && (found.units || found.choices) {
+    if !path.is_given && (found.units || found.choices || found.tagged) {
         out.push_str(
             "// Write the crate and the module of the enums for my_crate and my_module below.\n",
         )?;
@@ -78,7 +78,7 @@ fn print_all(
     for declaration in declarations {
         out.push('\n')?;
         let alias = alias(alloc, declarations, declaration)?;
-        print_impls(alloc, out, declaration, alias.as_str())?;
+        print_impls(alloc, out, declaration, declarations, alias.as_str())?;
     }
     Ok(())
 }
@@ -116,7 +116,7 @@ fn print_enum_import(
             out,
             "ghost use Rattle.{krate}.specs.contracts.{inside}{name}.{{enum as {alias}}};"
         ),
-        Body::Choices(_) => writeln!(
+        Body::Choices(_) | Body::Tagged(_, _) => writeln!(
             out,
             "ghost use Rattle.{krate}.specs.declared.{inside}{name}.TheVariants as {alias};"
         ),

@@ -1,9 +1,10 @@
 use crate::shared::heading_of;
-use crate::{choices, newtype, record, tuple_struct, unit_enum, unit_struct};
+use crate::{choices, newtype, record, tagged, tuple_struct, unit_enum, unit_struct};
 use declarations::{Body, Declaration};
 use std::alloc::{AllocError, Global};
 
-/// Prints the impls of a declaration. The imports name the variants of an enum by the alias.
+/// Prints the impls of a declaration, which is one of these. The imports name the variants of an
+/// enum by the alias.
 ///
 /// # Errors
 ///
@@ -12,6 +13,7 @@ pub fn print_impls(
     alloc: Global,
     out: &mut String,
     declaration: &Declaration,
+    declarations: &[Declaration],
     alias: &str,
 ) -> Result<(), AllocError> {
     let about = heading_of(alloc, declaration)?;
@@ -22,5 +24,8 @@ pub fn print_impls(
         Body::Unit => unit_struct::print_unit(alloc, out, &about),
         Body::Units(variants) => unit_enum::print_units(alloc, out, &about, variants, alias),
         Body::Choices(variants) => choices::print_choices(alloc, out, &about, variants, alias),
+        Body::Tagged(tag, variants) => {
+            tagged::print_tagged(alloc, out, &about, tag, variants, declarations, alias)
+        }
     }
 }

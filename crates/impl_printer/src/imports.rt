@@ -16,11 +16,15 @@ pub struct Mentions {
     pub generic_keys: bool,
     pub unit_structs: bool,
     pub choices: bool,
+    pub tagged: bool,
     pub branches: bool,
     pub nothing: bool,
     pub one: bool,
     pub several: bool,
     pub named: bool,
+    pub tagged_units: bool,
+    pub tagged_inner: bool,
+    pub tagged_structs: bool,
     pub defaults: bool,
     pub omitted: bool,
     pub strings: bool,
@@ -53,6 +57,11 @@ pub fn mentioned(declarations: &[Declaration]) -> Mentions {
                 found.choices = true;
                 found.branches = found.branches || variants.len() > 1;
                 found.mention_variants(variants);
+            }
+            Body::Tagged(_, variants) => {
+                found.tagged = true;
+                found.branches = found.branches || variants.len() > 1;
+                found.mention_tagged(variants);
             }
         }
     }
@@ -101,6 +110,19 @@ impl Mentions {
         }
     }
 
+    fn mention_tagged(&mut self, variants: &[Variant]) {
+        for variant in variants {
+            match &variant.contents {
+                Contents::Nothing => self.tagged_units = true,
+                Contents::Named(fields) => {
+                    self.tagged_structs = true;
+                    self.mention_fields(fields);
+                }
+                Contents::One(_) | Contents::Several(_) => self.tagged_inner = true,
+            }
+        }
+    }
+
     fn keys(&self) -> bool {
         self.unit_keys || self.newtype_keys || self.generic_keys
     }
@@ -116,7 +138,7 @@ pub fn print_ghost_imports(
     out: &mut String,
     found: &Mentions,
 ) -> Result<(), AllocError> {
-    let lists = found.records || found.units || found.choices;
+    let lists = found.records || found.units || found.choices || found.tagged;
     let prelude = [
         ("[]", lists),
         ("◌∷◌", lists),
@@ -135,6 +157,9 @@ pub fn print_ghost_imports(
     let choices = ["enum_of", "enum_tells", "enum_reads", "about_enum"];
     let choices = choices.map(|name| (name, found.choices));
     print_ghost(alloc, out, "dynamo_record.specs.Enums", &choices)?;
+    let tagged = ["tagged_of", "tagged_tells", "tagged_reads", "about_tagged"];
+    let tagged = tagged.map(|name| (name, found.tagged));
+    print_ghost(alloc, out, "dynamo_record.specs.TaggedEnums", &tagged)?;
     let branches = [("Left", found.branches), ("Right", found.branches)];
     let path = "dynamo_record.specs.declared.variant_list.Choice.TheVariants";
     print_ghost(alloc, out, path, &branches)
@@ -223,8 +248,9 @@ pub fn add_mentioned(alloc: Global, uses: &mut Uses, found: &Mentions) -> Result
 }
 
 // The types and the traits of `dynamo_record`, and whether they are mentioned.
-fn record_types(found: &Mentions) -> [(&'static str, bool); 19] {
-    let lists = found.records || found.tuples || found.several || found.named;
+fn record_types(found: &Mentions) -> [(&'static str, bool); 22] {
+    let named = found.named || found.tagged_structs;
+    let lists = found.records || found.tuples || found.several || named;
     [
         ("Choice", found.branches),
         ("Enumeration", found.choices),
@@ -233,14 +259,17 @@ fn record_types(found: &Mentions) -> [(&'static str, bool); 19] {
         ("InBinarySet", found.binaries),
         ("InNumberSet", found.numbers),
         ("InStringSet", found.strings),
-        ("Named", found.named),
-        ("NamedFields", found.named),
-        ("Nothing", found.nothing),
+        ("Inner", found.tagged_inner),
+        ("Named", named),
+        ("NamedFields", named),
+        ("Nothing", found.nothing || found.tagged_units),
         ("Omitted", found.omitted),
         ("OmittedRef", found.omitted),
         ("One", found.one),
         ("Record", found.records),
         ("Several", found.several),
+        ("TaggedEnum", found.tagged),
+        ("TaggedList", found.tagged),
         ("TupleStruct", found.tuples),
         ("UnitEnum", found.units),
         ("VariantList", found.choices),
@@ -249,7 +278,7 @@ fn record_types(found: &Mentions) -> [(&'static str, bool); 19] {
 }
 
 // Its functions, and whether they are mentioned.
-fn record_functions(found: &Mentions) -> [(&'static str, bool); 22] {
+fn record_functions(found: &Mentions) -> [(&'static str, bool); 29] {
     [
         ("conform_unit_enum", found.units),
         ("named_conform", found.named),
@@ -257,11 +286,15 @@ fn record_functions(found: &Mentions) -> [(&'static str, bool); 22] {
         ("read_enum", found.choices),
         ("read_newtype", found.newtypes),
         ("read_record", found.records),
+        ("read_tagged", found.tagged),
         ("read_tuple_struct", found.tuples),
         ("read_unit_enum", found.units),
         ("read_unit_struct", found.unit_structs),
         ("record_conforms", found.records),
         ("several_conform", found.several),
+        ("tagged_inner_conforms", found.tagged_inner),
+        ("tagged_struct_conforms", found.tagged_structs),
+        ("tagged_unit_conforms", found.tagged_units),
         ("tuple_struct_conforms", found.tuples),
         ("unit_conforms", found.nothing),
         ("variant_at", found.units),
@@ -270,6 +303,9 @@ fn record_functions(found: &Mentions) -> [(&'static str, bool); 22] {
         ("write_record", found.records),
         ("write_several", found.several),
         ("write_struct", found.named),
+        ("write_tagged_inner", found.tagged_inner),
+        ("write_tagged_struct", found.tagged_structs),
+        ("write_tagged_unit", found.tagged_units),
         ("write_tuple_struct", found.tuples),
         ("write_unit", found.nothing),
         ("write_unit_enum", found.units),

@@ -13,6 +13,7 @@ mod module_path;
 mod newtype;
 mod record;
 mod shared;
+mod tagged;
 mod tree;
 mod tuple_struct;
 mod unit_enum;

@@ -184,12 +184,14 @@ fn has_type(declaration: &Declaration, name: &str) -> bool {
         Body::Newtype(of) => says(of.as_str(), name),
         Body::Tuple(types) => types.iter().any(|of| says(of.as_str(), name)),
         Body::Unit | Body::Units(_) => false,
-        Body::Choices(variants) => variants.iter().any(|variant| match &variant.contents {
-            Contents::Nothing => false,
-            Contents::One(of) => says(of.as_str(), name),
-            Contents::Several(types) => types.iter().any(|of| says(of.as_str(), name)),
-            Contents::Named(fields) => have_type(fields, name),
-        }),
+        Body::Choices(variants) | Body::Tagged(_, variants) => variants.iter().any(
+            |variant| match &variant.contents {
+                Contents::Nothing => false,
+                Contents::One(of) => says(of.as_str(), name),
+                Contents::Several(types) => types.iter().any(|of| says(of.as_str(), name)),
+                Contents::Named(fields) => have_type(fields, name),
+            },
+        ),
     }
 }
 

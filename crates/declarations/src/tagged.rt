@@ -1,0 +1,55 @@
+use crate::declaration::{Body, Contents, Declaration, Field, Variant};
+use crate::failure::{Failure, Reason};
+
+/// Returns the fields of the struct with this name, if it is one of the declarations, has named
+/// fields and no type parameters.
+pub fn fields_of<'a>(declarations: &'a [Declaration], name: &str) -> Option<&'a [Field]> {
+    let found = declarations.iter().find(|it| it.name.as_str() == name)?;
+    match &found.body {
+        Body::Record(fields) if found.parameters.is_empty() => Some(fields.as_slice()),
+        _ => None,
+    }
+}
+
+/// Checks that each enum with a tag can be described: a newtype variant holds a struct of these
+/// declarations, and no field has the name of the tag.
+///
+/// # Errors
+///
+/// Returns [`Failure::Refused`] with the line of the enum if it can't.
+///
+/// Returns [`Failure::Memory`] if memory runs out.
+pub fn refuse_tagged(declarations: &[Declaration]) -> Result<(), Failure> {
+    for declaration in declarations {
+        if let Body::Tagged(tag, variants) = &declaration.body {
+            for variant in variants {
+                refuse_variant(declarations, tag.as_str(), variant, declaration.line)?;
+            }
+        }
+    }
+    Ok(())
+}
+
+fn refuse_variant(
+    declarations: &[Declaration],
+    tag: &str,
+    variant: &Variant,
+    line: u32,
+) -> Result<(), Failure> {
+    let fields = match &variant.contents {
+        Contents::Nothing => return Ok(()),
+        Contents::Named(fields) => fields.as_slice(),
+        Contents::Several(_) => return Err(Failure::Refused(line, Reason::TaggedTuple)),
+        Contents::One(of) => match fields_of(declarations, of.as_str()) {
+            Some(fields) => fields,
+            None => return Err(Failure::Refused(line, Reason::NoStruct(of.clone()?))),
+        },
+    };
+    match fields.iter().find(|field| field.shown.as_str() == tag) {
+        Some(field) => {
+            let name = field.name.clone()?;
+            Err(Failure::Refused(line, Reason::FieldIsTag(name)))
+        }
+        None => Ok(()),
+    }
+}
