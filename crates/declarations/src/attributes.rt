@@ -23,6 +23,11 @@ pub struct Attributes {
     pub omitted: Option<&'static str>,
     pub set: Option<SetKind>,
 
+    /// The other names in `alias`.
+    pub aliases: Vec<String>,
+    /// Whether there is `deny_unknown_fields`.
+    pub denies_unknown: bool,
+
     /// The line of the last attribute of serde.
     pub line: u32,
 }
@@ -40,6 +45,22 @@ impl Attributes {
         }
         if self.set.is_some() {
             return Err(Failure::Refused(self.line, Reason::Misplaced("with")));
+        }
+        if !self.aliases.is_empty() {
+            return Err(Failure::Refused(self.line, Reason::Misplaced("alias")));
+        }
+        Ok(())
+    }
+
+    /// Checks that there is no `deny_unknown_fields`, for anything but structs with named fields.
+    ///
+    /// # Errors
+    ///
+    /// Returns [`Failure::Refused`] with the line if there is one.
+    pub fn refuse_denial(&self) -> Result<(), Failure> {
+        if self.denies_unknown {
+            let reason = Reason::Misplaced("deny_unknown_fields");
+            return Err(Failure::Refused(self.line, reason));
         }
         Ok(())
     }
@@ -151,6 +172,8 @@ pub fn read_attributes(alloc: Global, tokens: &[Token]) -> Result<Attributes, Fa
         tag: None,
         omitted: None,
         set: None,
+        aliases: Vec::new(alloc),
+        denies_unknown: false,
         line: 0,
     };
     let depth = tokens.first().map_or(0, |token| token.depth);
@@ -202,6 +225,13 @@ fn read_serde(alloc: Global, tokens: &[Token], found: &mut Attributes) -> Result
                 }
                 found.is_transparent = true;
             }
+            [name] if name.is("deny_unknown_fields") => {
+                if found.denies_unknown {
+                    let reason = Reason::Twice("deny_unknown_fields");
+                    return Err(Failure::Refused(name.line, reason));
+                }
+                found.denies_unknown = true;
+            }
             [name, equals, text] if equals.is("=") && text.kind == Kind::Text => {
                 read_valued(alloc, name, text, found)?;
             }
@@ -224,6 +254,8 @@ fn read_valued(
             return Err(Failure::Refused(name.line, Reason::Twice("rename")));
         }
         found.rename = Some(plain_text(text)?);
+    } else if name.is("alias") {
+        found.aliases.push(plain_text(text)?)?;
     } else if name.is("tag") {
         if found.tag.is_some() {
             return Err(Failure::Refused(name.line, Reason::Twice("tag")));

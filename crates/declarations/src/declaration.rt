@@ -15,6 +15,8 @@ pub struct Declaration {
 
     /// Whether it derives what a map's key needs.
     pub is_key: bool,
+    /// Whether it has `deny_unknown_fields`.
+    pub denies_unknown: bool,
     /// The fields or the variants.
     pub body: Body,
 }
@@ -97,6 +99,11 @@ pub struct Field {
 
     /// The name that it is written under.
     pub shown: String,
+
+    /// The other names that it is read under.
+    pub aliases: Vec<String>,
+    /// The line of its last attribute of serde.
+    pub line: u32,
 
     /// The text of its type.
     pub of: String,

@@ -76,6 +76,8 @@ pub enum Reason {
     OwnDefault,
     /// Two lists of fields that would have the same name.
     SameList(String),
+    /// An alias that is a name of a field already.
+    SameName(String),
     /// A set in a field that isn't a `Vec<T>`.
     NoSet,
     /// A variant of several fields without names, of an enum with a tag.
@@ -141,6 +143,7 @@ impl fmt::Display for Reason {
             Reason::SkipIf(path) => write!(f, "fields skipped by {path:?} are not described"),
             Reason::OtherType(name) => write!(f, "this function is for fields of type `{name}`"),
             Reason::SameList(name) => write!(f, "`{name}Fields` would be declared twice"),
+            Reason::SameName(name) => write!(f, "`{name}` is a name of a field already"),
             Reason::TakenName(name) => write!(
                 f,
                 "`{name}` is another name in the impls that are printed: name the type otherwise"

@@ -95,11 +95,17 @@ pub fn read_declaration(alloc: Global, item: &[Token]) -> Result<Declaration, Fa
     };
     if !matches!(body, Body::Record(_)) {
         about.refuse_default()?;
+        about.refuse_denial()?;
     }
     if !matches!(body, Body::Newtype(_)) {
         about.refuse_transparent()?;
     }
-    let Attributes { is_key, rename, .. } = about;
+    let Attributes {
+        is_key,
+        denies_unknown,
+        rename,
+        ..
+    } = about;
     let name = name.text.clone()?;
     let shown = match rename {
         Some(rename) => rename,
@@ -111,6 +117,7 @@ pub fn read_declaration(alloc: Global, item: &[Token]) -> Result<Declaration, Fa
         line,
         parameters,
         is_key,
+        denies_unknown,
         body,
     })
 }
@@ -179,10 +186,29 @@ fn struct_body(
             if fields.is_empty() {
                 return Err(Failure::Refused(line, Reason::NoFields));
             }
+            refuse_equal_names(alloc, &fields)?;
             Ok(Body::Record(fields))
         }
         _ => Err(Failure::Refused(line, Reason::Body)),
     }
+}
+
+// Checks that no other name of a field is a name of a field already.
+fn refuse_equal_names(alloc: Global, fields: &[Field]) -> Result<(), Failure> {
+    let mut names: Vec<&str> = Vec::new(alloc);
+    for field in fields {
+        names.push(field.shown.as_str())?;
+    }
+    for field in fields {
+        for other in &field.aliases {
+            if names.iter().any(|name| *name == other.as_str()) {
+                let reason = Reason::SameName(other.clone()?);
+                return Err(Failure::Refused(field.line, reason));
+            }
+            names.push(other.as_str())?;
+        }
+    }
+    Ok(())
 }
 
 // The body of a struct whose fields have no names: a newtype, where it is one field.
@@ -280,6 +306,7 @@ fn named_field(
     about.refuse_rename_all()?;
     about.refuse_transparent()?;
     about.refuse_tag()?;
+    about.refuse_denial()?;
     about.is_default = about.is_default || all_default;
     let (name, of) = match after_visibility(rest) {
         [name, colon, of @ ..] if name.is_word() && colon.is(":") => (name, of),
@@ -304,6 +331,8 @@ fn named_field(
     Ok(Field {
         name,
         shown,
+        aliases: about.aliases,
+        line: about.line,
         of,
         form,
     })

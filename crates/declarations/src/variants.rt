@@ -54,6 +54,7 @@ fn read_variant(
     let about = read_attributes(alloc, above)?;
     about.refuse_field_forms()?;
     about.refuse_default()?;
+    about.refuse_denial()?;
     about.refuse_transparent()?;
     about.refuse_tag()?;
     let (name, rest) = match rest {
@@ -87,6 +88,9 @@ fn read_contents(
         let fields = named_fields(alloc, inside, rule, false, line)?;
         if fields.is_empty() {
             return Err(Failure::Refused(line, Reason::NoContents));
+        }
+        if let Some(field) = fields.iter().find(|field| !field.aliases.is_empty()) {
+            return Err(Failure::Refused(field.line, Reason::Misplaced("alias")));
         }
         return Ok(Contents::Named(fields));
     }

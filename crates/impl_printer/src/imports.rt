@@ -8,6 +8,10 @@ use std::fmt::Write;
 #[derive(Clone, Copy, Default)]
 pub struct Mentions {
     pub records: bool,
+    pub plain_records: bool,
+    pub ruled_records: bool,
+    pub denials: bool,
+    pub open_rules: bool,
     pub tuples: bool,
     pub units: bool,
     pub unit_keys: bool,
@@ -40,6 +44,7 @@ pub fn mentioned(declarations: &[Declaration]) -> Mentions {
         match &declaration.body {
             Body::Record(fields) => {
                 found.records = true;
+                found.mention_rules(declaration, fields);
                 found.mention_fields(fields);
             }
             Body::Tuple(_) => found.tuples = true,
@@ -69,6 +74,19 @@ pub fn mentioned(declarations: &[Declaration]) -> Mentions {
 }
 
 impl Mentions {
+    fn mention_rules(&mut self, declaration: &Declaration, fields: &[Field]) {
+        if !declaration.denies_unknown && fields.iter().all(|field| field.aliases.is_empty()) {
+            self.plain_records = true;
+            return;
+        }
+        self.ruled_records = true;
+        if declaration.denies_unknown {
+            self.denials = true;
+        } else {
+            self.open_rules = true;
+        }
+    }
+
     fn mention_fields(&mut self, fields: &[Field]) {
         for field in fields {
             match field.form {
@@ -143,14 +161,14 @@ pub fn print_ghost_imports(
         ("[]", lists),
         ("◌∷◌", lists),
         ("codes", true),
+        ("false", found.open_rules),
         ("refl", true),
+        ("true", found.denials),
     ];
     print_ghost(alloc, out, "std.specs.Prelude", &prelude)?;
     let own_key = [("own_key", found.unit_keys || found.newtype_keys)];
     print_ghost(alloc, out, "dynamo_types.specs.Keys", &own_key)?;
-    let records = ["record_of", "record_tells", "record_reads", "about_record"];
-    let records = records.map(|name| (name, found.records));
-    print_ghost(alloc, out, "dynamo_record.specs.Records", &records)?;
+    print_record_imports(alloc, out, found)?;
     print_newtype_imports(alloc, out, found)?;
     print_tuple_imports(alloc, out, found)?;
     print_unit_imports(alloc, out, found)?;
@@ -163,6 +181,22 @@ pub fn print_ghost_imports(
     let branches = [("Left", found.branches), ("Right", found.branches)];
     let path = "dynamo_record.specs.declared.variant_list.Choice.TheVariants";
     print_ghost(alloc, out, path, &branches)
+}
+
+fn print_record_imports(
+    alloc: Global,
+    out: &mut String,
+    found: &Mentions,
+) -> Result<(), AllocError> {
+    let records = [
+        ("record_of", found.records),
+        ("record_tells", found.records),
+        ("record_reads", found.plain_records),
+        ("about_record", found.plain_records),
+    ];
+    print_ghost(alloc, out, "dynamo_record.specs.Records", &records)?;
+    let rules = ["about_by_rules", "rules_reads"].map(|name| (name, found.ruled_records));
+    print_ghost(alloc, out, "dynamo_record.specs.ByRules", &rules)
 }
 
 fn print_newtype_imports(
@@ -248,7 +282,7 @@ pub fn add_mentioned(alloc: Global, uses: &mut Uses, found: &Mentions) -> Result
 }
 
 // The types and the traits of `dynamo_record`, and whether they are mentioned.
-fn record_types(found: &Mentions) -> [(&'static str, bool); 22] {
+fn record_types(found: &Mentions) -> [(&'static str, bool); 23] {
     let named = found.named || found.tagged_structs;
     let lists = found.records || found.tuples || found.several || named;
     [
@@ -267,6 +301,7 @@ fn record_types(found: &Mentions) -> [(&'static str, bool); 22] {
         ("OmittedRef", found.omitted),
         ("One", found.one),
         ("Record", found.records),
+        ("RecordRules", found.ruled_records),
         ("Several", found.several),
         ("TaggedEnum", found.tagged),
         ("TaggedList", found.tagged),
@@ -278,14 +313,15 @@ fn record_types(found: &Mentions) -> [(&'static str, bool); 22] {
 }
 
 // Its functions, and whether they are mentioned.
-fn record_functions(found: &Mentions) -> [(&'static str, bool); 29] {
+fn record_functions(found: &Mentions) -> [(&'static str, bool); 30] {
     [
         ("conform_unit_enum", found.units),
         ("named_conform", found.named),
         ("one_conforms", found.one),
         ("read_enum", found.choices),
         ("read_newtype", found.newtypes),
-        ("read_record", found.records),
+        ("read_record", found.plain_records),
+        ("read_record_by_rules", found.ruled_records),
         ("read_tagged", found.tagged),
         ("read_tuple_struct", found.tuples),
         ("read_unit_enum", found.units),

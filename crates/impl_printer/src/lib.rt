@@ -12,6 +12,7 @@ mod imports;
 mod module_path;
 mod newtype;
 mod record;
+mod record_rules;
 mod shared;
 mod tagged;
 mod tree;

@@ -1,4 +1,5 @@
 use crate::fields::{conform_call, ghost_parts, make_function, print_field_list, write_call};
+use crate::record_rules::{has_rules, print_rules, reading_of};
 use crate::shared::{
     Heading, codes, name_functions, names_function, print_deserialize, print_serialize,
     print_shaped,
@@ -25,6 +26,10 @@ pub fn print_record(
     let refs = leaf_refs(alloc, fields, "&self.")?;
     print_field_list(alloc, out, about, types.as_slice())?;
     print_description(alloc, out, about, fields)?;
+    let is_ruled = has_rules(about, fields);
+    if is_ruled {
+        print_rules(alloc, out, about, fields)?;
+    }
     print_serialize(
         alloc,
         out,
@@ -33,18 +38,14 @@ pub fn print_record(
         "",
         &write_call(alloc, "write_record", ty, refs.as_slice())?,
     )?;
-    print_deserialize(
-        alloc,
-        out,
-        about,
-        &format!(in alloc; "record_reads ⟦<{ty} as Record>⟧.about")?,
-        "read_record(alloc, deserializer)",
-    )?;
+    let reading = reading_of(alloc, ty, is_ruled)?;
+    let body = reading.body.as_str();
+    print_deserialize(alloc, out, about, reading.reads.as_str(), body)?;
     print_shaped(
         alloc,
         out,
         about,
-        &format!(in alloc; "about_record ⟦<{ty} as Record>⟧.about (refl, refl)")?,
+        reading.about.as_str(),
         "λ _ _ h. h",
         &conform_call(alloc, "record_conforms", ty, refs.as_slice())?,
     )

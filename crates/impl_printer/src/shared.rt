@@ -22,6 +22,9 @@ pub struct Heading {
     pub shaped: String,
     pub keyed: String,
     pub is_key: bool,
+
+    /// Whether an unknown field is an error.
+    pub denies_unknown: bool,
 }
 
 /// Returns what the impls of a declaration begin with.
@@ -40,6 +43,7 @@ pub fn heading_of(alloc: Global, declaration: &Declaration) -> Result<Heading, A
         shaped: bounded(alloc, declaration.parameters.as_slice(), "Shaped")?,
         keyed: bounded(alloc, declaration.parameters.as_slice(), "ShapedKey")?,
         is_key: declaration.is_key,
+        denies_unknown: declaration.denies_unknown,
     })
 }
 
