@@ -84,6 +84,8 @@ pub enum Reason {
     TaggedTuple,
     /// A newtype variant of an enum with a tag, whose field isn't a struct of the same file.
     NoStruct(String),
+    /// A variant behind a tag whose struct has other names for its fields, or refuses unknown ones.
+    RulesBehindTag(String),
     /// A field with the name of the tag.
     FieldIsTag(String),
     /// An import of another form.
@@ -152,6 +154,10 @@ impl fmt::Display for Reason {
                 f,
                 "`{name}` is no struct with named fields of this file, which a variant behind a \
 tag holds"
+            ),
+            Reason::RulesBehindTag(name) => write!(
+                f,
+                "`{name}` has `alias` or `deny_unknown_fields`, which has no place behind a tag"
             ),
             Reason::FieldIsTag(name) => write!(f, "the field `{name}` has the name of the tag"),
             Reason::FieldType(name) => write!(

@@ -11,8 +11,22 @@ pub fn fields_of<'a>(declarations: &'a [Declaration], name: &str) -> Option<&'a 
     }
 }
 
+// Whether a struct of this name has other names for its fields, or refuses unknown ones.
+fn is_by_rules(declarations: &[Declaration], name: &str) -> bool {
+    for found in declarations {
+        if let Body::Record(fields) = &found.body
+            && found.name.as_str() == name
+            && (found.denies_unknown || fields.iter().any(|field| !field.aliases.is_empty()))
+        {
+            return true;
+        }
+    }
+    false
+}
+
 /// Checks that each enum with a tag can be described: a newtype variant holds a struct of these
-/// declarations, and no field has the name of the tag.
+/// declarations, which has no `alias` and no `deny_unknown_fields`, and no field has the name of the
+/// tag.
 ///
 /// # Errors
 ///
@@ -40,6 +54,9 @@ fn refuse_variant(
         Contents::Nothing => return Ok(()),
         Contents::Named(fields) => fields.as_slice(),
         Contents::Several(_) => return Err(Failure::Refused(line, Reason::TaggedTuple)),
+        Contents::One(of) if is_by_rules(declarations, of.as_str()) => {
+            return Err(Failure::Refused(line, Reason::RulesBehindTag(of.clone()?)));
+        }
         Contents::One(of) => match fields_of(declarations, of.as_str()) {
             Some(fields) => fields,
             None => return Err(Failure::Refused(line, Reason::NoStruct(of.clone()?))),
