@@ -26,14 +26,16 @@ pub struct Contact {
 }
 
 type ContactFields = (
-    (Field<String>, Field<String>),
-    (Field<Option<String>>, Field<Omitted<Vec<String>>>),
+    Field<String>,
+    Field<String>,
+    Field<Option<String>>,
+    Field<Omitted<Vec<String>>>,
 );
 
 impl Record for Contact {
     type Fields = ContactFields;
 
-    ghost about = { record_of (codes "Contact") (codes "id" ∷ codes "phone" ∷ codes "email" ∷ codes "groups" ∷ []) (λ s. ((record { 0 = s.id }, record { 0 = s.phone }), (record { 0 = s.email }, record { 0 = s.groups }))) ⟦<ContactFields as FieldList>⟧.about };
+    ghost about = { record_of (codes "Contact") (codes "id" ∷ codes "phone" ∷ codes "email" ∷ codes "groups" ∷ []) (λ s. (record { 0 = s.id }, record { 0 = s.phone }, record { 0 = s.email }, record { 0 = s.groups })) ⟦<ContactFields as FieldList>⟧.about };
 
     ghost named = { (refl, refl) };
 
@@ -50,7 +52,7 @@ impl Record for Contact {
     }
 
     fn make(fields: ContactFields) -> Contact {
-        let ((Field(id), Field(phone)), (Field(email), Field(groups))) = fields;
+        let (Field(id), Field(phone), Field(email), Field(groups)) = fields;
         Contact {
             id,
             phone,
@@ -78,10 +80,7 @@ impl Serialize for Contact {
     fn serialize<S: Serializer>(&self, serializer: S) -> Result<S::Ok, S::Error> {
         write_record::<Contact, _, S>(
             serializer,
-            &(
-                (&self.id, &self.phone),
-                (&self.email, OmittedRef(&self.groups)),
-            ),
+            &(&self.id, &self.phone, &self.email, OmittedRef(&self.groups)),
         )
     }
 }
@@ -107,8 +106,10 @@ impl Shaped for Contact {
 
     fn conforms(&self) {
         record_conforms::<Contact, _>(&(
-            (&self.id, &self.phone),
-            (&self.email, OmittedRef(&self.groups)),
+            &self.id,
+            &self.phone,
+            &self.email,
+            OmittedRef(&self.groups),
         ))
     }
 }
