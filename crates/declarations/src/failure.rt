@@ -89,8 +89,8 @@ pub enum Reason {
 }
 
 const FIELD_TYPES: &str = "a field is `bool`, `char`, `String`, `ByteBuf`, an integer of 8 to 128 \
-bits, an `Option`, `Box`, `Vec`, `BTreeMap` or `HashMap` of such types, two to four of them in \
-brackets, or a type that is described";
+bits, an `Option`, `Box`, `Vec`, `BTreeSet`, `HashSet`, `BTreeMap` or `HashMap` of such types, two \
+to four of them in brackets, or a type that is described";
 
 /// The reason why nothing is printed.
 #[derive(Drop)]
@@ -181,7 +181,8 @@ impl Reason {
             Reason::OwnDefault => "`default` of a struct is described if it derives `Default`",
             Reason::NoDefault =>
                 "a field that is skipped if it is empty needs `default` to be read",
-            Reason::NoSet => "only a field of type `Vec<T>` is stored as a set",
+            Reason::NoSet =>
+                "only a field of type `Vec<T>`, `BTreeSet<T>` or `HashSet<T>` is stored as a set",
             _ => "this is not described",
         }
     }
