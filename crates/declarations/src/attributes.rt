@@ -1,4 +1,4 @@
-use crate::declaration::{Form, SetKind};
+use crate::declaration::{Form, SetKind, StoredSet};
 use crate::failure::{Failure, Reason};
 use crate::parts::{bracketed, parts};
 use crate::rename::RenameRule;
@@ -142,7 +142,9 @@ impl Attributes {
                 return Err(Failure::Refused(self.line, Reason::NoDefault));
             }
         }
-        Ok(match (self.set, self.omitted, self.is_default) {
+        let is_rust_set = type_name(of).is_some_and(|token| is_set_type(token));
+        let set = self.set.map(|kind| StoredSet { kind, is_rust_set });
+        Ok(match (set, self.omitted, self.is_default) {
             (Some(set), Some(_), _) => Form::OmittedSet(set),
             (Some(set), None, true) => Form::DefaultedSet(set),
             (Some(set), None, false) => Form::Set(set),
@@ -318,8 +320,15 @@ fn omitted_type(text: &Token) -> Result<&'static str, Failure> {
         "Vec::is_empty" => Ok("Vec"),
         "BTreeMap::is_empty" => Ok("BTreeMap"),
         "HashMap::is_empty" => Ok("HashMap"),
+        "BTreeSet::is_empty" => Ok("BTreeSet"),
+        "HashSet::is_empty" => Ok("HashSet"),
         _ => Err(Failure::Refused(text.line, Reason::SkipIf(text.text.clone()?))),
     }
+}
+
+// Whether a field of this type holds its members as a set.
+fn is_set_type(name: &Token) -> bool {
+    name.is("BTreeSet") || name.is("HashSet")
 }
 
 // The last name of the path of a type.

@@ -123,14 +123,24 @@ pub enum Form {
     /// A field that is left out if it has its type's default.
     Omitted,
 
-    /// A field of type `Vec<T>` that is stored as a set. The text of its type is that of `T`.
-    Set(SetKind),
+    /// A field that is stored as a set. If its type is `Vec<T>`, the text is that of `T`.
+    Set(StoredSet),
 
     /// The same of a field that may be absent, and then is empty.
-    DefaultedSet(SetKind),
+    DefaultedSet(StoredSet),
 
     /// The same of a field that is left out if it is empty.
-    OmittedSet(SetKind),
+    OmittedSet(StoredSet),
+}
+
+/// How a field is stored as a set.
+#[derive(Clone, Copy, PartialEq, Eq)]
+pub struct StoredSet {
+    /// The kind of the set.
+    pub kind: SetKind,
+
+    /// Whether the type of the field is a set of Rust, as `BTreeSet<T>`, and not `Vec<T>`.
+    pub is_rust_set: bool,
 }
 
 /// The kinds of sets.

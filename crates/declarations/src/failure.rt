@@ -99,8 +99,8 @@ pub enum Reason {
 }
 
 const FIELD_TYPES: &str = "a field is `bool`, `char`, `String`, `ByteBuf`, an integer of 8 to 128 \
-bits, an `Option`, `Box`, `Vec`, `BTreeMap` or `HashMap` of such types, two to four of them in \
-brackets, or a type that is described";
+bits, an `Option`, `Box`, `Vec`, `BTreeSet`, `HashSet`, `BTreeMap` or `HashMap` of such types, two \
+to four of them in brackets, or a type that is described";
 
 /// The reason why nothing is printed.
 #[derive(Drop)]
@@ -204,7 +204,8 @@ impl Reason {
                 "a field that is skipped if it is empty needs `default` to be read",
             Reason::TaggedTuple =>
                 "a variant of several fields without names has no place behind a tag",
-            Reason::NoSet => "only a field of type `Vec<T>` is stored as a set",
+            Reason::NoSet =>
+                "only a field of type `Vec<T>`, `BTreeSet<T>` or `HashSet<T>` is stored as a set",
             _ => "this is not described",
         }
     }

@@ -16,7 +16,9 @@ mod token;
 mod types;
 mod variants;
 
-pub use declaration::{Body, Contents, Declaration, Field, Form, Parameter, SetKind, Variant};
+pub use declaration::{
+    Body, Contents, Declaration, Field, Form, Parameter, SetKind, StoredSet, Variant,
+};
 pub use failure::{Failure, Reason};
 pub use import::Import;
 pub use module::{Module, read_module};

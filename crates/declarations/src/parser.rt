@@ -316,6 +316,8 @@ fn named_field(
     refuse_type(alloc, of)?;
     let of = match (form, of) {
         (Form::Plain | Form::Defaulted | Form::Omitted, _) => type_text(alloc, of, name.line)?,
+        (Form::Set(set) | Form::DefaultedSet(set) | Form::OmittedSet(set), _) if set.is_rust_set =>
+            type_text(alloc, of, name.line)?,
         (_, [vec, ..]) if vec.is("Vec") => match bracketed(&of[1..], "<") {
             Some((item, [])) => type_text(alloc, item, name.line)?,
             _ => return Err(Failure::Refused(name.line, Reason::NoSet)),

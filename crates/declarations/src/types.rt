@@ -6,15 +6,13 @@ use std::alloc::Global;
 
 // Types and parts of types that no field has: those that DynamoDB's values don't hold, and those
 // that a description doesn't read.
-const REFUSED: [&str; 27] = [
+const REFUSED: [&str; 25] = [
     "f32",
     "f64",
     "usize",
     "isize",
     "str",
     "AttributeValue",
-    "HashSet",
-    "BTreeSet",
     "IndexMap",
     "IndexSet",
     "VecDeque",

@@ -1,8 +1,9 @@
-ghost use Rattle.std.specs.Prelude.{[], ◌∷◌, ◌≡◌, MatchResult, codes, refl, string_bytes};
+ghost use Rattle.std.specs.Prelude.{[], ◌∷◌, ◌≡◌, MatchResult, codes, nat_eq, refl, string_bytes};
 ghost use Rattle.std.specs.BTreeSet as sorted;
-ghost use Rattle.std.specs.Cmp.Lexicographic.{slice_cmp};
+ghost use Rattle.std.specs.Cmp.Lexicographic.{pointwise, slice_cmp};
+ghost use Rattle.std.specs.HashSet as hashed;
 ghost use Rattle.std.specs.Ordering.{nat_cmp};
-ghost use Rattle.std.specs.String.{string_cmp};
+ghost use Rattle.std.specs.String.{string_cmp, string_eq};
 ghost use Rattle.dynamo_value.specs.Bytes.{octets_of};
 ghost use Rattle.dynamo_value.specs.Fault.{out_of_memory};
 ghost use Rattle.dynamo_value.specs.Kind.{fault_of};
@@ -11,7 +12,7 @@ ghost use Rattle.dynamo_record.specs.Records.{record_of, record_tells, record_re
 
 use dynamo_record::{
     AsBinarySet, AsNumberSet, AsStringSet, Field, FieldList, Omitted, OmittedRef, Record,
-    read_record, record_conforms, write_record,
+    WithDefault, read_record, record_conforms, write_record,
 };
 use serde_dynamo::de::{Deserialize, Deserializer, Error};
 use serde_dynamo::ser::{Serialize, Serializer};
@@ -20,10 +21,10 @@ use serde_dynamo::{
 };
 use serde_json::Value;
 use std::alloc::Global;
-use std::collections::BTreeSet;
+use std::collections::{BTreeSet, HashSet};
 
-/// The roster of a shift. It has each kind of set, of which one is left out if it is empty, and a
-/// set that is stored as a list.
+/// The roster of a shift. It has each kind of set as an ordered and as a hashed set, of which some
+/// are left out if they are empty, and a set that is stored as a list.
 #[derive(Debug, Drop)]
 pub struct Roster {
     pub id: String,
@@ -31,23 +32,26 @@ pub struct Roster {
     pub badges: BTreeSet<u32>,
     pub tokens: BTreeSet<ByteBuf>,
     pub hours: BTreeSet<u8>,
+    pub skills: HashSet<String>,
+    pub rooms: HashSet<u16>,
+    pub seals: HashSet<ByteBuf>,
 }
 
 type RosterFields = (
-    (Field<String>, Field<AsStringSet<BTreeSet<String>>>),
-    (
-        Field<AsNumberSet<BTreeSet<u32>>>,
-        (
-            Field<Omitted<AsBinarySet<BTreeSet<ByteBuf>>>>,
-            Field<BTreeSet<u8>>,
-        ),
-    ),
+    Field<String>,
+    Field<AsStringSet<BTreeSet<String>>>,
+    Field<AsNumberSet<BTreeSet<u32>>>,
+    Field<Omitted<AsBinarySet<BTreeSet<ByteBuf>>>>,
+    Field<BTreeSet<u8>>,
+    Field<Omitted<AsStringSet<HashSet<String>>>>,
+    Field<WithDefault<AsNumberSet<HashSet<u16>>>>,
+    Field<AsBinarySet<HashSet<ByteBuf>>>,
 );
 
 impl Record for Roster {
     type Fields = RosterFields;
 
-    ghost about = { record_of (codes "Roster") (codes "id" ∷ codes "names" ∷ codes "badges" ∷ codes "tokens" ∷ codes "hours" ∷ []) (λ s. ((record { 0 = s.id }, record { 0 = s.names }), (record { 0 = s.badges }, (record { 0 = s.tokens }, record { 0 = s.hours })))) ⟦<RosterFields as FieldList>⟧.about };
+    ghost about = { record_of (codes "Roster") (codes "id" ∷ codes "names" ∷ codes "badges" ∷ codes "tokens" ∷ codes "hours" ∷ codes "skills" ∷ codes "rooms" ∷ codes "seals" ∷ []) (λ s. (record { 0 = s.id }, record { 0 = s.names }, record { 0 = s.badges }, record { 0 = s.tokens }, record { 0 = s.hours }, record { 0 = s.skills }, record { 0 = s.rooms }, record { 0 = s.seals })) ⟦<RosterFields as FieldList>⟧.about };
 
     ghost named = { (refl, refl) };
 
@@ -60,17 +64,31 @@ impl Record for Roster {
     }
 
     fn names() -> &'static [&'static str] {
-        &["id", "names", "badges", "tokens", "hours"]
+        &[
+            "id", "names", "badges", "tokens", "hours", "skills", "rooms", "seals",
+        ]
     }
 
     fn make(fields: RosterFields) -> Roster {
-        let ((Field(id), Field(names)), (Field(badges), (Field(tokens), Field(hours)))) = fields;
+        let (
+            Field(id),
+            Field(names),
+            Field(badges),
+            Field(tokens),
+            Field(hours),
+            Field(skills),
+            Field(rooms),
+            Field(seals),
+        ) = fields;
         Roster {
             id,
             names,
             badges,
             tokens,
             hours,
+            skills,
+            rooms,
+            seals,
         }
     }
 }
@@ -82,11 +100,14 @@ impl Serialize for Roster {
         write_record::<Roster, _, S>(
             serializer,
             &(
-                (&self.id, StringSet(&self.names)),
-                (
-                    NumberSet(&self.badges),
-                    (OmittedRef(BinarySet(&self.tokens)), &self.hours),
-                ),
+                &self.id,
+                StringSet(&self.names),
+                NumberSet(&self.badges),
+                OmittedRef(BinarySet(&self.tokens)),
+                &self.hours,
+                OmittedRef(StringSet(&self.skills)),
+                NumberSet(&self.rooms),
+                BinarySet(&self.seals),
             ),
         )
     }
@@ -113,11 +134,14 @@ impl Shaped for Roster {
 
     fn conforms(&self) {
         record_conforms::<Roster, _>(&(
-            (&self.id, StringSet(&self.names)),
-            (
-                NumberSet(&self.badges),
-                (OmittedRef(BinarySet(&self.tokens)), &self.hours),
-            ),
+            &self.id,
+            StringSet(&self.names),
+            NumberSet(&self.badges),
+            OmittedRef(BinarySet(&self.tokens)),
+            &self.hours,
+            OmittedRef(StringSet(&self.skills)),
+            NumberSet(&self.rooms),
+            BinarySet(&self.seals),
         ))
     }
 }
@@ -138,6 +162,10 @@ pub fn stored_roster(
     ensures tokens { MatchResult result (λ parts. SameSet (sorted.contains (λ a b. slice_cmp nat_cmp (octets_of a) (octets_of b)))
         roster.now.tokens parts.2.tokens) (λ e. fault_of e ≡ out_of_memory) }
     ensures hours { MatchResult result (λ parts. SameSet (sorted.contains nat_cmp) roster.now.hours parts.2.hours) (λ e. fault_of e ≡ out_of_memory) }
+    ensures skills { MatchResult result (λ parts. SameSet (hashed.contains string_eq) roster.now.skills parts.2.skills) (λ e. fault_of e ≡ out_of_memory) }
+    ensures rooms { MatchResult result (λ parts. SameSet (hashed.contains nat_eq) roster.now.rooms parts.2.rooms) (λ e. fault_of e ≡ out_of_memory) }
+    ensures seals { MatchResult result (λ parts. SameSet (hashed.contains (λ a b. pointwise nat_eq (octets_of a) (octets_of b)))
+        roster.now.seals parts.2.seals) (λ e. fault_of e ≡ out_of_memory) }
 {
     reread_clear(alloc, roster)
 }

@@ -1,6 +1,6 @@
 // The imports that the printed impls need.
 use crate::uses::Uses;
-use declarations::{Body, Contents, Declaration, Field, Form, SetKind, Variant};
+use declarations::{Body, Contents, Declaration, Field, Form, SetKind, StoredSet, Variant};
 use std::alloc::{AllocError, Global};
 use std::fmt::Write;
 
@@ -31,9 +31,12 @@ pub struct Mentions {
     pub tagged_structs: bool,
     pub defaults: bool,
     pub omitted: bool,
-    pub strings: bool,
-    pub numbers: bool,
-    pub binaries: bool,
+    pub listed_strings: bool,
+    pub listed_numbers: bool,
+    pub listed_binaries: bool,
+    pub rust_strings: bool,
+    pub rust_numbers: bool,
+    pub rust_binaries: bool,
 }
 
 /// What the impls of these declarations mention.
@@ -106,11 +109,14 @@ impl Mentions {
         }
     }
 
-    fn mention_set(&mut self, set: SetKind) {
-        match set {
-            SetKind::Strings => self.strings = true,
-            SetKind::Numbers => self.numbers = true,
-            SetKind::Binaries => self.binaries = true,
+    fn mention_set(&mut self, set: StoredSet) {
+        match (set.kind, set.is_rust_set) {
+            (SetKind::Strings, false) => self.listed_strings = true,
+            (SetKind::Numbers, false) => self.listed_numbers = true,
+            (SetKind::Binaries, false) => self.listed_binaries = true,
+            (SetKind::Strings, true) => self.rust_strings = true,
+            (SetKind::Numbers, true) => self.rust_numbers = true,
+            (SetKind::Binaries, true) => self.rust_binaries = true,
         }
     }
 
@@ -267,11 +273,11 @@ pub fn add_mentioned(alloc: Global, uses: &mut Uses, found: &Mentions) -> Result
     uses.add_wanted(alloc, "dynamo_record", &record_types(found))?;
     uses.add_wanted(alloc, "dynamo_record", &record_functions(found))?;
     let shaped = [
-        ("BinarySet", found.binaries),
-        ("NumberSet", found.numbers),
+        ("BinarySet", found.listed_binaries || found.rust_binaries),
+        ("NumberSet", found.listed_numbers || found.rust_numbers),
         ("Shaped", true),
         ("ShapedKey", found.keys()),
-        ("StringSet", found.strings),
+        ("StringSet", found.listed_strings || found.rust_strings),
     ];
     uses.add_wanted(alloc, "serde_dynamo", &shaped)?;
     let read = ["Deserialize", "Deserializer", "Error"].map(|name| (name, true));
@@ -282,17 +288,20 @@ pub fn add_mentioned(alloc: Global, uses: &mut Uses, found: &Mentions) -> Result
 }
 
 // The types and the traits of `dynamo_record`, and whether they are mentioned.
-fn record_types(found: &Mentions) -> [(&'static str, bool); 23] {
+fn record_types(found: &Mentions) -> [(&'static str, bool); 26] {
     let named = found.named || found.tagged_structs;
     let lists = found.records || found.tuples || found.several || named;
     [
+        ("AsBinarySet", found.rust_binaries),
+        ("AsNumberSet", found.rust_numbers),
+        ("AsStringSet", found.rust_strings),
         ("Choice", found.branches),
         ("Enumeration", found.choices),
         ("Field", lists),
         ("FieldList", found.records || found.tuples),
-        ("InBinarySet", found.binaries),
-        ("InNumberSet", found.numbers),
-        ("InStringSet", found.strings),
+        ("InBinarySet", found.listed_binaries),
+        ("InNumberSet", found.listed_numbers),
+        ("InStringSet", found.listed_strings),
         ("Inner", found.tagged_inner),
         ("Named", named),
         ("NamedFields", named),

@@ -1,7 +1,7 @@
 ghost use Rattle.std.specs.Prelude.{◌≤◌, ◌<◌};
 
 use code_layout::{Code, ListKind};
-use declarations::{Field, Form, SetKind};
+use declarations::{Field, Form, SetKind, StoredSet};
 use std::alloc::{AllocError, Global};
 
 /// The list of these fields, as `dynamo_record` groups them: one is alone, and more are a pair,
@@ -124,25 +124,31 @@ pub fn leaf_types(alloc: Global, fields: &[Field]) -> Result<Vec<String>, AllocE
             Form::Defaulted => format!(in alloc; "Field<WithDefault<{of}>>")?,
             Form::Omitted => format!(in alloc; "Field<Omitted<{of}>>")?,
             Form::Set(set) => {
-                let name = set_name(set);
-                format!(in alloc; "Field<In{name}<{of}>>")?
+                let (before, name) = (set_prefix(set), set_name(set));
+                format!(in alloc; "Field<{before}{name}<{of}>>")?
             }
             Form::DefaultedSet(set) => {
-                let name = set_name(set);
-                format!(in alloc; "Field<WithDefault<In{name}<{of}>>>")?
+                let (before, name) = (set_prefix(set), set_name(set));
+                format!(in alloc; "Field<WithDefault<{before}{name}<{of}>>>")?
             }
             Form::OmittedSet(set) => {
-                let name = set_name(set);
-                format!(in alloc; "Field<Omitted<In{name}<{of}>>>")?
+                let (before, name) = (set_prefix(set), set_name(set));
+                format!(in alloc; "Field<Omitted<{before}{name}<{of}>>>")?
             }
         })?;
     }
     Ok(found)
 }
 
-// The name of the type that a list is written by as such a set. That of its field begins with `In`.
-fn set_name(set: SetKind) -> &'static str {
-    match set {
+// What the name of the field's type begins with: that of a list in a set differs from that of a set
+// of Rust.
+fn set_prefix(set: StoredSet) -> &'static str {
+    if set.is_rust_set { "As" } else { "In" }
+}
+
+// The name of the type that a value is written by as such a set.
+fn set_name(set: StoredSet) -> &'static str {
+    match set.kind {
         SetKind::Strings => "StringSet",
         SetKind::Numbers => "NumberSet",
         SetKind::Binaries => "BinarySet",

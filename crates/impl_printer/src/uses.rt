@@ -9,10 +9,12 @@ use std::iter::once;
 const WIDTH: usize = 98;
 
 // The types of the library and of `std` that a field may have and that need an import.
-const KNOWN: [(&str, &str); 3] = [
+const KNOWN: [(&str, &str); 5] = [
     ("serde_dynamo", "ByteBuf"),
     ("std::collections", "BTreeMap"),
+    ("std::collections", "BTreeSet"),
     ("std::collections", "HashMap"),
+    ("std::collections", "HashSet"),
 ];
 
 // The type parameters of the methods that are printed.

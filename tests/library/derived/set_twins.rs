@@ -1,11 +1,11 @@
-// A derived twin of a described type with sets.
+// A derived twin of a described type with sets. The library writes hashed sets in order, so the twin has ordered ones.
 use crate::derived::random::Random;
 use crate::derived::twins::reads_as_twin;
 use described_types as own;
 use dynamo_value::{ByteBuf, Result};
 use serde::{Deserialize, Serialize};
 use std::alloc::Global;
-use std::collections::BTreeSet;
+use std::collections::{BTreeSet, HashSet};
 use std::test::Fail;
 
 #[derive(Drop, Serialize, Deserialize)]
@@ -18,6 +18,12 @@ struct Roster {
     #[serde(default, skip_serializing_if = "BTreeSet::is_empty", with = "dynamo_serde::binary_set")]
     tokens: BTreeSet<Vec<u8>>,
     hours: BTreeSet<u8>,
+    #[serde(default, skip_serializing_if = "BTreeSet::is_empty", with = "dynamo_serde::string_set")]
+    skills: BTreeSet<String>,
+    #[serde(default, with = "dynamo_serde::number_set")]
+    rooms: BTreeSet<u16>,
+    #[serde(with = "dynamo_serde::binary_set")]
+    seals: BTreeSet<Vec<u8>>,
 }
 
 fn random_roster(alloc: Global, random: &mut Random) -> Result<own::Roster> {
@@ -27,6 +33,9 @@ fn random_roster(alloc: Global, random: &mut Random) -> Result<own::Roster> {
         badges: BTreeSet::new(alloc),
         tokens: BTreeSet::new(alloc),
         hours: BTreeSet::new(alloc),
+        skills: HashSet::new(alloc),
+        rooms: HashSet::new(alloc),
+        seals: HashSet::new(alloc),
     };
     for _ in 0..random.count() {
         roster.names.insert(random.text(alloc)?)?;
@@ -39,6 +48,11 @@ fn random_roster(alloc: Global, random: &mut Random) -> Result<own::Roster> {
     }
     for _ in 0..random.count() {
         roster.hours.insert(random.byte())?;
+    }
+    for _ in 0..random.count() {
+        roster.skills.insert(random.text(alloc)?)?;
+        roster.rooms.insert(u16::from(random.byte()))?;
+        roster.seals.insert(ByteBuf::from(random.bytes(alloc)?))?;
     }
     Ok(roster)
 }

@@ -3,7 +3,7 @@ use super::rows::{reads, rereads};
 use described_types::Roster;
 use serde_dynamo::ByteBuf;
 use std::alloc::Global;
-use std::collections::BTreeSet;
+use std::collections::{BTreeSet, HashSet};
 use std::test::Fail;
 
 fn text(alloc: Global, text: &str) -> serde_dynamo::Result<String> {
@@ -17,6 +17,9 @@ fn empty_roster(alloc: Global) -> serde_dynamo::Result<Roster> {
         badges: BTreeSet::new(alloc),
         tokens: BTreeSet::new(alloc),
         hours: BTreeSet::new(alloc),
+        skills: HashSet::new(alloc),
+        rooms: HashSet::new(alloc),
+        seals: HashSet::new(alloc),
     })
 }
 
@@ -27,8 +30,8 @@ fn an_empty_set_is_written_unless_it_is_left_out(rt: HostRuntime) -> Result<(), 
         &rt,
         alloc,
         empty_roster(alloc)?,
-        r#"{"M":{"badges":{"NS":[]},"hours":{"L":[]},"id":{"S":"r-1"},"names":{"SS":[]}}}"#,
-        r#"Roster { id: "r-1", names: {}, badges: {}, tokens: {}, hours: {} }"#,
+        r#"{"M":{"badges":{"NS":[]},"hours":{"L":[]},"id":{"S":"r-1"},"names":{"SS":[]},"rooms":{"NS":[]},"seals":{"BS":[]}}}"#,
+        r#"Roster { id: "r-1", names: {}, badges: {}, tokens: {}, hours: {}, skills: {}, rooms: {}, seals: {} }"#,
     )
 }
 
@@ -51,8 +54,8 @@ fn sets_are_written_in_their_order(rt: HostRuntime) -> Result<(), Fail> {
         &rt,
         alloc,
         roster,
-        r#"{"M":{"badges":{"NS":["9","10"]},"hours":{"L":[{"N":"9"},{"N":"17"}]},"id":{"S":"r-1"},"names":{"SS":["","a","b"]},"tokens":{"BS":["AQA=","Ag=="]}}}"#,
-        r#"Roster { id: "r-1", names: {"", "a", "b"}, badges: {9, 10}, tokens: {ByteBuf { bytes: [1, 0] }, ByteBuf { bytes: [2] }}, hours: {9, 17} }"#,
+        r#"{"M":{"badges":{"NS":["9","10"]},"hours":{"L":[{"N":"9"},{"N":"17"}]},"id":{"S":"r-1"},"names":{"SS":["","a","b"]},"rooms":{"NS":[]},"seals":{"BS":[]},"tokens":{"BS":["AQA=","Ag=="]}}}"#,
+        r#"Roster { id: "r-1", names: {"", "a", "b"}, badges: {9, 10}, tokens: {ByteBuf { bytes: [1, 0] }, ByteBuf { bytes: [2] }}, hours: {9, 17}, skills: {}, rooms: {}, seals: {} }"#,
     )
 }
 
@@ -60,11 +63,11 @@ fn sets_are_written_in_their_order(rt: HostRuntime) -> Result<(), Fail> {
 fn sets_are_read_in_any_order(rt: HostRuntime) -> Result<(), Fail> {
     let alloc = rt.alloc();
     for json in [
-        r#"{"M":{"badges":{"NS":["10","9"]},"hours":{"L":[{"N":"9"}]},"id":{"S":"r-1"},"names":{"SS":["b","a"]}}}"#,
-        r#"{"M":{"badges":{"NS":["9","10","09"]},"hours":{"L":[{"N":"9"},{"N":"9"}]},"id":{"S":"r-1"},"names":{"L":[{"S":"b"},{"S":"a"},{"S":"b"}]}}}"#,
-        r#"{"M":{"badges":{"L":[{"N":"9"},{"N":"10"}]},"hours":{"NS":["9"]},"id":{"S":"r-1"},"names":{"SS":["a","b"]},"tokens":{"BS":[]}}}"#,
+        r#"{"M":{"badges":{"NS":["10","9"]},"hours":{"L":[{"N":"9"}]},"id":{"S":"r-1"},"names":{"SS":["b","a"]},"seals":{"BS":[]}}}"#,
+        r#"{"M":{"badges":{"NS":["9","10","09"]},"hours":{"L":[{"N":"9"},{"N":"9"}]},"id":{"S":"r-1"},"names":{"L":[{"S":"b"},{"S":"a"},{"S":"b"}]},"rooms":{"NS":[]},"seals":{"L":[]}}}"#,
+        r#"{"M":{"badges":{"L":[{"N":"9"},{"N":"10"}]},"hours":{"NS":["9"]},"id":{"S":"r-1"},"names":{"SS":["a","b"]},"seals":{"BS":[]},"skills":{"SS":[]},"tokens":{"BS":[]}}}"#,
     ] {
-        let read = r#"Roster { id: "r-1", names: {"a", "b"}, badges: {9, 10}, tokens: {}, hours: {9} }"#;
+        let read = r#"Roster { id: "r-1", names: {"a", "b"}, badges: {9, 10}, tokens: {}, hours: {9}, skills: {}, rooms: {}, seals: {} }"#;
         reads::<Roster>(&rt, alloc, json, read)?;
     }
     Ok(())
@@ -84,5 +87,22 @@ fn a_set_of_another_kind_is_refused(rt: HostRuntime) -> Result<(), Fail> {
     ] {
         reads::<Roster>(&rt, alloc, json, error)?;
     }
+    Ok(())
+}
+
+#[test]
+fn hashed_sets_are_written_in_their_order(rt: HostRuntime) -> Result<(), Fail> {
+    let alloc = rt.alloc();
+    let mut roster = empty_roster(alloc)?;
+    for skill in ["d", "b", "", "c", "b", "a"] {
+        roster.skills.insert(text(alloc, skill)?)?;
+    }
+    for room in [300, 9, 10, 9] {
+        roster.rooms.insert(room)?;
+    }
+    let (_, written, back) = serde_dynamo::reread(alloc, &roster)?;
+    let json = r#"{"M":{"badges":{"NS":[]},"hours":{"L":[]},"id":{"S":"r-1"},"names":{"SS":[]},"rooms":{"NS":["9","10","300"]},"seals":{"BS":[]},"skills":{"SS":["","a","b","c","d"]}}}"#;
+    assert_eq!(rt; written.to_string(alloc)?.as_str(), json);
+    assert!(rt; back.skills == roster.skills && back.rooms == roster.rooms);
     Ok(())
 }
