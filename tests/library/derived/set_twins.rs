@@ -1,4 +1,5 @@
-// A derived twin of a described type with sets. The library writes hashed sets in order, so the twin has ordered ones.
+// A derived twin of a described type with sets. The library writes hashed sets in order, so the twin has ordered ones. It has byte
+// strings as lists, since that is what the module `binary_set` of `dynamo_serde` takes.
 use crate::derived::random::Random;
 use crate::derived::twins::reads_as_twin;
 use described_types as own;
@@ -15,15 +16,15 @@ struct Roster {
     names: BTreeSet<String>,
     #[serde(with = "dynamo_serde::number_set")]
     badges: BTreeSet<u32>,
-    #[serde(default, skip_serializing_if = "BTreeSet::is_empty", with = "dynamo_serde::binary_set")]
-    tokens: BTreeSet<Vec<u8>>,
+    #[serde(default, skip_serializing_if = "Vec::is_empty", with = "dynamo_serde::binary_set")]
+    tokens: Vec<Vec<u8>>,
     hours: BTreeSet<u8>,
     #[serde(default, skip_serializing_if = "BTreeSet::is_empty", with = "dynamo_serde::string_set")]
     skills: BTreeSet<String>,
     #[serde(default, with = "dynamo_serde::number_set")]
     rooms: BTreeSet<u16>,
     #[serde(with = "dynamo_serde::binary_set")]
-    seals: BTreeSet<Vec<u8>>,
+    seals: Vec<Vec<u8>>,
 }
 
 fn random_roster(alloc: Global, random: &mut Random) -> Result<own::Roster> {
