@@ -78,7 +78,7 @@ pub enum Reason {
     SameList(String),
     /// An alias that is a name of a field already.
     SameName(String),
-    /// A set in a field that isn't a `Vec<T>`.
+    /// A set in a field whose type is neither `Vec<T>` nor `BTreeSet<T>` or `HashSet<T>`.
     NoSet,
     /// A variant of several fields without names, of an enum with a tag.
     TaggedTuple,

@@ -160,9 +160,11 @@ where
 ///
 /// Returns the first error of a field.
 ///
-/// Returns an error with a message for a missing field, for a list that is too short, and for data
-/// that are neither a map nor a list. So it does for a second entry of one field, as
-/// ``duplicate field `name` ``, and for an unknown field if the rules deny it.
+/// Returns an error with a message for a missing field and for a list that is too short; for a
+/// second entry of one field, as ``duplicate field `name` ``; and for an unknown field if the rules
+/// deny it.
+///
+/// Returns an error for data that are neither a map nor a list.
 ///
 /// Returns the error for out of memory if memory runs out.
 pub fn read_record_by_rules<R: RecordRules, D: Deserializer>(

@@ -34,7 +34,7 @@ pub trait SetValue: Shaped {
         ensures { result ≡ same_default (datum.seq datum.no_elements) (Self.Shaped.about.tells self.now) };
 
     // As a set, a value tells what it tells as a list, under the symbol of the kind. A missing one
-    // is missed.
+    // is refused.
     ghost is_set: { (k : SetKind) → IsSetOf k Self.Shaped.about (about_set k) };
 
     ghost set_reads_by_shape: { (k : SetKind) → ReadsByShape (about_set k).shape (about_set k).tells Self.Deserialize.reads };

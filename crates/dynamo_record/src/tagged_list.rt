@@ -71,8 +71,8 @@ impl<N: NamedFields> TaggedList for Named<N> {
     }
 }
 
-/// The content of a newtype variant of an internally tagged enum: a struct, whose fields stand
-/// behind the tag.
+/// The content of a newtype variant of an internally tagged enum: a struct, whose fields follow the
+/// tag.
 #[derive(Drop)]
 pub struct Inner<R: Record>(pub R);
 

@@ -12,7 +12,7 @@ module _ {T : Type 0} (cmp : T → T → Ordering) where
   by_now a b = cmp a.now b.now
 
   placed : (o : Ordering) (k x : Bor T) (xs : List (Bor T)) → now (insert_key by_now xs k) ≡ insert_key cmp (now xs) k.now
-    → now (match_ordering o (k ∷ x ∷ xs) (x ∷ xs) (x ∷ insert_key by_now xs k)) ≡ match_ordering o (k.now ∷ x.now ∷ now xs) (x.now ∷ now xs) (x.now ∷ insert_key cmp (now xs) k.now)
+      → now (match_ordering o (k ∷ x ∷ xs) (x ∷ xs) (x ∷ insert_key by_now xs k)) ≡ match_ordering o (k.now ∷ x.now ∷ now xs) (x.now ∷ now xs) (x.now ∷ insert_key cmp (now xs) k.now)
   placed Less k x xs h = refl
   placed Equal k x xs h = refl
   placed Greater k x xs h = ap (λ ms. x.now ∷ ms) h

@@ -26,13 +26,13 @@ abbrev pub AreAscending : Elements → Type 0
 AreAscending no_elements = ⊤
 AreAscending (element d ds) = IsBelowEach d ds × AreAscending ds
 
--- a list, or a newtype struct over one, whose elements ascend
+-- of a list, or a newtype struct over one, that its elements ascend; nothing of any other datum
 abbrev pub IsAscending : Datum → Type 0
 IsAscending (seq ds) = AreAscending ds
 IsAscending (newtype_struct name d) = IsAscending d
 IsAscending _ = ⊤
 
--- the elements with this one in its place, unless they have it
+-- the elements with this one in its place, unless it comes to one that is neither below it nor above it
 abbrev pub put_element : Datum → Elements → Elements
 put_element d no_elements = element d no_elements
 put_element d (element e es) = if is_below d e then element d (element e es) else (if is_below e d then element e (put_element d es) else element e es)
@@ -42,7 +42,7 @@ abbrev pub sorted_elements : Elements → Elements
 sorted_elements no_elements = no_elements
 sorted_elements (element d ds) = put_element d (sorted_elements ds)
 
--- a list, or a newtype struct over one, with its elements so
+-- a list, or a newtype struct over one, with its elements sorted; any other datum as it is
 abbrev pub sorted : Datum → Datum
 sorted (seq ds) = seq (sorted_elements ds)
 sorted (newtype_struct name d) = newtype_struct name (sorted d)

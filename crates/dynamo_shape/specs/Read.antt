@@ -93,7 +93,7 @@ fields_of fs listed reads (in_order ss) = listed ss
 abbrev pub is_refused : Bool → FieldShapes → List (Text × Datum) → Text → Bool
 is_refused denies fs before own = if is_field fs own then list_any (λ x. bytes_eq own x.0) before else denies
 
--- an entry is read as one of the own name of its field
+-- an entry is refused by the rules, or read as the field of its own name
 abbrev pub entry_by_rules : NameRules → FieldShapes → (Text → Av → Answer Datum) → List (Text × Datum) → Entry → Answer (Text × Datum)
 entry_by_rules rules fs reads before e =
     let own = own_name rules.aliases e.0 in
@@ -104,6 +104,7 @@ abbrev pub read_by_rules : NameRules → FieldShapes → (Text → Av → Answer
 read_by_rules rules fs reads before [] = value before
 read_by_rules rules fs reads before (e ∷ es) = entry_by_rules rules fs reads before e >>= λ x. read_by_rules rules fs reads (before ++ x ∷ []) es
 
+-- the entries of a map are read by the rules, and the elements of a list in order, without them
 abbrev pub fields_by_rules : NameRules → FieldShapes → (List Source → Answer Fields) → (Text → Av → Answer Datum) → Parts → Answer Fields
 fields_by_rules rules fs listed reads (by_name es) = read_by_rules rules fs reads [] es >>= fields_among fs []
 fields_by_rules rules fs listed reads (in_order ss) = listed ss

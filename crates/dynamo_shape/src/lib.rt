@@ -4,8 +4,9 @@
 //! A shape is **clear** if all data read back as they were written. At every depth
 //!
 //! - no option holds what may be null itself, as in `Option<Option<u8>>`;
-//! - the names of fields differ, and so do those of variants;
-//! - no other name of a field is the own name of one;
+//! - the names of fields differ, and so do those of variants, and no field has the name of a tag;
+//! - no field has another name that is the own name of a field;
+//! - a field is left out only for a default that nothing else reads back as;
 //! - the keys of maps are booleans, integers, characters, strings, enums of unit variants, or
 //!   newtype structs of these;
 //! - the elements of a set are written as the set's kind, and are neither newtype structs nor

@@ -11,7 +11,7 @@ use dynamo_de::Error;
 use std::alloc::Global;
 use std::collections::{BTreeSet, HashSet};
 
-/// As a list in ascending order.
+/// The shape is a list whose elements ascend.
 impl<T: ShapedKey> Shaped for BTreeSet<T> {
     ghost about = { about_members T.about_key (eq_by_cmp T.about_key.cmp) T.about_key.ordered_as_told (λ s. s.keys) (sorted.contains T.about_key.cmp) (λ s q. refl) };
 
@@ -30,7 +30,7 @@ impl<T: ShapedKey> Shaped for BTreeSet<T> {
     }
 }
 
-/// As a list in ascending order.
+/// The shape is a list whose elements ascend.
 impl<T: ShapedKey> Shaped for HashSet<T> {
     ghost about = { about_members T.about_key T.about_key.eq T.about_key.equal_as_told (λ s. members_in_order T.about_key.cmp s.keys) (hashed.contains T.about_key.eq) (λ s q. members_any T.about_key.about.tells T.about_key.cmp T.about_key.eq T.about_key.equal_as_told T.about_key.ordered_as_told q s.keys) };
 

@@ -60,7 +60,7 @@
 //! | [`ByteBuf`], [`Bytes`] | `B` |
 //! | `()`, `None` | `Null(true)` |
 //! | `Some(content)`, `Box`, `&T` | the content |
-//! | `Vec`, tuples of two to four | `L` |
+//! | `Vec`, `BTreeSet`, `HashSet`, tuples of two to four | `L` |
 //! | [`StringSet`], [`NumberSet`], [`BinarySet`] | `Ss`, `Ns`, `Bs` |
 //! | `HashMap`, `BTreeMap`, structs | `M` |
 //! | `serde_json::Value` without floats | its own kind |
@@ -74,9 +74,9 @@
 //! | describe | what `dynamo_derive` prints for your declaration | what was stored reads back |
 //! | by hand | `impl Serialize`, `impl Deserialize` | each does what you state of it |
 //!
-//! **Derive** for serde's attributes and for floats. Such a type is for the calls of
-//! `dynamo_serde`, which have the names of the calls here. That its values read back is only
-//! tested.
+//! **Derive** for floats and for attributes that no description has, such as `flatten`. Such a type
+//! is for the calls of `dynamo_serde`, which have the names of the calls here. That its values read
+//! back is only tested.
 //!
 //! ```rust
 //! use serde::{Deserialize, Serialize};
@@ -155,10 +155,11 @@
 //!
 //! # Sets
 //!
-//! A `Vec` is written as a list. The wrappers [`StringSet`], [`NumberSet`] and [`BinarySet`] write
-//! it as a set, and it reads from a set as from a list. A described field has the type
-//! `InStringSet<T>`, `InNumberSet<T>` or `InBinarySet<T>` of `dynamo_record`, and a derived one
-//! says `#[serde(with = "dynamo_serde::string_set")]`, or `number_set` or `binary_set`.
+//! A `Vec`, a `BTreeSet` and a `HashSet` are written as lists, the sets in ascending order. The
+//! wrappers [`StringSet`], [`NumberSet`] and [`BinarySet`] write them as sets, and they read from a
+//! set as from a list. A described field has the type `InStringSet<T>` of `dynamo_record` for a
+//! `Vec<T>`, or `AsStringSet<BTreeSet<T>>` for a set, and so for numbers and byte strings. A derived
+//! field says `#[serde(with = "dynamo_serde::string_set")]`, or `number_set` or `binary_set`.
 //!
 //! ```rust
 //! use serde_dynamo::{AttributeValue, NumberSet, to_attribute_value};
@@ -185,9 +186,9 @@
 //! # Enums
 //!
 //! A unit variant is the string of its name. Any other variant is a map of one entry, from its name
-//! to its content. A described enum can also be the map of its variant's fields with the variant's
-//! name under a tag, by `#[serde(tag = "..")]`, and a derived one have serde's other forms, by
-//! `content` and `untagged`.
+//! to its content. With `#[serde(tag = "..")]` a described or derived enum is the map of its
+//! variant's fields, with the variant's name under the tag. Derived enums have serde's other forms,
+//! too, by `content` and `untagged`.
 //!
 //! ```rust
 //! use serde_dynamo::samples::Event;

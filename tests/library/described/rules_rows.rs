@@ -74,6 +74,8 @@ fn an_unknown_field_is_refused(rt: HostRuntime) -> Result<(), Fail> {
         (r#"{"M":{"id":{"S":"a"},"phone":{"S":"7"},"zip":{"S":"1"}}}"#, unknown),
         (r#"{"M":{"id":{"S":"a"},"zip":{"BS":[""]}}}"#, unknown),
         (r#"{"M":{"id":{"S":"a"}}}"#, "missing field `phone`"),
+        (r#"{"M":{"id":{"S":"a"},"phone":{"NULL":true}}}"#, "Expected string"),
+        (r#"{"M":{"groups":{"NULL":true},"id":{"S":"a"},"phone":{"S":"7"}}}"#, "Expected seq"),
         (r#"{"M":{"id":{"N":"1"},"zip":{"S":"1"}}}"#, "Expected string"),
         (r#"{"L":[{"S":"a"},{"S":"7"}]}"#, "invalid length: too few elements, expected struct Contact"),
         (r#"{"S":"a"}"#, "Expected map"),

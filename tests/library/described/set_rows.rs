@@ -74,7 +74,15 @@ fn sets_are_read_in_any_order(rt: HostRuntime) -> Result<(), Fail> {
 }
 
 #[test]
-fn a_set_of_another_kind_is_refused(rt: HostRuntime) -> Result<(), Fail> {
+fn hashed_sets_are_read_in_any_order(rt: HostRuntime) -> Result<(), Fail> {
+    let alloc = rt.alloc();
+    let json = r#"{"M":{"badges":{"NS":[]},"hours":{"L":[]},"id":{"S":"r-1"},"names":{"SS":[]},"rooms":{"NS":["9","09"]},"seals":{"L":[{"B":"AQ=="},{"B":"AQ=="}]},"skills":{"L":[{"S":"b"},{"S":"b"}]}}}"#;
+    let read = r#"Roster { id: "r-1", names: {}, badges: {}, tokens: {}, hours: {}, skills: {"b"}, rooms: {9}, seals: {ByteBuf { bytes: [1] }} }"#;
+    reads::<Roster>(&rt, alloc, json, read)
+}
+
+#[test]
+fn a_missing_set_and_one_of_another_kind_are_refused(rt: HostRuntime) -> Result<(), Fail> {
     let alloc = rt.alloc();
     for (json, error) in [
         (r#"{"M":{"badges":{"NS":[]},"hours":{"L":[]},"id":{"S":"r-1"}}}"#, "missing field `names`"),
@@ -83,6 +91,8 @@ fn a_set_of_another_kind_is_refused(rt: HostRuntime) -> Result<(), Fail> {
         (r#"{"M":{"tokens":{"NULL":true}}}"#, "Expected seq"),
         (r#"{"M":{"names":{"S":"a"}}}"#, "Expected seq"),
         (r#"{"M":{"names":{"NS":["1"]}}}"#, "Expected string"),
+        (r#"{"M":{"skills":{"NULL":true}}}"#, "Expected seq"),
+        (r#"{"M":{"rooms":{"SS":["1"]}}}"#, "Expected num"),
         (r#"{"M":{"hours":{"L":[{"S":"9"}]}}}"#, "Expected num"),
     ] {
         reads::<Roster>(&rt, alloc, json, error)?;

@@ -80,6 +80,13 @@ fn an_entity_is_refused(rt: HostRuntime) -> Result<(), Fail> {
             r#"{"M":{"type":{"S":"customer"}}}"#,
             "unknown variant `customer`, expected one of `Customer`, `Order`, `Counter`",
         ),
+        // The tag's fault comes before those of the fields.
+        (
+            r#"{"M":{"id":{"N":"1"},"type":{"S":"Line"}}}"#,
+            "unknown variant `Line`, expected one of `Customer`, `Order`, `Counter`",
+        ),
+        (r#"{"M":{"id":{"N":"1"}}}"#, "missing field `type`"),
+        (r#"{"M":{"customer":{"S":"c"},"id":{"NULL":true},"type":{"S":"Order"}}}"#, "Expected string"),
         (r#"{"M":{"type":{"N":"1"}}}"#, "Expected string"),
         (r#"{"M":{"type":{"B":"Q291bnRlcg=="}}}"#, "Expected string"),
         (r#"{"M":{"type":{"NULL":true}}}"#, "Expected string"),
