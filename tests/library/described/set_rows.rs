@@ -90,9 +90,9 @@ fn a_missing_set_and_one_of_another_kind_are_refused(rt: HostRuntime) -> Result<
         (r#"{"M":{"names":{"NULL":true}}}"#, "Expected seq"),
         (r#"{"M":{"tokens":{"NULL":true}}}"#, "Expected seq"),
         (r#"{"M":{"names":{"S":"a"}}}"#, "Expected seq"),
-        (r#"{"M":{"names":{"NS":["1"]}}}"#, "Expected string"),
+        (r#"{"M":{"names":{"NS":["1"]}}}"#, "invalid type: integer, expected a string"),
         (r#"{"M":{"skills":{"NULL":true}}}"#, "Expected seq"),
-        (r#"{"M":{"rooms":{"SS":["1"]}}}"#, "Expected num"),
+        (r#"{"M":{"rooms":{"SS":["1"]}}}"#, "invalid type: string, expected u16"),
         (r#"{"M":{"hours":{"L":[{"S":"9"}]}}}"#, "Expected num"),
     ] {
         reads::<Roster>(&rt, alloc, json, error)?;
