@@ -92,7 +92,7 @@ fn a_missing_set_and_one_of_another_kind_are_refused(rt: HostRuntime) -> Result<
         (r#"{"M":{"names":{"S":"a"}}}"#, "Expected seq"),
         (r#"{"M":{"names":{"NS":["1"]}}}"#, "invalid type: integer, expected a string"),
         (r#"{"M":{"skills":{"NULL":true}}}"#, "Expected seq"),
-        (r#"{"M":{"rooms":{"SS":["1"]}}}"#, "invalid type: string, expected u16"),
+        (r#"{"M":{"rooms":{"SS":["1"]}}}"#, "invalid type: string, expected an integer"),
         (r#"{"M":{"hours":{"L":[{"S":"9"}]}}}"#, "Expected num"),
     ] {
         reads::<Roster>(&rt, alloc, json, error)?;
