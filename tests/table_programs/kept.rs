@@ -2,7 +2,7 @@
 use crate::member::Member;
 use crate::members::member;
 use sqlite::{Alter, Connection, MemStore};
-use table_query::Query;
+use table_keys::Query;
 use table_store::create_in_memory_file;
 use typed_store::TypedStore;
 use typed_table::Keyed;

@@ -2,8 +2,7 @@
 use crate::words::{COUNT, KINDS, SPELLINGS, Word};
 use dynamo_value::{AttributeValue, Item};
 use std::alloc::{AllocError, Global};
-use table_key::{KeyAttribute, KeyKind, KeySchema, KeyValue};
-use table_query::{Condition, SortCondition};
+use table_keys::{Condition, KeyAttribute, KeyKind, KeySchema, KeyValue, SortCondition};
 
 /// The kinds of a table's keys.
 #[derive(Clone, Copy, Debug)]

@@ -2,8 +2,7 @@
 use crate::calls::{Asked, Call, Row, Shape, Sign};
 use crate::words::Word;
 use std::alloc::Global;
-use table_key::TableError;
-use table_query::Condition;
+use table_keys::{Condition, TableError};
 
 /// The rows of a table.
 #[derive(Drop)]

@@ -30,7 +30,7 @@ use sqlite::{Alter, FileStore, MemStore};
 use sqlite_disk::Memory;
 use std::alloc::Global;
 use std::io;
-use table_key::KeyKind;
+use table_keys::KeyKind;
 use table_store::{StoreError, create_in_memory, create_in_memory_file};
 use three::{Outcome, Three};
 

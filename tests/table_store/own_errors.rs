@@ -2,7 +2,7 @@
 use dynamo_value::{AttributeValue, Item};
 use std::alloc::{AllocError, Global};
 use std::io;
-use table_key::KeySchema;
+use table_keys::KeySchema;
 use table_store::{StoreError, create_in_memory_file};
 
 // Why an item isn't marked: the database refuses it, or it has the mark.

@@ -4,7 +4,7 @@ use crate::words::KINDS;
 use dynamo_value::AttributeValue;
 use std::alloc::{AllocError, Global};
 use std::cmp::Ordering;
-use table_key::{KeyKind, KeyValue, Number, TableError};
+use table_keys::{KeyKind, KeyValue, Number, TableError};
 
 /// A value, as the text of a string or of a number, or as bytes.
 #[derive(Clone, Copy, Debug)]

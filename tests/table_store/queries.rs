@@ -9,8 +9,7 @@ use sqlite::{Connection, FileStore};
 use sqlite_disk::Memory;
 use std::alloc::{AllocError, Global};
 use std::io;
-use table_key::{Key, KeyKind};
-use table_query::Query;
+use table_keys::{Key, KeyKind, Query};
 use table_store::{StoreError, TableStore, create_in_memory_file};
 
 // How many queries are asked of each pair of tables.

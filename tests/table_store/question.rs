@@ -4,7 +4,7 @@ use crate::pools::{COUNT, Value, pooled};
 use crate::words::KINDS;
 use std::alloc::{AllocError, Global};
 use std::cmp::Ordering;
-use table_key::{Key, KeyKind, TableError};
+use table_keys::{Key, KeyKind, TableError};
 
 /// The values of a key.
 #[derive(Clone, Copy, Debug)]

@@ -17,7 +17,7 @@ use std::alloc::Global;
 use std::cell::Cell;
 use std::io;
 use std::rc::Rc;
-use table_key::KeyKind;
+use table_keys::KeyKind;
 use table_store::{StoreError, TableStore};
 
 const NONE: Reads = Reads {

@@ -4,8 +4,7 @@ use dynamo_value::Item;
 use memory_table::Table;
 use sqlite::Alter;
 use std::alloc::{AllocError, Global};
-use table_key::{Key, TableError};
-use table_query::{Condition, Query};
+use table_keys::{Condition, Key, Query, TableError};
 use table_store::{StoreError, TableStore};
 
 /// A table on which the calls are made.

@@ -6,7 +6,7 @@ use dynamo_value::Item;
 use memory_table::Table;
 use sqlite::Alter;
 use std::alloc::{AllocError, Global};
-use table_key::TableError;
+use table_keys::TableError;
 use table_store::{StoreError, TableStore};
 
 /// A plain list, a table in memory and one in a database.

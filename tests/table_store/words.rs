@@ -1,7 +1,7 @@
 //! The words of keys: twelve of each kind, in the order in which a table has them. A word behind the twelfth is no key's.
 use dynamo_value::AttributeValue;
 use std::alloc::{AllocError, Global};
-use table_key::{KeyKind, KeyValue, Number, TableError};
+use table_keys::{KeyKind, KeyValue, Number, TableError};
 
 /// How many words of each kind there are.
 pub const COUNT: usize = 12;

@@ -6,8 +6,7 @@ use sqlite::{Connection, MemStore};
 use std::alloc::Global;
 use std::process::Abort;
 use std::test::Fail;
-use table_key::TableError;
-use table_query::{Condition, Query};
+use table_keys::{Condition, Query, TableError};
 use table_store::StoreError;
 use typed_store::{TypedStore, TypedStoreError};
 

@@ -9,7 +9,7 @@ use sqlite::{Connection, MemStore};
 use std::alloc::{AllocError, Global};
 use std::process::Abort;
 use std::test::Fail;
-use table_query::Query;
+use table_keys::Query;
 use typed_store::{TypedStore, TypedStoreError};
 use typed_table::{AsItem, Keyed, place_of_error};
 

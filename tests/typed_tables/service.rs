@@ -12,8 +12,7 @@ use sqlite::{Connection, MemStore};
 use std::alloc::{AllocError, Global};
 use std::process::Abort;
 use std::test::Fail;
-use table_key::{Key, KeyAttribute, KeyKind, KeySchema, KeyValue};
-use table_query::{Condition, Query, SortCondition};
+use table_keys::{Condition, Key, KeyAttribute, KeyKind, KeySchema, KeyValue, Query, SortCondition};
 use typed_store::TypedStore;
 use typed_table::TypedTable;
 
@@ -25,7 +24,7 @@ mod room {
     use serde_dynamo::ser::{Serialize, Serializer};
     use serde_dynamo::{Shaped, StringSet};
     use std::alloc::{AllocError, Global};
-    use table_key::KeySchema;
+    use table_keys::KeySchema;
     use typed_table::Keyed;
 
     /// A room of a hotel.
@@ -131,7 +130,7 @@ mod booking {
     use dynamo_value::{Item, Result};
     use serde::{Deserialize, Serialize};
     use std::alloc::{AllocError, Global};
-    use table_key::KeySchema;
+    use table_keys::KeySchema;
     use typed_table::{AsItem, Keyed};
 
     /// A booking of a room of a hotel.

@@ -9,7 +9,7 @@ use std::fmt::Display;
 use std::hash::BuildHasher;
 use std::process::Abort;
 use std::test::Fail;
-use table_key::{KeyAttribute, KeyKind, KeySchema};
+use table_keys::{KeyAttribute, KeyKind, KeySchema};
 use table_store::create_in_memory_file;
 
 // DynamoDB JSON of an attribute value, and how what each way in gives begins: its text and its JSON value,

@@ -12,8 +12,7 @@ use dynamo_value::Item;
 use sqlite::Alter;
 use std::fs;
 use std::io::{BufReader, Read};
-use table_key::{Key, KeyValue, TableError};
-use table_query::{Query, SortCondition};
+use table_keys::{Key, KeyValue, Query, SortCondition, TableError};
 use table_store::TableStore;
 
 /// How many items a page has, and how many of a load a transaction.

@@ -1,12 +1,12 @@
 //! Key attributes by their names: what their words say, and what is wrong with a key.
 
 ghost use Rattle.std.specs.Prelude.{Ok, IfOk, option_map};
-ghost use Rattle.table_key.specs.KeyOf.{Says, SaysKey};
+ghost use Rattle.table_keys.specs.KeyOf.{Says, SaysKey};
 
 use crate::refusal::{Answer, Refusal};
 use dynamo_value::{AttributeValue, Item};
 use std::alloc::{AllocError, Global};
-use table_key::{Key, KeyAttribute, KeySchema, KeyValue, TableError};
+use table_keys::{Key, KeyAttribute, KeySchema, KeyValue, TableError};
 use table_store::StoreError;
 
 /// The key that words say.

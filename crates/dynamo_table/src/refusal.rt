@@ -3,7 +3,7 @@ use fixtures::Fault;
 use sqlite::Error;
 use std::alloc::{AllocError, AllocFailed};
 use std::{fmt, io};
-use table_key::TableError;
+use table_keys::TableError;
 use table_store::StoreError;
 
 /// How a command ended that was not refused.

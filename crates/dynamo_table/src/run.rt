@@ -8,7 +8,7 @@ use crate::session;
 use crate::tables::{create, drop_table, find, list};
 use crate::teller::Teller;
 use sqlite::{Alter, Connection, File, FileStore};
-use table_key::KeySchema;
+use table_keys::KeySchema;
 use table_store::TableStore;
 
 /// Does what the words after the program's name ask for.

@@ -4,7 +4,7 @@ use crate::refusal::{Answer, Outcome, Refusal};
 use sqlite::{Alter, Connection, params};
 use std::alloc::Global;
 use std::fmt::Write;
-use table_key::KeySchema;
+use table_keys::KeySchema;
 use table_rows::{Definition, StoreError, count, make_tables, run};
 use table_store::TableStore;
 

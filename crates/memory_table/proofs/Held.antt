@@ -9,13 +9,13 @@ use Rattle.std.specs.List.{All, filter}
 use Rattle.std.specs.Map.{keys_of}
 use Rattle.std.specs.declared.ops.Bound.{Bound}
 use Rattle.dynamo_value.specs.declared.item.Item.{Item}
-use Rattle.table_key.specs.Held.{IsHeldKey}
-use Rattle.table_key.specs.KeyOrder.{key_cmp}
-use Rattle.table_key.specs.declared.key.Key.{Key}
-use Rattle.table_query.specs.Queries.{answer, finds, in_direction}
-use Rattle.table_query.specs.Ranges.{FindsBetween, FindsNone, lies_between}
-use Rattle.table_query.specs.declared.key_range.KeyRange.{KeyRange}
-use Rattle.table_query.specs.declared.query.Query.{Query}
+use Rattle.table_keys.specs.Held.{IsHeldKey}
+use Rattle.table_keys.specs.KeyOrder.{key_cmp}
+use Rattle.table_keys.specs.declared.key.Key.{Key}
+use Rattle.table_keys.specs.Queries.{answer, finds, in_direction}
+use Rattle.table_keys.specs.Ranges.{FindsBetween, FindsNone, lies_between}
+use Rattle.table_keys.specs.declared.key_range.KeyRange.{KeyRange}
+use Rattle.table_keys.specs.declared.query.Query.{Query}
 use Rattle.memory_table.proofs.Pages.{Entries}
 
 -- two tests that agree on held keys let the same entries of a table through

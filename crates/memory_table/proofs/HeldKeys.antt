@@ -7,9 +7,9 @@ use Rattle.std.specs.BTreeMap.{BTreeMap, IsUnchanged, insert_entry, keys}
 use Rattle.std.specs.List.{All}
 use Rattle.std.specs.Map.{keys_of, remove_entry}
 use Rattle.dynamo_value.specs.declared.item.Item.{Item}
-use Rattle.table_key.specs.Held.{IsHeldKey}
-use Rattle.table_key.specs.KeyOrder.{key_cmp}
-use Rattle.table_key.specs.declared.key.Key.{Key}
+use Rattle.table_keys.specs.Held.{IsHeldKey}
+use Rattle.table_keys.specs.KeyOrder.{key_cmp}
+use Rattle.table_keys.specs.declared.key.Key.{Key}
 
 abbrev pub AreHeld : BTreeMap Key Item → Type 0
 AreHeld items = ∥ All IsHeldKey (keys items) ∥₁

@@ -7,9 +7,9 @@ use Rattle.std.specs.Map.{KeepsOthers}
 use Rattle.std.specs.Ordering.{is_ne}
 use Rattle.std.specs.Prelude.{is_some}
 use Rattle.dynamo_value.specs.declared.item.Item.{Item}
-use Rattle.table_key.specs.KeyLaws.{key_total}
-use Rattle.table_key.specs.KeyOrder.{key_cmp}
-use Rattle.table_key.specs.declared.key.Key.{Key}
+use Rattle.table_keys.specs.KeyLaws.{key_total}
+use Rattle.table_keys.specs.KeyOrder.{key_cmp}
+use Rattle.table_keys.specs.declared.key.Key.{Key}
 
 -- equal keys compare alike
 alike : (key other : Key) → key_cmp key other ≡ Equal → key_cmp key ≡ key_cmp other

@@ -8,10 +8,10 @@ use Rattle.std.specs.List.Sorted.{IsStrictlySortedBy}
 use Rattle.std.specs.Map.{keys_of}
 use mathlib.Core.List.{reverse_aux}
 use Rattle.dynamo_value.specs.declared.item.Item.{Item}
-use Rattle.table_key.specs.KeyOrder.{key_cmp}
-use Rattle.table_key.specs.declared.key.Key.{Key}
-use Rattle.table_query.specs.Queries.{answer, finds, in_direction, seen}
-use Rattle.table_query.specs.declared.query.Query.{Query}
+use Rattle.table_keys.specs.KeyOrder.{key_cmp}
+use Rattle.table_keys.specs.declared.key.Key.{Key}
+use Rattle.table_keys.specs.Queries.{answer, finds, in_direction, seen}
+use Rattle.table_keys.specs.declared.query.Query.{Query}
 
 abbrev pub Lent : Type 0
 Lent = List (Bor Key × Bor Item)

@@ -4,10 +4,10 @@ use Rattle.std.specs.BTreeMap.{BTreeMap, Updates, get}
 use Rattle.std.specs.Bool.{MatchBool}
 use Rattle.std.specs.Prelude.{Option, is_some}
 use Rattle.dynamo_value.specs.declared.item.Item.{Item}
-use Rattle.table_key.specs.KeyOrder.{key_cmp}
-use Rattle.table_key.specs.declared.key.Key.{Key}
-use Rattle.table_query.specs.Conditions.{holds}
-use Rattle.table_query.specs.declared.condition.Condition.{Condition}
+use Rattle.table_keys.specs.KeyOrder.{key_cmp}
+use Rattle.table_keys.specs.declared.key.Key.{Key}
+use Rattle.table_keys.specs.Conditions.{holds}
+use Rattle.table_keys.specs.declared.condition.Condition.{Condition}
 use Rattle.memory_table.specs.Change.{PutsUnder}
 use Rattle.memory_table.specs.Content.{items_of}
 use Rattle.memory_table.specs.Places.{IsPut}

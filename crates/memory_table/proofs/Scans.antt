@@ -9,10 +9,10 @@ use Rattle.std.specs.List.Sorted.{IsStrictlySortedBy}
 use Rattle.std.specs.Map.{keys_of}
 use Rattle.std.specs.Ordering.{is_lt}
 use Rattle.dynamo_value.specs.declared.item.Item.{Item}
-use Rattle.table_key.specs.KeyLaws.{key_total}
-use Rattle.table_key.specs.KeyOrder.{key_cmp}
-use Rattle.table_key.specs.declared.key.Key.{Key}
-use Rattle.table_query.specs.Queries.{rest, seen}
+use Rattle.table_keys.specs.KeyLaws.{key_total}
+use Rattle.table_keys.specs.KeyOrder.{key_cmp}
+use Rattle.table_keys.specs.declared.key.Key.{Key}
+use Rattle.table_keys.specs.Queries.{rest, seen}
 use Rattle.memory_table.proofs.Pages.{Entries, InOrder, Lent, entry}
 
 -- the entries above a key

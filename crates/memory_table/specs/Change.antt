@@ -5,13 +5,13 @@ use Rattle.std.specs.Bool.{MatchBool}
 use Rattle.std.specs.Ordering.{is_ne}
 use Rattle.dynamo_value.specs.declared.item.Item.{Item}
 use Rattle.memory_table.specs.Content.{items_of, entries_of, schema_of}
-use Rattle.table_key.specs.KeyOf.{ReadsKey}
-use Rattle.table_key.specs.KeyOrder.{key_cmp}
-use Rattle.table_key.specs.declared.error.TableError.{TableError}
-use Rattle.table_key.specs.declared.key.Key.{Key}
-use Rattle.table_key.specs.declared.schema.KeySchema.{KeySchema}
-use Rattle.table_query.specs.Conditions.{holds}
-use Rattle.table_query.specs.declared.condition.Condition.{Condition}
+use Rattle.table_keys.specs.KeyOf.{ReadsKey}
+use Rattle.table_keys.specs.KeyOrder.{key_cmp}
+use Rattle.table_keys.specs.declared.error.TableError.{TableError}
+use Rattle.table_keys.specs.declared.key.Key.{Key}
+use Rattle.table_keys.specs.declared.schema.KeySchema.{KeySchema}
+use Rattle.table_keys.specs.Conditions.{holds}
+use Rattle.table_keys.specs.declared.condition.Condition.{Condition}
 use Rattle.memory_table.specs.declared.table.Table.{Table}
 
 -- the call is refused by this error, and the table has the items that it had

@@ -2,8 +2,8 @@
 use Rattle.std.specs.Prelude.{◌≡◌, Some}
 use Rattle.std.specs.BTreeMap.{BTreeMap, get, keys, IsOrdered, Updates}
 use Rattle.dynamo_value.specs.declared.item.Item.{Item}
-use Rattle.table_key.specs.KeyOrder.{key_cmp}
-use Rattle.table_key.specs.declared.key.Key.{Key}
+use Rattle.table_keys.specs.KeyOrder.{key_cmp}
+use Rattle.table_keys.specs.declared.key.Key.{Key}
 
 -- the item took the place of another under the key
 pub record TakesPlace (key : Key) (item before : Item) (old new : BTreeMap Key Item) : Type 0 where

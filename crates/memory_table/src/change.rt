@@ -3,17 +3,16 @@ ghost use Rattle.std.specs.BTreeMap.{get, IsOrdered, Updates};
 ghost use Rattle.std.specs.Fn.{FnOnceReturnsAt};
 ghost use Rattle.memory_table.specs.Change.{DeletesIf, PutsIf, PutsItem, PutsItemIf, PutsUnder, UpdatesItem};
 ghost use Rattle.memory_table.specs.Content.{items_of, entries_of, schema_of};
-ghost use Rattle.table_key.specs.Held.{IsHeldKey};
-ghost use Rattle.table_key.specs.KeyOf.{ReadsKey};
-ghost use Rattle.table_key.specs.KeyOrder.{key_cmp};
-ghost use Rattle.table_query.specs.declared.condition.Condition.TheVariants.{Always};
+ghost use Rattle.table_keys.specs.Held.{IsHeldKey};
+ghost use Rattle.table_keys.specs.KeyOf.{ReadsKey};
+ghost use Rattle.table_keys.specs.KeyOrder.{key_cmp};
+ghost use Rattle.table_keys.specs.declared.condition.Condition.TheVariants.{Always};
 
 use crate::{Table, places};
 use dynamo_value::Item;
 use std::alloc::Global;
 use std::collections::BTreeMap;
-use table_key::{Key, KeySchema, TableError};
-use table_query::Condition;
+use table_keys::{Condition, Key, KeySchema, TableError};
 
 impl Table {
     /// Returns an empty table, which takes no memory.

@@ -7,5 +7,7 @@ mod query;
 mod table;
 
 pub use table::Table;
-pub use table_key::{Key, KeyAttribute, KeyKind, KeySchema, KeyValue, Number, TableError};
-pub use table_query::{Condition, Query, SortCondition};
+pub use table_keys::{
+    Condition, Key, KeyAttribute, KeyKind, KeySchema, KeyValue, Number, Query, SortCondition,
+    TableError,
+};

@@ -5,14 +5,14 @@ ghost use Rattle.std.specs.Prelude.{◌≡◌, ◌↔◌, IfOk, IsTrue, MatchOpt
 ghost use Rattle.std.specs.Fn.{FnOnceReturnsAt};
 ghost use Rattle.memory_table.specs.Change.{ChangesItem};
 ghost use Rattle.memory_table.specs.Places.{IsPut, Stays, TakesPlace};
-ghost use Rattle.table_key.specs.KeyOrder.{key_cmp};
+ghost use Rattle.table_keys.specs.KeyOrder.{key_cmp};
 
 use dynamo_value::Item;
 use std::alloc::AllocError;
 use std::collections::BTreeMap;
 use std::collections::btree_map::Entry;
 use std::mem;
-use table_key::{Key, KeySchema, TableError};
+use table_keys::{Key, KeySchema, TableError};
 
 // Puts an item in the place of the one under the key, and returns that one. A key without an item
 // gets none.

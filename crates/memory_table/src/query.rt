@@ -2,16 +2,15 @@ ghost use Rattle.std.specs.Prelude.{◌≡◌, [], ◌∷◌, IfOk, MatchOption,
 ghost use Rattle.std.specs.BTreeMap.Range.{IsLeBy, IsLtBy, entries_between};
 ghost use Rattle.std.specs.Range.Bound.{IsForward, bound_map};
 ghost use Rattle.memory_table.specs.Content.{entries_of};
-ghost use Rattle.table_key.specs.KeyOrder.{key_cmp};
-ghost use Rattle.table_query.specs.Queries.{answer, in_direction, rest, seen};
+ghost use Rattle.table_keys.specs.KeyOrder.{key_cmp};
+ghost use Rattle.table_keys.specs.Queries.{answer, in_direction, rest, seen};
 
 use crate::Table;
 use dynamo_value::Item;
 use std::alloc::{AllocError, Global};
 use std::collections::btree_map::Range;
 use std::ops::Bound;
-use table_key::Key;
-use table_query::Query;
+use table_keys::{Key, Query};
 
 // A table of so few items is searched whole, which takes no memory for the ends of a range.
 const FEW: usize = 8;

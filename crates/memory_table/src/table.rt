@@ -1,10 +1,10 @@
 ghost use Rattle.std.specs.BTreeMap.{keys};
 ghost use Rattle.std.specs.List.{All};
-ghost use Rattle.table_key.specs.Held.{IsHeldKey};
+ghost use Rattle.table_keys.specs.Held.{IsHeldKey};
 
 use dynamo_value::Item;
 use std::collections::BTreeMap;
-use table_key::{Key, KeySchema};
+use table_keys::{Key, KeySchema};
 
 /// A DynamoDB table in memory: items by their keys, in the order of the keys.
 ///

@@ -314,7 +314,7 @@
 //! use serde::{Deserialize, Serialize};
 //! use serde_dynamo::{Item, Result};
 //! use std::alloc::{AllocError, Global};
-//! use table_key::{KeyAttribute, KeyKind, KeySchema};
+//! use table_keys::{KeyAttribute, KeyKind, KeySchema};
 //! use typed_table::{AsItem, Keyed, TypedTable};
 //!
 //! #[derive(Drop, Serialize, Deserialize)]

@@ -11,7 +11,7 @@ use memory_table::Table;
 use schema_check::{Finding, next_value};
 use serde_dynamo::samples::User;
 use std::alloc::{AllocError, Global};
-use table_key::{KeyAttribute, KeyKind, KeySchema};
+use table_keys::{KeyAttribute, KeyKind, KeySchema};
 
 const USERS: u64 = 8_000;
 

@@ -9,7 +9,7 @@ use serde_dynamo::Shaped;
 use serde_dynamo::de::{Deserialize, Deserializer, Error};
 use serde_dynamo::ser::{Serialize, Serializer};
 use std::alloc::{AllocError, Global};
-use table_key::{KeyAttribute, KeyKind, KeySchema};
+use table_keys::{KeyAttribute, KeyKind, KeySchema};
 use typed_table::Keyed;
 
 /// A purchase.

@@ -10,8 +10,7 @@ use sqlite::FileStore;
 use sqlite_disk::Memory;
 use std::alloc::{AllocError, Global};
 use std::collections::HashMap;
-use table_key::{Key, KeySchema, KeyValue};
-use table_query::{Query, SortCondition};
+use table_keys::{Key, KeySchema, KeyValue, Query, SortCondition};
 use table_store::{TableStore, create_in_memory_file};
 
 const READINGS_KEYS: [&str; 2] = ["of:S", "at:N"];

@@ -1,6 +1,6 @@
 use serde_dynamo::Error;
 use std::alloc::{AllocError, AllocFailed};
-use table_key::TableError;
+use table_keys::TableError;
 use typed_store::TypedStoreError;
 
 /// Why a round has no digest.

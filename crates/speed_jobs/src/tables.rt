@@ -5,15 +5,16 @@ use crate::purchase::Purchase;
 use crate::purchases;
 use crate::random::Random;
 use crate::stopped::Stopped;
-use dynamo_number::Number;
 use dynamo_value::{AttributeValue, Item};
 use dynamo_write::to_item;
 use memory_table::Table;
 use serde_dynamo::samples::User;
 use std::alloc::{AllocError, Global};
 use std::collections::HashMap;
-use table_key::{Key, KeyAttribute, KeyKind, KeySchema, KeyValue, TableError};
-use table_query::{Condition, Query, SortCondition};
+use table_keys::{
+    Condition, Key, KeyAttribute, KeyKind, KeySchema, KeyValue, Number, Query, SortCondition,
+    TableError,
+};
 use typed_table::TypedTable;
 
 const CUSTOMERS: u64 = 120;

@@ -3,11 +3,11 @@ use Rattle.std.proofs.Common.{◌≡◌, ◌<◌, ◌≤◌, List, [], ◌∷◌
 use Rattle.std.proofs.lemmas.List.{length-append}
 use Rattle.std.proofs.lemmas.List.Elements.{All-push}
 use Rattle.dynamo_value.specs.declared.item.Item.{Item}
-use Rattle.table_key.specs.KeyOf.{ReadsKey}
-use Rattle.table_key.specs.declared.key.Key.{Key}
-use Rattle.table_key.specs.declared.schema.KeySchema.{KeySchema}
-use Rattle.table_query.specs.Queries.{finds}
-use Rattle.table_query.specs.declared.query.Query.{Query}
+use Rattle.table_keys.specs.KeyOf.{ReadsKey}
+use Rattle.table_keys.specs.declared.key.Key.{Key}
+use Rattle.table_keys.specs.declared.schema.KeySchema.{KeySchema}
+use Rattle.table_keys.specs.Queries.{finds}
+use Rattle.table_keys.specs.declared.query.Query.{Query}
 use Rattle.table_rows.specs.Found.{IsFound}
 
 -- a list below the limit takes one item more

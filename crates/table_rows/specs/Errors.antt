@@ -2,8 +2,8 @@
 use Rattle.std.specs.Prelude.{ℕ, List, Option, Some, None, codes}
 use Rattle.sqlite.specs.declared.error.Error.{Error}
 use Rattle.sqlite.specs.declared.error.ErrorCode.{ErrorCode}
-use Rattle.table_key.specs.ErrorText.{error_text}
-use Rattle.table_key.specs.declared.error.TableError.{TableError}
+use Rattle.table_keys.specs.ErrorText.{error_text}
+use Rattle.table_keys.specs.declared.error.TableError.{TableError}
 use Rattle.table_rows.specs.declared.error.StoreError.{StoreError}
 
 -- want of memory is the same fault wherever it comes from

@@ -1,7 +1,7 @@
 use crate::StoreError;
 use sqlite::{Alter, Connection, Row, params};
 use std::alloc::Global;
-use table_key::{KeyAttribute, KeySchema, TableError};
+use table_keys::{KeyAttribute, KeySchema, TableError};
 
 const TABLES: &str =
     "CREATE TABLE IF NOT EXISTS dynamo_table (id INTEGER PRIMARY KEY, name TEXT NOT NULL UNIQUE, \

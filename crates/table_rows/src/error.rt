@@ -5,7 +5,7 @@ ghost use Rattle.table_rows.specs.declared.error.StoreError.{StoreError};
 use sqlite::{Error, ErrorCode};
 use std::alloc::{AllocError, AllocFailed};
 use std::fmt;
-use table_key::TableError;
+use table_keys::TableError;
 
 /// An error of a call on a table in a database.
 #[derive(Clone, Copy, Debug, PartialEq, Eq)]

@@ -1,11 +1,11 @@
 use crate::StoreError;
 use dynamo_json::{DynamoJson, TextError};
 use dynamo_value::{ErrorImpl, Item};
-use key_bytes::KeyBytes;
 use sqlite::types::ValueRef;
 use sqlite::{Alter, Connection, Row, params};
 use std::alloc::Global;
 use std::str;
+use table_keys::KeyBytes;
 
 const GET: &str =
     "SELECT item FROM dynamo_item WHERE table_id = ?1 AND partition_key = ?2 AND sort_key = ?3";

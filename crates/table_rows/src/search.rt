@@ -4,11 +4,10 @@ ghost use Rattle.table_rows.specs.Found.{IsFound};
 use crate::rows::read_item;
 use crate::{Definition, StoreError};
 use dynamo_value::Item;
-use key_bytes::{Bounds, KeyBytes};
 use sqlite::types::ValueRef;
 use sqlite::{Alter, Connection, params};
 use std::alloc::Global;
-use table_query::Query;
+use table_keys::{Bounds, KeyBytes, Query};
 
 const FORWARD: &str = "SELECT item FROM dynamo_item WHERE table_id = ?1 AND partition_key = ?2 \
      AND sort_key >= ?3 AND sort_key < ?4 ORDER BY sort_key LIMIT ?5";

@@ -3,11 +3,11 @@ use Rattle.std.proofs.Common.{◌≡◌, Bool, true, ◌&&◌, bytes_eq, string_
 use Rattle.std.proofs.lemmas.Bool.{and_parts, true≢false}
 use Rattle.std.proofs.lemmas.Slice.Eq.{bytes_eq-Decides}
 use Rattle.std.specs.Option.{option_eq}
-use Rattle.table_key.specs.KeyOf.{word_of, words_of, sort_words}
-use Rattle.table_key.specs.KeyOrder.{kind_name}
-use Rattle.table_key.specs.contracts.key.KeyKind.{the_type}
-use Rattle.table_key.specs.declared.schema.KeyAttribute.{KeyAttribute}
-use Rattle.table_key.specs.declared.schema.KeySchema.{KeySchema}
+use Rattle.table_keys.specs.KeyOf.{word_of, words_of, sort_words}
+use Rattle.table_keys.specs.KeyOrder.{kind_name}
+use Rattle.table_keys.specs.contracts.key.KeyKind.{the_type}
+use Rattle.table_keys.specs.declared.schema.KeyAttribute.{KeyAttribute}
+use Rattle.table_keys.specs.declared.schema.KeySchema.{KeySchema}
 use denote.Enum.Bare.{sameb, same_true}
 
 abbrev attribute_eq : KeyAttribute → KeyAttribute → Bool

@@ -6,10 +6,10 @@ use Rattle.dynamo_value.specs.Item.{map_of}
 use Rattle.dynamo_value.specs.declared.attribute_value.AttributeValue.{AttributeValue, fold-AttributeValue}
 use Rattle.dynamo_value.specs.declared.attribute_value.AttributeValue.TheOpen.{AttributeValue-F}
 use Rattle.dynamo_value.specs.declared.item.Item.{Item}
-use Rattle.table_key.specs.KeyOf.{ReadsKey}
-use Rattle.table_key.specs.declared.error.TableError.{TableError}
-use Rattle.table_key.specs.declared.key.Key.{Key}
-use Rattle.table_key.specs.declared.schema.KeySchema.{KeySchema}
+use Rattle.table_keys.specs.KeyOf.{ReadsKey}
+use Rattle.table_keys.specs.declared.error.TableError.{TableError}
+use Rattle.table_keys.specs.declared.key.Key.{Key}
+use Rattle.table_keys.specs.declared.schema.KeySchema.{KeySchema}
 use Rattle.table_rows.specs.Errors.{of_table}
 use Rattle.table_rows.specs.declared.error.StoreError.{StoreError}
 

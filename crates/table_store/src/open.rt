@@ -1,12 +1,12 @@
 ghost use Rattle.std.specs.Prelude.{◌≡◌, IfOk};
-ghost use Rattle.table_key.specs.KeyOf.{words_of};
+ghost use Rattle.table_keys.specs.KeyOf.{words_of};
 ghost use Rattle.table_store.specs.Content.{schema_of};
 
 use crate::TableStore;
 use sqlite::{Connection, File, FileStore, Files, MemStore, Options};
 use sqlite_disk::Memory;
 use std::alloc::Global;
-use table_key::KeySchema;
+use table_keys::KeySchema;
 use table_rows::StoreError;
 
 /// Returns an empty table in a database in memory.
@@ -25,7 +25,7 @@ use table_rows::StoreError;
 /// # Examples
 ///
 /// ```rust
-/// use table_key::KeySchema;
+/// use table_keys::KeySchema;
 /// use table_store::create_in_memory_file;
 ///
 /// let schema = KeySchema::parse(alloc, &["customer:S", "placed_at:N"])?;

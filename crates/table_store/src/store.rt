@@ -1,17 +1,15 @@
 ghost use Rattle.std.specs.Prelude.{◌≡◌, ◌≤◌, All, IfErr, IfOk, Ok, OnOk, is_some, length, true};
 ghost use Rattle.std.specs.Fn.{FnOnceReturnsAt};
-ghost use Rattle.table_key.specs.KeyOf.{ReadsKey, words_of};
-ghost use Rattle.table_query.specs.Conditions.{holds};
+ghost use Rattle.table_keys.specs.KeyOf.{ReadsKey, words_of};
+ghost use Rattle.table_keys.specs.Conditions.{holds};
 ghost use Rattle.table_store.specs.Depth.{Checked, IsKept};
 ghost use Rattle.table_store.specs.Content.{FailsToChange, HasKey, HasThisKey, IsFound, KeepsKey, NeedsKey, schema_of};
 
 use crate::depth::is_kept;
 use dynamo_value::Item;
-use key_bytes::{Bounds, KeyBytes, bytes_of};
 use sqlite::{Alter, Connection};
 use std::alloc::Global;
-use table_key::{Key, KeySchema, TableError};
-use table_query::{Condition, Query};
+use table_keys::{Bounds, Condition, Key, KeyBytes, KeySchema, Query, TableError, bytes_of};
 use table_rows::{Definition, StoreError, make_tables};
 
 /// A DynamoDB table in a SQLite database: items by their keys, in the order of the keys.
@@ -20,8 +18,7 @@ use table_rows::{Definition, StoreError, make_tables};
 ///
 /// ```rust
 /// use serde_dynamo::{DynamoJson, Item};
-/// use table_key::KeySchema;
-/// use table_query::Query;
+/// use table_keys::{KeySchema, Query};
 /// use table_store::create_in_memory_file;
 ///
 /// let schema = KeySchema::parse(alloc, &["customer:S", "placed_at:N"])?;

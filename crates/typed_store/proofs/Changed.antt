@@ -2,8 +2,8 @@
 use Rattle.std.proofs.Common.{Result, inl, inr}
 use Rattle.dynamo_value.specs.Fault.{Fault}
 use Rattle.dynamo_value.specs.declared.item.Item.{Item}
-use Rattle.table_key.specs.declared.key.Key.{Key}
-use Rattle.table_key.specs.declared.schema.KeySchema.{KeySchema}
+use Rattle.table_keys.specs.declared.key.Key.{Key}
+use Rattle.table_keys.specs.declared.schema.KeySchema.{KeySchema}
 use Rattle.table_store.specs.Content.{HasThisKey}
 use Rattle.typed_table.specs.Updated.{MakesItem, MakesNone}
 use Rattle.typed_store.specs.Stored.{FailsToChange, KeepsKey}

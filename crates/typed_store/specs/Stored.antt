@@ -8,12 +8,12 @@ use Rattle.std.specs.List.{AllZip}
 use Rattle.std.specs.Ordering.{is_ne}
 use Rattle.dynamo_value.specs.Fault.{Fault}
 use Rattle.dynamo_value.specs.declared.item.Item.{Item}
-use Rattle.table_key.specs.KeyOf.{ReadsKey, SaysKey}
-use Rattle.table_key.specs.KeyOrder.{key_cmp}
-use Rattle.table_key.specs.declared.error.TableError.{TableError}
-use Rattle.table_key.specs.declared.key.Key.{Key}
-use Rattle.table_key.specs.declared.schema.KeySchema.{KeySchema}
-use Rattle.table_query.specs.declared.query.Query.{Query}
+use Rattle.table_keys.specs.KeyOf.{ReadsKey, SaysKey}
+use Rattle.table_keys.specs.KeyOrder.{key_cmp}
+use Rattle.table_keys.specs.declared.error.TableError.{TableError}
+use Rattle.table_keys.specs.declared.key.Key.{Key}
+use Rattle.table_keys.specs.declared.schema.KeySchema.{KeySchema}
+use Rattle.table_keys.specs.declared.query.Query.{Query}
 use Rattle.table_rows.specs.Errors.{of_table}
 use Rattle.table_store.specs.Content as store
 use Rattle.table_store.specs.Content.{IsFound}

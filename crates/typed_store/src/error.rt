@@ -7,7 +7,7 @@ ghost use Rattle.typed_store.specs.declared.error.TypedStoreError.{TypedStoreErr
 use dynamo_value::Error;
 use std::alloc::{AllocError, AllocFailed};
 use std::fmt;
-use table_key::TableError;
+use table_keys::TableError;
 use table_store::StoreError;
 
 /// The reason why a value could not be stored or read.

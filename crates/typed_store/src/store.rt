@@ -1,6 +1,6 @@
 ghost use Rattle.std.specs.Prelude.{◌≡◌, IfErr, IfOk, IfSome, OnOk, true};
 ghost use Rattle.std.specs.List.{AllZip};
-ghost use Rattle.table_query.specs.Conditions.{holds};
+ghost use Rattle.table_keys.specs.Conditions.{holds};
 ghost use Rattle.typed_table.specs.Stored.{IsKeyOf};
 ghost use Rattle.typed_store.specs.Stored.{FailsToChange, FailsToKey, KeepsKey, NeedsKey, ReadsAs, SaysKeyOf};
 ghost use Rattle.typed_store.specs.Stored.{WasRead, WereFound, WereRead, schema_of, store_of};
@@ -13,8 +13,7 @@ use dynamo_value::{Error, Item};
 use sqlite::{Alter, Connection};
 use std::alloc::Global;
 use std::marker::PhantomData;
-use table_key::Key;
-use table_query::{Condition, Query};
+use table_keys::{Condition, Key, Query};
 use table_store::TableStore;
 use typed_table::{AsItem, Keyed, place_of_error};
 
@@ -26,7 +25,7 @@ use typed_table::{AsItem, Keyed, place_of_error};
 /// # use serde::{Deserialize, Serialize};
 /// # use serde_dynamo::{Item, Result};
 /// # use std::alloc::{AllocError, Global};
-/// # use table_key::{KeyAttribute, KeyKind, KeySchema};
+/// # use table_keys::{KeyAttribute, KeyKind, KeySchema};
 /// # use typed_table::{AsItem, Keyed};
 /// use sqlite::Connection;
 /// use typed_store::TypedStore;
@@ -138,7 +137,7 @@ impl<T: AsItem + Keyed, S: Alter + Drop> TypedStore<T, S> {
     /// # Errors
     ///
     /// Returns [`TypedStoreError::Store`] with the error of
-    /// [`KeySchema::key_from`](table_key::KeySchema::key_from): an argument isn't of the
+    /// [`KeySchema::key_from`](table_keys::KeySchema::key_from): an argument isn't of the
     /// attribute's kind; there is a sort key for a table that has none, or none for a table that
     /// has one; memory runs out.
     pub fn key_from(&self, partition: &str, sort: Option<&str>) -> Result<Key, TypedStoreError>

@@ -2,8 +2,8 @@
 use Rattle.std.proofs.Common.{◌⊎◌, ap, inl, inr}
 use Rattle.dynamo_value.specs.Fault.{Fault}
 use Rattle.dynamo_value.specs.declared.item.Item.{Item}
-use Rattle.table_key.specs.declared.error.TableError.{TableError}
-use Rattle.table_query.specs.declared.condition.Condition.{Condition}
+use Rattle.table_keys.specs.declared.error.TableError.{TableError}
+use Rattle.table_keys.specs.declared.condition.Condition.{Condition}
 use Rattle.memory_table.specs.Change.{RefusesItem}
 use Rattle.memory_table.specs.Content.{schema_of}
 use Rattle.memory_table.specs.declared.table.Table.{Table}

@@ -4,8 +4,8 @@ use Rattle.std.proofs.lemmas.List.{take_more, take_all}
 use Rattle.std.specs.Borrow.{Bor}
 use Rattle.dynamo_value.specs.Fault.{Fault}
 use Rattle.dynamo_value.specs.declared.item.Item.{Item}
-use Rattle.table_key.specs.declared.key.Key.{Key}
-use Rattle.table_query.specs.Queries.{seen}
+use Rattle.table_keys.specs.declared.key.Key.{Key}
+use Rattle.table_keys.specs.Queries.{seen}
 use Rattle.typed_table.specs.Stored.{ReadEach, RefusesOne}
 
 module _ {T : Type 0} (Reads : Item → Result T Fault → Type 0) where

@@ -8,11 +8,11 @@ use Rattle.std.specs.Bool.{MatchBool}
 use Rattle.std.specs.Ordering.{is_ne, ordering_reverse}
 use Rattle.dynamo_value.specs.Fault.{Fault}
 use Rattle.dynamo_value.specs.declared.item.Item.{Item}
-use Rattle.table_key.specs.KeyLaws.{key_total}
-use Rattle.table_key.specs.KeyOf.{ReadsKey}
-use Rattle.table_key.specs.KeyOrder.{key_cmp}
-use Rattle.table_key.specs.declared.error.TableError.{TableError}
-use Rattle.table_key.specs.declared.key.Key.{Key}
+use Rattle.table_keys.specs.KeyLaws.{key_total}
+use Rattle.table_keys.specs.KeyOf.{ReadsKey}
+use Rattle.table_keys.specs.KeyOrder.{key_cmp}
+use Rattle.table_keys.specs.declared.error.TableError.{TableError}
+use Rattle.table_keys.specs.declared.key.Key.{Key}
 use Rattle.memory_table.proofs.Lent.{under_equal}
 use Rattle.memory_table.specs.Change.{RefusesBy, Replaces, UpdatesItem}
 use Rattle.memory_table.specs.Content.{entries_of, items_of, schema_of}

@@ -1,7 +1,7 @@
 -- The printed text of why a value could not be stored.
 use Rattle.std.specs.Prelude.{ℕ, List, Option, Some}
 use Rattle.dynamo_value.specs.KindText.{kind_text}
-use Rattle.table_key.specs.ErrorText.{error_text}
+use Rattle.table_keys.specs.ErrorText.{error_text}
 use Rattle.typed_table.specs.declared.error.TypedTableError.{TypedTableError}
 
 -- that of the fault by itself

@@ -12,14 +12,14 @@ use Rattle.dynamo_value.specs.Fault.{Fault, out_of_memory}
 use Rattle.dynamo_value.specs.Kind.{fault_of}
 use Rattle.dynamo_value.specs.declared.error.Error.{Error}
 use Rattle.dynamo_value.specs.declared.item.Item.{Item}
-use Rattle.table_key.specs.KeyOf.{ReadsKey}
-use Rattle.table_key.specs.KeyOrder.{key_cmp}
-use Rattle.table_key.specs.declared.error.TableError.{TableError}
-use Rattle.table_key.specs.declared.key.Key.{Key}
-use Rattle.table_key.specs.declared.schema.KeySchema.{KeySchema}
-use Rattle.table_query.specs.Conditions.{holds}
-use Rattle.table_query.specs.Queries.{rest}
-use Rattle.table_query.specs.declared.condition.Condition.{Condition}
+use Rattle.table_keys.specs.KeyOf.{ReadsKey}
+use Rattle.table_keys.specs.KeyOrder.{key_cmp}
+use Rattle.table_keys.specs.declared.error.TableError.{TableError}
+use Rattle.table_keys.specs.declared.key.Key.{Key}
+use Rattle.table_keys.specs.declared.schema.KeySchema.{KeySchema}
+use Rattle.table_keys.specs.Conditions.{holds}
+use Rattle.table_keys.specs.Queries.{rest}
+use Rattle.table_keys.specs.declared.condition.Condition.{Condition}
 use Rattle.memory_table.specs.Change as items
 use Rattle.memory_table.specs.Change.{Refuses}
 use Rattle.memory_table.specs.Content.{entries_of, items_of}

@@ -8,10 +8,10 @@ use Rattle.std.specs.declared.cmp.Ordering.TheVariants.{Equal}
 use Rattle.dynamo_value.specs.Fault.{Fault}
 use Rattle.dynamo_value.specs.declared.error.Error.{Error}
 use Rattle.dynamo_value.specs.declared.item.Item.{Item}
-use Rattle.table_key.specs.KeyOrder.{key_cmp}
-use Rattle.table_key.specs.declared.error.TableError.{TableError}
-use Rattle.table_key.specs.declared.key.Key.{Key}
-use Rattle.table_key.specs.declared.schema.KeySchema.{KeySchema}
+use Rattle.table_keys.specs.KeyOrder.{key_cmp}
+use Rattle.table_keys.specs.declared.error.TableError.{TableError}
+use Rattle.table_keys.specs.declared.key.Key.{Key}
+use Rattle.table_keys.specs.declared.schema.KeySchema.{KeySchema}
 use Rattle.memory_table.specs.Content.{items_of, schema_of}
 use Rattle.memory_table.specs.declared.table.Table.{Table}
 use Rattle.typed_table.specs.Stored.{FailsToPut, Holds, IsKeyOf, IsUnread, IsUnwritten, ReadsAt}

@@ -7,7 +7,7 @@ ghost use Rattle.typed_table.specs.declared.error.TypedTableError.{TypedTableErr
 use crate::{AsItem, TypedTableError};
 use dynamo_value::Item;
 use std::alloc::Global;
-use table_key::TableError;
+use table_keys::TableError;
 
 /// An error of an update, of the caller's type.
 pub(crate) struct Failed<E>(pub E);

@@ -4,7 +4,7 @@ ghost use Rattle.typed_table.specs.declared.error.TypedTableError.{TypedTableErr
 
 use dynamo_value::Error;
 use std::fmt;
-use table_key::TableError;
+use table_keys::TableError;
 
 /// The reason why a value could not be stored. The table is unchanged.
 #[derive(Debug, Drop)]

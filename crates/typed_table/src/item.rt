@@ -9,7 +9,7 @@ ghost use Rattle.dynamo_de.specs.Meets.{Meets};
 ghost use Rattle.dynamo_de.specs.Source.{attribute};
 ghost use Rattle.dynamo_write.specs.Written.{item_written};
 ghost use Rattle.dynamo_shape.specs.Clear.{Clear};
-ghost use Rattle.table_query.specs.Queries.{seen};
+ghost use Rattle.table_keys.specs.Queries.{seen};
 ghost use Rattle.typed_table.specs.Stored.{ReadEach, RefusesOne};
 ghost use Rattle.typed_table.specs.Written.{IsItemOf};
 
@@ -19,7 +19,7 @@ use dynamo_types::Shaped;
 use dynamo_value::{Item, Result};
 use dynamo_write::to_item;
 use std::alloc::Global;
-use table_key::Key;
+use table_keys::Key;
 
 /// Returns the item of a value.
 ///

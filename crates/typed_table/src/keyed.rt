@@ -1,5 +1,5 @@
 use std::alloc::{AllocError, Global};
-use table_key::KeySchema;
+use table_keys::KeySchema;
 
 /// A type that names the key of its table. [`AsItem`](crate::AsItem) says how its values are items.
 ///
@@ -7,7 +7,7 @@ use table_key::KeySchema;
 ///
 /// ```rust
 /// use std::alloc::{AllocError, Global};
-/// use table_key::{KeyAttribute, KeyKind, KeySchema};
+/// use table_keys::{KeyAttribute, KeyKind, KeySchema};
 /// use typed_table::Keyed;
 ///
 /// struct Order;

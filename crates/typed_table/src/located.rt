@@ -4,7 +4,7 @@ use crate::AsItem;
 use dynamo_place::{LocatedError, Place};
 use dynamo_value::{Error, Item};
 use std::alloc::Global;
-use table_key::Key;
+use table_keys::Key;
 
 /// Returns the place in an item where reading it as the type returns this error. It is `None` if the
 /// item can be read, or if reading it returns another error, as if memory runs out.

@@ -3,10 +3,10 @@ ghost use Rattle.std.specs.Prelude.{IfOk, IfErr, OnOk, OnErr, MatchOption, Match
 ghost use Rattle.std.specs.BTreeMap.{get, Updates};
 ghost use Rattle.dynamo_value.specs.Fault.{out_of_memory};
 ghost use Rattle.dynamo_value.specs.Kind.{fault_of};
-ghost use Rattle.table_key.specs.KeyOf.{SaysKey};
-ghost use Rattle.table_key.specs.KeyOrder.{key_cmp};
-ghost use Rattle.table_query.specs.Conditions.{holds};
-ghost use Rattle.table_query.specs.Queries.{answer};
+ghost use Rattle.table_keys.specs.KeyOf.{SaysKey};
+ghost use Rattle.table_keys.specs.KeyOrder.{key_cmp};
+ghost use Rattle.table_keys.specs.Conditions.{holds};
+ghost use Rattle.table_keys.specs.Queries.{answer};
 ghost use Rattle.memory_table.specs.Content.{entries_of, items_of, schema_of};
 ghost use Rattle.typed_table.specs.Stored.{DeletesIf, FailsCondition, FailsToPut, FailsToRead, Holds, IsKeyOf};
 ghost use Rattle.typed_table.specs.Stored.{OthersStay, ReadEach, ReadsAt, page, table_of};
@@ -22,8 +22,7 @@ use dynamo_value::{Error, Result};
 use memory_table::Table;
 use std::alloc::{AllocError, Global};
 use std::marker::PhantomData;
-use table_key::{Key, TableError};
-use table_query::{Condition, Query};
+use table_keys::{Condition, Key, Query, TableError};
 
 /// A table in memory of values of one type, each an item under its key.
 ///
@@ -33,9 +32,9 @@ use table_query::{Condition, Query};
 /// # use serde::{Deserialize, Serialize};
 /// # use serde_dynamo::{Item, Result};
 /// # use std::alloc::{AllocError, Global};
-/// # use table_key::{KeyAttribute, KeyKind, KeySchema};
+/// # use table_keys::{KeyAttribute, KeyKind, KeySchema};
 /// # use typed_table::{AsItem, Keyed};
-/// use table_query::{Condition, Query};
+/// use table_keys::{Condition, Query};
 /// use typed_table::TypedTable;
 ///
 /// #[derive(Drop, Serialize, Deserialize)]
@@ -152,7 +151,7 @@ impl<T: AsItem + Keyed> TypedTable<T> {
     ///
     /// # Errors
     ///
-    /// Returns the error of [`KeySchema::key_from`](table_key::KeySchema::key_from): an argument
+    /// Returns the error of [`KeySchema::key_from`](table_keys::KeySchema::key_from): an argument
     /// isn't of the attribute's kind; `NoSortKey` for a sort key in a table that has none;
     /// `Missing` without one in a table that has one; `OutOfMemory` if memory runs out.
     pub fn key_from(

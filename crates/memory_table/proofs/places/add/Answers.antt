@@ -1,7 +1,7 @@
 use Rattle.std.proofs.Common.{rules, subst}
 use Rattle.std.specs.BTreeMap.Entry.{IsEntryFor, map_with_value}
 use Rattle.std.specs.declared.collections.btree_map.Entry.{Entry}
-use Rattle.table_key.specs.KeyOrder.{key_cmp}
+use Rattle.table_keys.specs.KeyOrder.{key_cmp}
 use Rattle.memory_table.proofs.Puts.{same_put}
 use Rattle.memory_table.proofs.places.add.Goals as goal
 

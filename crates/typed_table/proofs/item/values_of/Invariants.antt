@@ -1,5 +1,5 @@
 use Rattle.std.proofs.Common.{take}
-use Rattle.table_query.specs.Queries.{seen}
+use Rattle.table_keys.specs.Queries.{seen}
 use Rattle.typed_table.specs.Stored.{ReadEach}
 use Rattle.typed_table.proofs.item.values_of.Given as goal
 

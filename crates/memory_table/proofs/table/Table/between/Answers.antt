@@ -1,7 +1,7 @@
 use Rattle.std.proofs.Common.{◌≡◌, ◌∙◌, ◌-◌, ◌<◌, [], ◌∷◌, ◌++◌, take, refl, ap, sym, arith}
 use Rattle.std.proofs.Common.{vec_len}
 use Rattle.std.proofs.lemmas.Slice.{pushed}
-use Rattle.table_query.specs.Queries.{in_direction, seen}
+use Rattle.table_keys.specs.Queries.{in_direction, seen}
 use Rattle.memory_table.proofs.Pages.{Entries, one_more}
 use Rattle.memory_table.proofs.table.Table.between.Goals as goal
 

@@ -2,8 +2,8 @@ use Rattle.std.proofs.Common.{◌≡◌, ◌++◌, ◌-◌, ◌≤◌, length, t
 use Rattle.std.specs.BTreeMap.Range.{entries_between}
 use Rattle.std.specs.Range.Bound.{bound_map}
 use Rattle.memory_table.specs.Content.{entries_of}
-use Rattle.table_key.specs.KeyOrder.{key_cmp}
-use Rattle.table_query.specs.Queries.{in_direction, seen}
+use Rattle.table_keys.specs.KeyOrder.{key_cmp}
+use Rattle.table_keys.specs.Queries.{in_direction, seen}
 use Rattle.memory_table.proofs.table.Table.between.Given as goal
 
 -- what is on the page, and what comes behind it up to the limit, are all

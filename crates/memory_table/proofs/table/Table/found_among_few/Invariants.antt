@@ -1,7 +1,7 @@
 use Rattle.std.proofs.Common.{◌≡◌, ◌++◌}
 use Rattle.std.specs.List.{filter}
 use Rattle.memory_table.specs.Content.{entries_of}
-use Rattle.table_query.specs.Queries.{finds, seen}
+use Rattle.table_keys.specs.Queries.{finds, seen}
 use Rattle.memory_table.proofs.table.Table.found_among_few.Given as goal
 
 -- what is found, and what is still to be found, are all

@@ -1,6 +1,6 @@
 use Rattle.memory_table.proofs.Puts.{went_through}
 use Rattle.memory_table.specs.Content.{schema_of}
-use Rattle.table_key.proofs.EqualKeys.{equal_too}
+use Rattle.table_keys.proofs.EqualKeys.{equal_too}
 use Rattle.memory_table.proofs.table.Table.put_if_returning_key.Goals as goal
 
 pub returns-clause-puts : goal.returns-clause-puts

@@ -1,7 +1,7 @@
 use Rattle.std.proofs.Common.{◌∙◌, sym, ap}
 use Rattle.std.specs.Range.Bound.{bound_map}
 use Rattle.memory_table.specs.Content.{entries_of}
-use Rattle.table_query.specs.Queries.{seen}
+use Rattle.table_keys.specs.Queries.{seen}
 use Rattle.memory_table.proofs.Held.{answer_between, answer_none}
 use Rattle.memory_table.proofs.table.Table.query.Goals as goal
 

@@ -2,7 +2,7 @@ use Rattle.std.proofs.Common.{◌∙◌, ◌++◌, length, refl, sym, ap, arith,
 use Rattle.std.proofs.lemmas.List.{map-append, append-nil}
 use Rattle.std.proofs.lemmas.Slice.{pushed}
 use Rattle.memory_table.specs.Content.{entries_of}
-use Rattle.table_query.specs.Queries.{rest, seen}
+use Rattle.table_keys.specs.Queries.{rest, seen}
 use Rattle.memory_table.proofs.Pages.{Entries, entry}
 use Rattle.memory_table.proofs.Scans.{page_left, page_none}
 use Rattle.memory_table.proofs.table.Table.scan_all.Goals as goal

@@ -1,6 +1,6 @@
 use Rattle.std.proofs.Common.{◌≡◌, ◌++◌, length}
 use Rattle.memory_table.specs.Content.{entries_of}
-use Rattle.table_query.specs.Queries.{rest, seen}
+use Rattle.table_keys.specs.Queries.{rest, seen}
 use Rattle.memory_table.proofs.table.Table.scan_all.Given as goal
 
 -- what is read and what is left are all

@@ -1,5 +1,5 @@
 use Rattle.std.proofs.Common.{sym, ap, ◌∙◌}
-use Rattle.table_key.specs.KeyOf.{words_of}
+use Rattle.table_keys.specs.KeyOf.{words_of}
 use Rattle.table_store.proofs.Keys.{same_words}
 use Rattle.table_store.proofs.store.TableStore.create.Goals as goal
 

@@ -1,5 +1,5 @@
 use Rattle.std.proofs.Common.{◌∙◌, subst, Ok}
-use Rattle.table_key.specs.KeyOf.{ReadsKey}
+use Rattle.table_keys.specs.KeyOf.{ReadsKey}
 use Rattle.table_store.specs.Content.{schema_of}
 use Rattle.table_store.proofs.Kept.{one_more, one_more_kept, all_have, all_kept}
 use Rattle.table_store.proofs.store.TableStore.put_each.Goals as goal

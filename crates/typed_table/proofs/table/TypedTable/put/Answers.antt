@@ -1,6 +1,6 @@
 use Rattle.std.proofs.Common.{inl, inr}
 use Rattle.std.proofs.lemmas.Result.{err_from_is_err_and}
-use Rattle.table_key.specs.KeyOrder.{key_cmp}
+use Rattle.table_keys.specs.KeyOrder.{key_cmp}
 use Rattle.typed_table.proofs.Put.{not_equal}
 use Rattle.typed_table.proofs.table.TypedTable.put.Goals as goal
 

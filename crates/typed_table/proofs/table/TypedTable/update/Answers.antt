@@ -1,5 +1,5 @@
 use Rattle.std.proofs.Common.{rules}
-use Rattle.table_key.specs.KeyOrder.{key_cmp}
+use Rattle.table_keys.specs.KeyOrder.{key_cmp}
 use Rattle.typed_table.specs.Stored.{table_of}
 use Rattle.typed_table.proofs.Put.{not_equal}
 use Rattle.typed_table.proofs.Updated.{not_updated, updated}

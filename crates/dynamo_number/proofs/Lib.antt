@@ -1,9 +1,0 @@
-pub mod ByteOrder
-pub mod Decimals
-pub mod Longs
-pub mod Marks
-pub mod NextNumbers
-pub mod NextSizes
-pub mod Normals
-pub mod Scaled
-pub mod Sizes

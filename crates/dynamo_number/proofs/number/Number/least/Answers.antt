@@ -1,9 +1,0 @@
-use Rattle.std.proofs.Common.{refl, inr, ◌*◌, ◌^◌, ◌-◌, arith}
-use Rattle.dynamo_number.proofs.NextNumbers.{kept_size, none_below}
-use Rattle.dynamo_number.proofs.NextSizes.{greatest}
-use Rattle.dynamo_number.proofs.number.Number.least.Goals as goal
-
-pub returns : goal.returns
-returns c =
-    none_below ((10 ^ 38 - 1) * 10 ^ 255) (kept_size (10 ^ 38 - 1) 255 (inr (omega arith, omega arith)) (omega arith))
-    (greatest (10 ^ 38 - 1) 255 refl (omega arith))

@@ -1,5 +1,0 @@
-pub mod Bytes
-pub mod Digits
-pub mod Neighbours
-pub mod Normal
-pub mod Numbers

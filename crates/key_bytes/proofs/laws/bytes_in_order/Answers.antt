@@ -1,8 +1,0 @@
-use Rattle.key_bytes.proofs.InOrder.{keys, values}
-use Rattle.key_bytes.proofs.laws.bytes_in_order.Goals as goal
-
-pub returns-clause-values : goal.returns-clause-values
-returns-clause-values c = values
-
-pub returns-clause-keys : goal.returns-clause-keys
-returns-clause-keys c = keys

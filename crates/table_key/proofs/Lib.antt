@@ -1,4 +1,0 @@
-pub mod Clones
-pub mod EqualKeys
-pub mod OneKey
-pub mod Words

@@ -1,0 +1,17 @@
+pub mod Between
+pub mod Conditions
+pub mod Digits
+pub mod ErrorText
+pub mod Held
+pub mod KeyBytes
+pub mod KeyLaws
+pub mod KeyOf
+pub mod KeyOrder
+pub mod Neighbours
+pub mod Normal
+pub mod NumberBytes
+pub mod Numbers
+pub mod Places
+pub mod Prefixes
+pub mod Queries
+pub mod Ranges

@@ -1,5 +1,0 @@
-pub mod Conditions
-pub mod Places
-pub mod Prefixes
-pub mod Queries
-pub mod Ranges
