@@ -6,9 +6,9 @@ ghost use Rattle.table_store.specs.Depth.{Checked, IsKept};
 ghost use Rattle.table_store.specs.Content.{FailsToChange, HasKey, HasThisKey, KeepsKey, NeedsKey, schema_of};
 ghost use Rattle.table_store.specs.Found.{IsFound};
 
+use crate::StoreError;
 use crate::depth::is_kept;
 use crate::rows::{self, Definition, make_tables};
-use crate::StoreError;
 use dynamo_value::Item;
 use sqlite::{Alter, Connection};
 use std::alloc::Global;
