@@ -1,3 +1,4 @@
+pub mod ItemBack
 pub mod MapsOfItems
 pub mod ReadBack
 pub mod SamplesEqual

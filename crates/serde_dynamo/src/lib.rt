@@ -382,4 +382,4 @@ pub use dynamo_write::{
     Serializer, SerializerMap, SerializerSeq, SerializerStruct, SerializerStructVariant,
     SerializerTupleVariant, to_attribute_value, to_item,
 };
-pub use rereading::{reread, reread_clear};
+pub use rereading::{reread, reread_clear, stored};

@@ -1,22 +1,24 @@
-ghost use Rattle.std.specs.Prelude.{◌≡◌, ◌⊎◌, Ok, IfOk, IfErr, MatchResult};
+ghost use Rattle.std.specs.Prelude.{◌≡◌, ◌⊎◌, Ok, Err, IfOk, IfErr, MatchResult};
 ghost use Rattle.serde_json.specs.View as sj;
 ghost use Rattle.dynamo_value.specs.Fault.{out_of_memory};
 ghost use Rattle.dynamo_value.specs.Kind.{fault_of};
 ghost use Rattle.dynamo_value.specs.View as av;
 ghost use Rattle.dynamo_write.specs.Written as write;
+ghost use Rattle.dynamo_write.specs.Written.{item_written};
+ghost use Rattle.dynamo_de.specs.Meets.{Meets};
 ghost use Rattle.dynamo_de.specs.Source.{attribute};
 ghost use Rattle.dynamo_json.specs.Json.{json_of};
 ghost use Rattle.dynamo_shape.specs.Clear.{Clear, NearlyClear};
 ghost use Rattle.dynamo_shape.specs.Kept.{kept};
 ghost use Rattle.dynamo_shape.specs.ReadsBack.{Permitted};
 ghost use Rattle.dynamo_shape.specs.Same.{Same};
-ghost use Rattle.serde_dynamo.specs.Reread.{IsFaultOf};
+ghost use Rattle.serde_dynamo.specs.Reread.{IsFaultOf, Stores};
 
 use crate::Shaped;
 use dynamo_json::DynamoJson;
-use dynamo_read::from_attribute_value;
+use dynamo_read::{from_attribute_value, from_item};
 use dynamo_value::{AttributeValue, Result};
-use dynamo_write::to_attribute_value;
+use dynamo_write::{to_attribute_value, to_item};
 use serde_json::Value;
 use std::alloc::Global;
 
@@ -97,4 +99,48 @@ pub fn reread_clear<T: Shaped>(alloc: Global, value: &T) -> Result<(AttributeVal
     ensures { MatchResult result (λ parts. T.about.same value.now parts.2) (λ e. fault_of e ≡ out_of_memory) }
 {
     reread(alloc, value)
+}
+
+/// Writes a value as an item, and reads a value from this item.
+///
+/// **What was stored reads back**: if the shape of the type is clear, the value that was read is
+/// the same as the argument. [`reread`] promises it of a value that is passed through its DynamoDB
+/// JSON.
+///
+/// # Errors
+///
+/// Returns the error of [`to_item`](crate::to_item), as `NotMaplike` for a value that isn't written
+/// as a map.
+///
+/// Returns [`ErrorImpl::OutOfMemory`](dynamo_value::ErrorImpl::OutOfMemory) if memory runs out.
+///
+/// If the shape isn't clear, may return the error of [`from_item`](crate::from_item).
+///
+/// # Examples
+///
+/// ```rust
+/// use serde_dynamo::{Error, ErrorImpl, stored};
+/// use std::collections::BTreeMap;
+///
+/// let mut ages = BTreeMap::new(alloc);
+/// ages.insert(String::from_str(alloc, "Ada")?, 36u8)?;
+/// assert_eq!(rt; stored(alloc, &ages)?, ages);
+///
+/// let number = stored(alloc, &36u8);
+/// assert!(rt; matches!(number, Err(e) if *e.kind() == ErrorImpl::NotMaplike));
+/// ```
+pub fn stored<T: Shaped>(alloc: Global, value: &T) -> Result<T>
+    // The result is one that reading the item of the value's datum may have, or the fault of writing
+    // the item.
+    ensures read { Meets fault_of (Stores T.reads (T.tells value.now)) result }
+
+    // What was stored reads back.
+    ensures clear { Clear T.about.shape → MatchResult result (λ back. T.about.same value.now back)
+        (λ e. (fault_of e ≡ out_of_memory) ⊎ (item_written (T.tells value.now) ≡ Err (fault_of e))) }
+{
+    value.conforms();
+    let item = to_item(alloc, value)?;
+    let back = from_item::<T>(alloc, item)?;
+    back.conforms();
+    Ok(back)
 }

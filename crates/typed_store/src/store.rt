@@ -1,5 +1,6 @@
 ghost use Rattle.std.specs.Prelude.{◌≡◌, IfErr, IfOk, IfSome, OnOk, true};
 ghost use Rattle.std.specs.List.{AllZip};
+ghost use Rattle.table_keys.specs.KeyOf.{words_of};
 ghost use Rattle.table_keys.specs.Conditions.{holds};
 ghost use Rattle.typed_table.specs.Stored.{IsKeyOf};
 ghost use Rattle.typed_store.specs.Stored.{FailsToChange, FailsToKey, KeepsKey, NeedsKey, ReadsAs, SaysKeyOf};
@@ -70,13 +71,15 @@ pub struct TypedStore<T, S: Alter + Drop> {
 }
 
 impl<T: AsItem + Keyed, S: Alter + Drop> TypedStore<T, S> {
-    /// Returns the table with this name in a database. It is created if there is none. The values
-    /// that it returns are allocated in `alloc`.
+    /// Returns the table with this name in a database, whose key is that of the type. It is created
+    /// if there is none. The values that it returns are allocated in `alloc`.
     ///
     /// # Errors
     ///
     /// Returns [`TypedStoreError::Store`] with the error of [`TableStore::create`].
-    pub fn create(alloc: Global, conn: Connection<S>, name: &str) -> Result<Self, TypedStoreError> {
+    pub fn create(alloc: Global, conn: Connection<S>, name: &str) -> Result<Self, TypedStoreError>
+        ensures { IfOk result (λ store. T.keyed_by (words_of (schema_of store))) }
+    {
         let schema = T::key_schema(alloc)?;
         Ok(TypedStore {
             alloc,

@@ -3,7 +3,7 @@ ghost use Rattle.std.specs.Prelude.{IfOk, IfErr, OnOk, OnErr, MatchOption, Match
 ghost use Rattle.std.specs.BTreeMap.{get, Updates};
 ghost use Rattle.dynamo_value.specs.Fault.{out_of_memory};
 ghost use Rattle.dynamo_value.specs.Kind.{fault_of};
-ghost use Rattle.table_keys.specs.KeyOf.{SaysKey};
+ghost use Rattle.table_keys.specs.KeyOf.{SaysKey, words_of};
 ghost use Rattle.table_keys.specs.KeyOrder.{key_cmp};
 ghost use Rattle.table_keys.specs.Conditions.{holds};
 ghost use Rattle.table_keys.specs.Queries.{answer};
@@ -92,13 +92,14 @@ pub struct TypedTable<T> {
 }
 
 impl<T: AsItem + Keyed> TypedTable<T> {
-    /// Returns an empty table. Its items, and the values that it returns, are allocated in `alloc`.
+    /// Returns an empty table whose key is that of the type. Its items, and the values that it returns, are allocated in `alloc`.
     ///
     /// # Errors
     ///
     /// Returns [`AllocError`] if memory runs out for the names of the key.
     pub fn new(alloc: Global) -> std::result::Result<Self, AllocError>
         ensures empty { IfOk result (λ t. entries_of (table_of t) ≡ []) }
+        ensures schema { IfOk result (λ t. T.keyed_by (words_of (schema_of (table_of t)))) }
     {
         let schema = T::key_schema(alloc)?;
         Ok(TypedTable {
