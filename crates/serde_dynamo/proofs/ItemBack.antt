@@ -1,6 +1,5 @@
 -- What is read of the item of a value.
-use Rattle.std.proofs.Common.{◌≡◌, Result, Ok, Err, refl, sym, ap, subst}
-use Rattle.std.specs.Prelude.{MatchResult}
+use Rattle.std.proofs.Common.{◌≡◌, Result, Ok, Err, ap}
 use Rattle.dynamo_value.specs.Av as av
 use Rattle.dynamo_value.specs.Av.{Av, Members}
 use Rattle.dynamo_value.specs.Fault.{Fault}
@@ -13,7 +12,6 @@ use Rattle.dynamo_shape.specs.Clear.{Clear}
 use Rattle.dynamo_shape.specs.Conforms.{conforms}
 use Rattle.dynamo_shape.specs.Laws.{ReadsByShape}
 use Rattle.dynamo_types.specs.About.{About}
-use Rattle.serde_dynamo.specs.Reread.{Stores}
 use Rattle.serde_dynamo.proofs.ReadBack.{itself, not_refused}
 
 -- what is written as an item is written as the map of it
@@ -29,18 +27,6 @@ was_map (Ok (av.Ss ts)) ms h = absurd (no_value h)
 was_map (Ok (av.Ns ts)) ms h = absurd (no_value h)
 was_map (Ok (av.Bs bs)) ms h = absurd (no_value h)
 was_map (Err e) ms h = absurd (no_value h)
-
-module _ {T : Type 0} (reads : Source → Result T Fault → Type 0) (d : Datum) where
-  -- what is read of the item
-  pub stores : (ms : Members) (r : Result T Fault) → item_written d ≡ Ok ms → reads (attribute (av.M ms)) r → Stores reads d r
-  stores ms r is h =
-      subst (λ x. MatchResult x (λ m. reads (attribute (av.M m)) r) (λ f. r ≡ Err f)) (sym is) h
-
-  -- the fault of writing it
-  pub not_stored : (f : Fault) → item_written d ≡ Err f → Stores reads d (Err f)
-  not_stored f is =
-      let r : Result T Fault = Err f in
-      subst (λ x. MatchResult x (λ m. reads (attribute (av.M m)) r) (λ g. r ≡ Err g)) (sym is) refl
 
 module _ {T : Type 0} (about : About T) (tells : T → Datum) (told : about.tells ≡ tells)
     (reads : Source → Result T Fault → Type 0) (by_shape : ReadsByShape about.shape about.tells reads) where
