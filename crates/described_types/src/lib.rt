@@ -23,7 +23,6 @@ mod side;
 mod station;
 mod ticket;
 mod weight;
-mod wide_20;
 mod wide_40;
 mod wide_40_stored;
 
@@ -47,6 +46,5 @@ pub use side::Side;
 pub use station::{Station, stored_station};
 pub use ticket::{Ticket, stored_ticket};
 pub use weight::Weight;
-pub use wide_20::{Wide20, stored_wide_20};
 pub use wide_40::Wide40;
 pub use wide_40_stored::stored_wide_40;

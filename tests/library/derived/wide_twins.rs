@@ -1,4 +1,4 @@
-// Derived twins of the wide types of `described_types`.
+// The derived twin of the wide type of `described_types`.
 use crate::derived::random::Random;
 use crate::derived::twins::reads_as_twin;
 use described_types as own;
@@ -6,30 +6,6 @@ use dynamo_value::Result;
 use serde::{Deserialize, Serialize};
 use std::alloc::Global;
 use std::test::Fail;
-
-#[derive(Drop, Serialize, Deserialize)]
-struct Wide20 {
-    id: String,
-    version: u8,
-    port: u16,
-    visits: u32,
-    created_at: u64,
-    hours_from_utc: i8,
-    altitude: i16,
-    balance: i32,
-    last_seen: i64,
-    is_active: bool,
-    nickname: Option<String>,
-    digest: Vec<u8>,
-    city: String,
-    floor: u8,
-    street_number: u16,
-    zip: u32,
-    phone: u64,
-    winter_low: i8,
-    summer_high: i16,
-    score: i32,
-}
 
 #[derive(Drop, Serialize, Deserialize)]
 struct Wide40 {
@@ -73,31 +49,6 @@ struct Wide40 {
     level: u8,
     rank: u16,
     points: u32,
-}
-
-fn random_wide_20(alloc: Global, random: &mut Random) -> Result<own::Wide20> {
-    Ok(own::Wide20 {
-        id: random.text(alloc)?,
-        version: random.byte(),
-        port: (random.next() % 65536) as u16,
-        visits: (random.next() % 4294967296) as u32,
-        created_at: random.next(),
-        hours_from_utc: random.signed(),
-        altitude: i16::from(random.signed()),
-        balance: i32::from(random.signed()),
-        last_seen: i64::from(random.signed()),
-        is_active: random.flag(),
-        nickname: random.maybe_text(alloc)?,
-        digest: random.bytes(alloc)?,
-        city: random.text(alloc)?,
-        floor: random.byte(),
-        street_number: (random.next() % 65536) as u16,
-        zip: (random.next() % 4294967296) as u32,
-        phone: random.next(),
-        winter_low: random.signed(),
-        summer_high: i16::from(random.signed()),
-        score: i32::from(random.signed()),
-    })
 }
 
 fn random_wide_40(alloc: Global, random: &mut Random) -> Result<own::Wide40> {
@@ -150,7 +101,6 @@ fn a_thousand_wide_values(rt: HostRuntime) -> std::result::Result<(), Fail> {
     let alloc = rt.alloc();
     let mut random = Random::new();
     for _ in 0..1000 {
-        reads_as_twin::<Wide20, _>(&rt, alloc, &random_wide_20(alloc, &mut random)?)?;
         reads_as_twin::<Wide40, _>(&rt, alloc, &random_wide_40(alloc, &mut random)?)?;
     }
     Ok(())
