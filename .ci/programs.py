@@ -6,6 +6,7 @@ import shutil
 import signal
 import subprocess
 import sys
+import tempfile
 
 TOP = os.path.dirname(os.path.dirname(os.path.realpath(__file__)))
 
@@ -123,6 +124,20 @@ def run_all(words, folder):
     ran = start(words, folder, text=True, errors="replace", **how)
     said = ran.communicate()[0]
     return ran.returncode, said
+
+
+def lay_out(code):
+    """The code of a file, laid out by `rt fmt`."""
+    with tempfile.TemporaryDirectory() as crate:
+        file = f"{crate}/src/lib.rt"
+        write(file, code)
+        try:
+            status, said = run_all(["rt", "fmt"], crate)
+        except OSError as wrong:
+            raise Wrong(f"`rt fmt` can't be run ({wrong.strerror})") from wrong
+        if status != 0:
+            raise Wrong(f"`rt fmt` ended with status {status}: {' '.join(said.replace(f'{crate}/', '').split())}")
+        return read(file)
 
 
 def build(program, command, folder, status):

@@ -1,5 +1,5 @@
-use crate::tree::{leaf_refs, letters, names, tree, wrapped};
-use code_layout::{Code, ListKind};
+use crate::names::{letters, names};
+use crate::tree::{ref_tree, tree, tree_of, wrapped};
 use declarations::{Contents, Declaration, Variant, fields_of};
 use std::alloc::{AllocError, Global};
 
@@ -10,40 +10,39 @@ pub struct Case {
 
     // The name of its enum.
     of: String,
+    is_tagged: bool,
     kind: Kind,
 
-    // What its fields are called, and what is written of them.
+    // What its fields are called, and what is written of them, behind a comma.
     names: Vec<String>,
-    refs: Vec<String>,
+    refs: String,
 }
 
 // What a variant holds: one field or several without names, by the texts of their types, or fields
-// with names.
+// with names. Behind a tag one field without a name is a struct of this type.
 #[derive(Drop)]
 enum Kind {
     Nothing,
     One(String),
     Several(Vec<String>),
     Named,
-
-    // Variants behind a tag: nothing, a struct of this type, and fields with names.
-    Bare,
-    Inner(String),
-    Behind,
 }
 
-/// The cases of an enum.
-///
-/// # Errors
-///
-/// Returns [`AllocError`] if memory runs out.
-pub fn cases(alloc: Global, of: &str, variants: &[Variant]) -> Result<Vec<Case>, AllocError> {
+/// The cases of an enum. If it has a tag, these declarations have the structs in its newtype
+/// variants.
+pub fn cases(
+    alloc: Global,
+    of: &str,
+    variants: &[Variant],
+    structs: Option<&[Declaration]>,
+) -> Result<Vec<Case>, AllocError> {
     let mut found = Vec::new(alloc);
     for variant in variants {
-        let (kind, names, refs) = held(alloc, &variant.contents)?;
+        let (kind, names, refs) = held(alloc, &variant.contents, structs)?;
         found.push(Case {
             name: variant.name.clone()?,
             of: String::from_str(alloc, of)?,
+            is_tagged: structs.is_some(),
             kind,
             names,
             refs,
@@ -52,262 +51,154 @@ pub fn cases(alloc: Global, of: &str, variants: &[Variant]) -> Result<Vec<Case>,
     Ok(found)
 }
 
-/// The cases of an enum with a tag. The structs in its newtype variants are among the declarations.
-///
-/// # Errors
-///
-/// Returns [`AllocError`] if memory runs out.
-pub fn tagged_cases(
-    alloc: Global,
-    of: &str,
-    variants: &[Variant],
-    declarations: &[Declaration],
-) -> Result<Vec<Case>, AllocError> {
-    let mut found = cases(alloc, of, variants)?;
-    for case in &mut found {
-        case.put_behind(alloc, declarations)?;
-    }
-    Ok(found)
-}
-
 // What a variant of these contents holds, what its fields are called, and what is written of them.
 fn held(
     alloc: Global,
     contents: &Contents,
-) -> Result<(Kind, Vec<String>, Vec<String>), AllocError> {
-    Ok(match contents {
-        Contents::Nothing => (Kind::Nothing, Vec::new(alloc), Vec::new(alloc)),
+    structs: Option<&[Declaration]>,
+) -> Result<(Kind, Vec<String>, String), AllocError> {
+    let (kind, names, refs) = match contents {
+        Contents::Nothing => return Ok((Kind::Nothing, Vec::new(alloc), String::new(alloc))),
         Contents::One(ty) => {
-            let n = String::from_str(alloc, "n")?;
-            (
-                Kind::One(ty.clone()?),
-                vec![in alloc; n.clone()?]?,
-                vec![in alloc; n]?,
-            )
+            let kind = Kind::One(ty.clone()?);
+            let names = vec![in alloc; String::from_str(alloc, "n")?]?;
+            let Some(structs) = structs else {
+                return Ok((kind, names, String::from_str(alloc, ", n")?));
+            };
+            let fields = fields_of(structs, ty.as_str()).unwrap_or(&[]);
+            (kind, names, ref_tree(alloc, fields, "&n.")?)
         }
         Contents::Several(types) => {
-            let count = types.len();
-            (
-                Kind::Several(types.clone()?),
-                letters(alloc, count)?,
-                letters(alloc, count)?,
-            )
+            let names = letters(alloc, types.len())?;
+            let refs = tree(alloc, names.as_slice())?;
+            (Kind::Several(types.clone()?), names, refs)
         }
         Contents::Named(fields) => {
             (
                 Kind::Named,
                 names(alloc, fields)?,
-                leaf_refs(alloc, fields, "")?,
+                ref_tree(alloc, fields, "")?,
             )
         }
-    })
+    };
+    Ok((kind, names, format!(in alloc; ", &{refs}")?))
 }
 
 impl Case {
-    // Makes it the case of a variant behind a tag.
-    fn put_behind(
-        &mut self,
-        alloc: Global,
-        declarations: &[Declaration],
-    ) -> Result<(), AllocError> {
-        let kind = match &self.kind {
-            Kind::Nothing => Kind::Bare,
-            Kind::Named => Kind::Behind,
-            Kind::One(ty) => {
-                let fields = fields_of(declarations, ty.as_str()).unwrap_or(&[]);
-                self.refs = leaf_refs(alloc, fields, "&n.")?;
-                Kind::Inner(ty.clone()?)
-            }
-            _ => return Ok(()),
-        };
-        self.kind = kind;
-        Ok(())
-    }
-
-    /// Its pattern, as `Event::Tuple(a, b)`.
-    ///
-    /// # Errors
-    ///
-    /// Returns [`AllocError`] if memory runs out.
-    pub fn pattern(&self, alloc: Global) -> Result<Code, AllocError> {
-        self.with_fields(alloc, ListKind::TuplePattern)
-    }
-
-    /// The variant of its fields.
-    ///
-    /// # Errors
-    ///
-    /// Returns [`AllocError`] if memory runs out.
-    pub fn value(&self, alloc: Global) -> Result<Code, AllocError> {
-        self.with_fields(alloc, ListKind::Arguments)
-    }
-
-    // The variant with its fields, which are such a list where they have no names.
-    fn with_fields(&self, alloc: Global, unnamed: ListKind) -> Result<Code, AllocError> {
+    /// The variant of its fields, as a value and as a pattern: `Event::Tuple(a, b)`.
+    pub fn of_fields(&self, alloc: Global) -> Result<String, AllocError> {
         let Case { name, of, .. } = self;
-        let (kind, bracket) = match self.kind {
-            Kind::Nothing | Kind::Bare => {
-                return Ok(Code::Text(format!(in alloc; "{of}::{name}")?));
-            }
-            Kind::Named | Kind::Behind => (ListKind::Fields, " {"),
-            _ => (unnamed, "("),
-        };
-        let open = format!(in alloc; "{of}::{name}{bracket}")?;
-        Code::list_of_texts(alloc, kind, open.as_str(), self.names.as_slice())
+        let names = self.names.join(alloc, ", ")?;
+        match self.kind {
+            Kind::Nothing => format!(in alloc; "{of}::{name}"),
+            Kind::Named => format!(in alloc; "{of}::{name} {{ {names} }}"),
+            _ => format!(in alloc; "{of}::{name}({names})"),
+        }
+    }
+
+    // What the list of variants has for it.
+    fn listed_name(&self) -> &'static str {
+        match (&self.kind, self.is_tagged) {
+            (Kind::Nothing, _) => "Nothing",
+            (Kind::One(_), false) => "One",
+            (Kind::One(_), true) => "Inner",
+            (Kind::Several(_), _) => "Several",
+            (Kind::Named, _) => "Named",
+        }
     }
 
     /// Its pattern in the list of variants, as `Named(Field(a))`. Several fields are bound after it,
     /// since no pattern moves several parts out of an enum: it is `Named(fields)`, and the second
     /// the pattern of these, as `(Field(a), Field(b))`.
-    ///
-    /// # Errors
-    ///
-    /// Returns [`AllocError`] if memory runs out.
-    pub fn listed(&self, alloc: Global) -> Result<(Code, Option<Code>), AllocError> {
-        let open = match self.kind {
-            Kind::Nothing | Kind::Bare => return Ok((Code::text(alloc, "Nothing")?, None)),
-            Kind::One(_) => return Ok((Code::text(alloc, "One(n)")?, None)),
-            Kind::Inner(_) => return Ok((Code::text(alloc, "Inner(n)")?, None)),
-            Kind::Several(_) => "Several(",
-            Kind::Named | Kind::Behind => "Named(",
-        };
-        let leaves = wrapped(alloc, self.names.as_slice(), "Field(", ")")?;
-        let leaves = tree(alloc, ListKind::TuplePattern, leaves.as_slice())?;
-        let (inside, fields) = if self.names.len() < 2 {
-            (leaves, None)
-        } else {
-            (Code::text(alloc, "fields")?, Some(leaves))
-        };
-        let inside = vec![in alloc; inside]?;
-        let listed = Code::list(alloc, ListKind::TuplePattern, open, inside)?;
-        Ok((listed, fields))
+    pub fn listed(&self, alloc: Global) -> Result<(String, Option<String>), AllocError> {
+        let listed = self.listed_name();
+        let leaves = tree_of(alloc, self.names.as_slice(), "Field(", ")")?;
+        Ok(match self.kind {
+            Kind::Nothing => (String::from_str(alloc, listed)?, None),
+            Kind::One(_) => (format!(in alloc; "{listed}(n)")?, None),
+            _ if self.names.len() < 2 => (format!(in alloc; "{listed}({leaves})")?, None),
+            _ => (format!(in alloc; "{listed}(fields)")?, Some(leaves)),
+        })
     }
 
     /// Its type in the list of variants, as `Several<(Field<u8>, Field<u8>)>`.
-    ///
-    /// # Errors
-    ///
-    /// Returns [`AllocError`] if memory runs out.
-    pub fn listed_type(&self, alloc: Global) -> Result<Code, AllocError> {
+    pub fn listed_type(&self, alloc: Global) -> Result<String, AllocError> {
+        let (listed, name) = (self.listed_name(), self.name.as_str());
         match &self.kind {
-            Kind::Nothing | Kind::Bare => Code::text(alloc, "Nothing"),
-            Kind::One(ty) => Ok(Code::Text(format!(in alloc; "One<{ty}>")?)),
-            Kind::Inner(ty) => Ok(Code::Text(format!(in alloc; "Inner<{ty}>")?)),
+            Kind::Nothing => String::from_str(alloc, listed),
+            Kind::One(ty) => format!(in alloc; "{listed}<{ty}>"),
             Kind::Several(types) => {
-                let leaves = wrapped(alloc, types.as_slice(), "Field<", ">")?;
-                let leaves = tree(alloc, ListKind::TupleType, leaves.as_slice())?;
-                Code::list(
-                    alloc,
-                    ListKind::TypeArguments,
-                    "Several<",
-                    vec![in alloc; leaves]?,
-                )
+                let leaves = tree_of(alloc, types.as_slice(), "Field<", ">")?;
+                format!(in alloc; "{listed}<{leaves}>")
             }
-            Kind::Named | Kind::Behind => {
-                let name = self.name.as_str();
-                Ok(Code::Text(format!(in alloc; "Named<{name}Fields>")?))
-            }
+            Kind::Named => format!(in alloc; "{listed}<{name}Fields>"),
         }
     }
 
     /// What its fields are called in a ghost member, each behind a space.
-    ///
-    /// # Errors
-    ///
-    /// Returns [`AllocError`] if memory runs out.
     pub fn ghost_binders(&self, alloc: Global) -> Result<String, AllocError> {
-        let mut text = String::new(alloc);
-        for name in ghost_names(alloc, self.names.as_slice())? {
-            text.push(' ')?;
-            text.push_str(name.as_str())?;
-        }
-        Ok(text)
+        let names = ghost_names(alloc, self.names.as_slice())?;
+        wrapped(alloc, names.as_slice(), " ", "")?.join(alloc, "")
     }
 
     /// Its fields in the list of variants, in a ghost member.
-    ///
-    /// # Errors
-    ///
-    /// Returns [`AllocError`] if memory runs out.
     pub fn ghost_parts(&self, alloc: Global) -> Result<String, AllocError> {
         let names = ghost_names(alloc, self.names.as_slice())?;
         let leaves = match self.kind {
-            Kind::Nothing | Kind::Bare => return String::from_str(alloc, "_"),
-            Kind::One(_) | Kind::Inner(_) => names,
-            _ => wrapped(alloc, names.as_slice(), "record { 0 = ", " }")?,
+            Kind::Nothing => return String::from_str(alloc, "_"),
+            Kind::One(_) => tree(alloc, names.as_slice())?,
+            _ => tree_of(alloc, names.as_slice(), "record { 0 = ", " }")?,
         };
-        let leaves = tree(alloc, ListKind::Tuple, leaves.as_slice())?.line(alloc)?;
         format!(in alloc; "record {{ 0 = {leaves} }}")
     }
 
     /// The proof in a ghost member that no two of its fields, with the tag, have the same name.
     pub fn ghost_named(&self) -> &'static str {
-        match self.kind {
-            Kind::Named | Kind::Inner(_) | Kind::Behind => "(refl, refl)",
+        match (&self.kind, self.is_tagged) {
+            (Kind::Named, _) | (Kind::One(_), true) => "(refl, refl)",
             _ => "_",
         }
     }
 
     /// The call that writes the variant at this index.
-    ///
-    /// # Errors
-    ///
-    /// Returns [`AllocError`] if memory runs out.
-    pub fn write_call(&self, alloc: Global, index: usize) -> Result<Code, AllocError> {
-        let Case { name, of, kind, .. } = self;
-        let open = match kind {
-            Kind::Nothing => format!(in alloc; "write_unit::<{of}, S>(")?,
-            Kind::One(ty) => format!(in alloc; "write_one::<{of}, {ty}, S>(")?,
-            Kind::Several(_) => format!(in alloc; "write_several::<{of}, _, S>(")?,
-            Kind::Named => format!(in alloc; "write_struct::<{of}, {name}Fields, _, S>(")?,
-            Kind::Bare => format!(in alloc; "write_tagged_unit::<{of}, S>(")?,
-            Kind::Inner(ty) => format!(in alloc; "write_tagged_inner::<{of}, {ty}, _, S>(")?,
-            Kind::Behind => {
-                format!(in alloc; "write_tagged_struct::<{of}, {name}Fields, _, S>(")?
-            }
-        };
-        let serializer = Code::text(alloc, "serializer")?;
-        self.call(alloc, open.as_str(), vec![in alloc; serializer]?, index)
+    pub fn write_call(&self, alloc: Global, index: usize) -> Result<String, AllocError> {
+        let (function, _) = self.functions();
+        let types = self.type_arguments(alloc)?;
+        let refs = self.refs.as_str();
+        format!(in alloc; "{function}::<{types}, S>(serializer, {index}{refs})")
     }
 
     /// The call by which the variant at this index conforms.
-    ///
-    /// # Errors
-    ///
-    /// Returns [`AllocError`] if memory runs out.
-    pub fn conform_call(&self, alloc: Global, index: usize) -> Result<Code, AllocError> {
-        let Case { name, of, kind, .. } = self;
-        let open = match kind {
-            Kind::Nothing => format!(in alloc; "unit_conforms::<{of}>(")?,
-            Kind::One(ty) => format!(in alloc; "one_conforms::<{of}, {ty}>(")?,
-            Kind::Several(_) => format!(in alloc; "several_conform::<{of}, _>(")?,
-            Kind::Named => format!(in alloc; "named_conform::<{of}, {name}Fields, _>(")?,
-            Kind::Bare => format!(in alloc; "tagged_unit_conforms::<{of}>(")?,
-            Kind::Inner(ty) => format!(in alloc; "tagged_inner_conforms::<{of}, {ty}, _>(")?,
-            Kind::Behind => {
-                format!(in alloc; "tagged_struct_conforms::<{of}, {name}Fields, _>(")?
-            }
-        };
-        self.call(alloc, open.as_str(), Vec::new(alloc), index)
+    pub fn conform_call(&self, alloc: Global, index: usize) -> Result<String, AllocError> {
+        let (_, function) = self.functions();
+        let types = self.type_arguments(alloc)?;
+        let refs = self.refs.as_str();
+        format!(in alloc; "{function}::<{types}>({index}{refs})")
     }
 
-    // A call whose last arguments are the index and what is written of the fields.
-    fn call(
-        &self,
-        alloc: Global,
-        open: &str,
-        first: Vec<Code>,
-        index: usize,
-    ) -> Result<Code, AllocError> {
-        let mut arguments = first;
-        arguments.push(Code::Text(format!(in alloc; "{index}")?))?;
-        let refs = tree(alloc, ListKind::Tuple, self.refs.as_slice())?;
-        match self.kind {
-            Kind::Nothing | Kind::Bare => {}
-            Kind::One(_) => arguments.push(refs)?,
-            _ => arguments.push(refs.borrowed(alloc)?)?,
+    // The names of these two calls.
+    fn functions(&self) -> (&'static str, &'static str) {
+        match (&self.kind, self.is_tagged) {
+            (Kind::Nothing, false) => ("write_unit", "unit_conforms"),
+            (Kind::Nothing, true) => ("write_tagged_unit", "tagged_unit_conforms"),
+            (Kind::One(_), false) => ("write_one", "one_conforms"),
+            (Kind::One(_), true) => ("write_tagged_inner", "tagged_inner_conforms"),
+            (Kind::Several(_), _) => ("write_several", "several_conform"),
+            (Kind::Named, false) => ("write_struct", "named_conform"),
+            (Kind::Named, true) => ("write_tagged_struct", "tagged_struct_conforms"),
         }
-        Code::list(alloc, ListKind::Arguments, open, arguments)
+    }
+
+    // The type arguments that both have.
+    fn type_arguments(&self, alloc: Global) -> Result<String, AllocError> {
+        let Case { name, of, .. } = self;
+        match &self.kind {
+            Kind::Nothing => of.clone(),
+            Kind::One(ty) if self.is_tagged => format!(in alloc; "{of}, {ty}, _"),
+            Kind::One(ty) => format!(in alloc; "{of}, {ty}"),
+            Kind::Several(_) => format!(in alloc; "{of}, _"),
+            Kind::Named => format!(in alloc; "{of}, {name}Fields, _"),
+        }
     }
 }
 

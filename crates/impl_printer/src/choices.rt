@@ -1,97 +1,42 @@
 use crate::branch::{choice_type, ghost_branch, ghost_named, pattern_branch};
 use crate::case::{Case, cases};
-use crate::shared::{
-    Heading, codes, name_functions, names_function, print_deserialize, print_serialize,
-    print_shaped, variant_names,
-};
-use crate::tree::{leaf_types, shown_names, tree};
-use code_layout::{ListKind, arm, binding_arm, signature};
-use declarations::{Contents, Field, Variant};
+use crate::heading::Heading;
+use crate::names::{codes, name_functions, names_function, shown_names, variant_names};
+use crate::traits::{BY_SHAPE, Traits, print_traits};
+use crate::tree::type_tree;
+use declarations::{Contents, Declaration, Field, Variant};
 use std::alloc::{AllocError, Global};
 use std::fmt::Write;
 
-/// Prints the impls of an enum of which some variant has contents. The imports name its variants by
-/// the alias.
-///
-/// # Errors
-///
-/// Returns [`AllocError`] if memory runs out.
+// The width past which the body of an arm is between braces.
+const WIDTH: usize = 100;
+
+/// Prints the impls of an enum of which some variant has contents, or with this tag. The structs in
+/// the newtype variants behind a tag are among the declarations, and the imports name the variants
+/// by the alias.
 pub fn print_choices(
     alloc: Global,
     out: &mut String,
-    about: &Heading,
+    heading: &Heading,
+    tag: Option<&str>,
     variants: &[Variant],
+    declarations: &[Declaration],
     alias: &str,
 ) -> Result<(), AllocError> {
-    let name = about.name.as_str();
-    print_fields(alloc, out, name, variants)?;
-    let cases = cases(alloc, name, variants)?;
-    let cases = cases.as_slice();
-    print_variant_list(alloc, out, name, cases)?;
-    print_description(alloc, out, about, variants, cases, alias)?;
-    print_traits(alloc, out, about, cases)
-}
-
-// Prints the type of the list of the variants.
-pub(crate) fn print_variant_list(
-    alloc: Global,
-    out: &mut String,
-    name: &str,
-    cases: &[Case],
-) -> Result<(), AllocError> {
-    let before = format!(in alloc; "type {name}Variants = ")?;
-    let list = choice_type(alloc, cases)?;
-    let list = list.laid_out(alloc, "", before.as_str(), ";")?;
-    writeln!(out, "{before}{list};\n")
-}
-
-fn print_traits(
-    alloc: Global,
-    out: &mut String,
-    about: &Heading,
-    cases: &[Case],
-) -> Result<(), AllocError> {
-    let name = about.name.as_str();
-    print_serialize(
-        alloc,
-        out,
-        about,
-        &format!(in alloc; "enum_tells ⟦<{name} as Enumeration>⟧.about")?,
-        "",
-        &write_match(alloc, cases)?,
-    )?;
-    print_deserialize(
-        alloc,
-        out,
-        about,
-        &format!(in alloc; "enum_reads ⟦<{name} as Enumeration>⟧.about")?,
-        "read_enum(alloc, deserializer)",
-    )?;
-    let conforms = conform_match(alloc, cases)?;
-    let named = ghost_named(alloc, cases)?;
-    print_shaped(
-        alloc,
-        out,
-        about,
-        &format!(in alloc; "about_enum ⟦<{name} as Enumeration>⟧.about {named}")?,
-        "λ _ _ h. h",
-        &format!(in alloc; "\n        {conforms}\n    ")?,
-    )
-}
-
-// Prints the lists of the fields of those variants whose fields have names.
-pub(crate) fn print_fields(
-    alloc: Global,
-    out: &mut String,
-    of: &str,
-    variants: &[Variant],
-) -> Result<(), AllocError> {
+    let name = heading.name.as_str();
     for variant in variants {
         if let Contents::Named(fields) = &variant.contents {
-            print_named_fields(alloc, out, of, variant.name.as_str(), fields.as_slice())?;
+            print_named_fields(alloc, out, name, variant.name.as_str(), fields.as_slice())?;
         }
     }
-    Ok(())
+    let cases = cases(alloc, name, variants, tag.map(|_| declarations))?;
+    let cases = cases.as_slice();
+    let list = choice_type(alloc, cases)?;
+    writeln!(out, "\ntype {name}Variants = {list};")?;
+    let names = variant_names(alloc, variants)?;
+    print_description(alloc, out, heading, tag, names.as_slice(), cases, alias)?;
+    let traits = traits(alloc, name, tag.is_some(), cases)?;
+    print_traits(alloc, out, heading, &traits)
 }
 
 // Prints the list of the fields of a variant.
@@ -102,89 +47,78 @@ fn print_named_fields(
     variant: &str,
     fields: &[Field],
 ) -> Result<(), AllocError> {
-    let types = tree(
-        alloc,
-        ListKind::TupleType,
-        leaf_types(alloc, fields)?.as_slice(),
-    )?;
-    let types = types.laid_out(alloc, "    ", "    type Fields = ", ";")?;
+    let types = type_tree(alloc, fields)?;
     let shown = shown_names(alloc, fields)?;
     let codes = codes(alloc, shown.as_slice())?;
     let names_function = names_function(alloc, shown.as_slice())?;
     writeln!(
         out,
-        "/// The fields of [`{of}::{variant}`].
+        "
+/// The fields of [`{of}::{variant}`].
 pub struct {variant}Fields;
 
 impl NamedFields for {variant}Fields {{
     type Fields = {types};
-
     ghost names = {{ {codes} }};
-
     ghost named = {{ (refl, refl) }};
-
 {names_function}
-}}
-"
+}}"
     )
 }
 
+// Prints the impl that describes the enum, by the names of the variants.
 fn print_description(
     alloc: Global,
     out: &mut String,
-    about: &Heading,
-    variants: &[Variant],
+    heading: &Heading,
+    tag: Option<&str>,
+    names: &[String],
     cases: &[Case],
     alias: &str,
 ) -> Result<(), AllocError> {
-    let Heading { name, shown, .. } = about;
-    let names = variant_names(alloc, variants)?;
-    let codes = codes(alloc, names.as_slice())?;
-    let name_functions = name_functions(alloc, "enum", shown.as_str())?;
-    let names_function = names_function(alloc, names.as_slice())?;
-    let parts = parts(alloc, cases, alias)?;
-    writeln!(
-        out,
-        "impl Enumeration for {name} {{
+    let Heading { name, shown, .. } = heading;
+    let codes = codes(alloc, names)?;
+    let is = parts(alloc, cases, alias)?;
+    let head = match tag {
+        None => format!(in alloc;
+            "impl Enumeration for {name} {{
     type Variants = {name}Variants;
-
     ghost about = {{ enum_of (codes \"{shown}\") ({codes}) (elim [
-{parts}    ]) ⟦<{name}Variants as VariantList>⟧.about }};
-
-    ghost named = {{ (refl, refl) }};
-
-{name_functions}
-
-{names_function}
-"
-    )?;
-    print_make(alloc, out, name, cases)
-}
-
-// Prints the function that makes a value of a variant in the list, which is the last of the
-// description.
-pub(crate) fn print_make(
-    alloc: Global,
-    out: &mut String,
-    name: &str,
-    cases: &[Case],
-) -> Result<(), AllocError> {
-    let variant = format!(in alloc; "variant: {name}Variants")?;
-    let make = signature(alloc, "fn make(", &[variant.as_str()], name)?;
+{is}    ]) ⟦<{name}Variants as VariantList>⟧.about }};
+    ghost named = {{ (refl, refl) }};"
+        )?,
+        Some(tag) => format!(in alloc;
+            "impl TaggedEnum for {name} {{
+    type Variants = {name}Variants;
+    ghost about = {{ tagged_of (codes \"{tag}\") (codes \"{shown}\") ({codes}) (elim [
+{is}    ]) ⟦<{name}Variants as TaggedList>⟧.about }};
+    fn tag() -> &'static str {{ \"{tag}\" }}"
+        )?,
+    };
+    let keyword = if tag.is_some() {
+        "internally tagged enum"
+    } else {
+        "enum"
+    };
+    let name_functions = name_functions(alloc, keyword, shown.as_str())?;
+    let names_function = names_function(alloc, names)?;
     let arms = make_arms(alloc, cases)?;
     writeln!(
         out,
-        "{make}
+        "
+{head}
+{name_functions}
+{names_function}
+    fn make(variant: {name}Variants) -> {name} {{
         match variant {{
 {arms}        }}
     }}
-}}
-"
+}}"
     )
 }
 
 // The cases of what a value is in the list of variants.
-pub(crate) fn parts(alloc: Global, cases: &[Case], alias: &str) -> Result<String, AllocError> {
+fn parts(alloc: Global, cases: &[Case], alias: &str) -> Result<String, AllocError> {
     let mut lines = String::new(alloc);
     for (index, case) in cases.iter().enumerate() {
         let name = case.name.as_str();
@@ -200,35 +134,69 @@ fn make_arms(alloc: Global, cases: &[Case]) -> Result<String, AllocError> {
     let mut arms = String::new(alloc);
     for (index, case) in cases.iter().enumerate() {
         let (listed, fields) = case.listed(alloc)?;
-        let pattern = pattern_branch(alloc, index, cases.len(), listed)?;
-        let value = case.value(alloc)?;
-        let arm = match fields {
-            Some(fields) => binding_arm(alloc, &pattern, &fields, &value)?,
-            None => arm(alloc, &pattern, &value)?,
-        };
-        arms.push_str(arm.as_str())?;
+        let pattern = pattern_branch(alloc, index, cases.len(), listed.as_str())?;
+        let value = case.of_fields(alloc)?;
+        match fields {
+            Some(fields) => writeln!(
+                arms,
+                "            {pattern} => {{ let {fields} = fields; {value} }}"
+            )?,
+            None => print_arm(alloc, &mut arms, pattern.as_str(), value.as_str())?,
+        }
     }
     Ok(arms)
 }
 
-// The match that writes a value.
-pub(crate) fn write_match(alloc: Global, cases: &[Case]) -> Result<String, AllocError> {
-    let mut text = String::from_str(alloc, "match self {\n")?;
-    for (index, case) in cases.iter().enumerate() {
-        let call = case.write_call(alloc, index)?;
-        text.push_str(arm(alloc, &case.pattern(alloc)?, &call)?.as_str())?;
+// Prints an arm of a match. A wide body is between braces, which `rt fmt` leaves as they are.
+fn print_arm(alloc: Global, out: &mut String, pattern: &str, body: &str) -> Result<(), AllocError> {
+    let line = format!(in alloc; "            {pattern} => {body},")?;
+    if line.chars().count() <= WIDTH {
+        writeln!(out, "{line}")
+    } else {
+        writeln!(out, "            {pattern} => {{ {body} }}")
     }
-    text.push_str("        }")?;
-    Ok(text)
 }
 
-// The match by which a value conforms.
-pub(crate) fn conform_match(alloc: Global, cases: &[Case]) -> Result<String, AllocError> {
-    let mut text = String::from_str(alloc, "match self {\n")?;
+fn traits(
+    alloc: Global,
+    name: &str,
+    is_tagged: bool,
+    cases: &[Case],
+) -> Result<Traits, AllocError> {
+    let mut write = String::from_str(alloc, "match self {\n")?;
+    let mut conforms = String::from_str(alloc, "match self {\n")?;
     for (index, case) in cases.iter().enumerate() {
-        let call = case.conform_call(alloc, index)?;
-        text.push_str(arm(alloc, &case.pattern(alloc)?, &call)?.as_str())?;
+        let pattern = case.of_fields(alloc)?;
+        let written = case.write_call(alloc, index)?;
+        print_arm(alloc, &mut write, pattern.as_str(), written.as_str())?;
+        let conform = case.conform_call(alloc, index)?;
+        print_arm(alloc, &mut conforms, pattern.as_str(), conform.as_str())?;
     }
-    text.push_str("        }")?;
-    Ok(text)
+    write.push_str("        }")?;
+    conforms.push_str("        }")?;
+    let named = ghost_named(alloc, cases)?;
+    let (kind, described, named) = if is_tagged {
+        let described = format!(in alloc; "⟦<{name} as TaggedEnum>⟧.about")?;
+        (
+            "tagged",
+            described,
+            format!(in alloc; "(refl, refl, {named})")?,
+        )
+    } else {
+        (
+            "enum",
+            format!(in alloc; "⟦<{name} as Enumeration>⟧.about")?,
+            named,
+        )
+    };
+    Ok(Traits {
+        tells: format!(in alloc; "{kind}_tells {described}")?,
+        wants: String::new(alloc),
+        write,
+        reads: format!(in alloc; "{kind}_reads {described}")?,
+        read: format!(in alloc; "read_{kind}(alloc, deserializer)")?,
+        about: format!(in alloc; "about_{kind} {described} {named}")?,
+        by_shape: String::from_str(alloc, BY_SHAPE)?,
+        conforms,
+    })
 }

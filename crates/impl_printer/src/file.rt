@@ -1,7 +1,6 @@
 use crate::impls::print_impls;
-use crate::imports::{add_mentioned, mentioned, print_ghost_imports};
+use crate::imports::Words;
 use crate::module_path::ModulePath;
-use crate::uses::Uses;
 use declarations::{Body, Declaration, Failure, Import, Module, RenameRule};
 use std::alloc::{AllocError, Global};
 use std::fmt::Write;
@@ -50,24 +49,23 @@ fn print_imports(
     declarations: &[Declaration],
     own: Option<&[Import]>,
 ) -> Result<(), Failure> {
-    let found = mentioned(declarations);
-    if !path.is_given && (found.units || found.choices || found.tagged) {
+    if !path.is_given && declarations.iter().any(|it| it.body.is_enum()) {
         out.push_str(
             "// Write the crate and the module of the enums for my_crate and my_module below.\n",
         )?;
     }
-    print_ghost_imports(alloc, out, &found)?;
+    let words = Words::of(alloc, declarations)?;
+    words.print_definitions(alloc, out)?;
     for declaration in declarations {
         print_enum_import(alloc, out, path, declarations, declaration)?;
     }
     out.push('\n')?;
-    let mut uses = Uses::new(alloc);
-    add_mentioned(alloc, &mut uses, &found)?;
+    let mut uses = words.uses(alloc)?;
     uses.refuse_taken(alloc, declarations)?;
     if let Some(imports) = own {
         uses.add_own(alloc, imports, declarations)?;
     }
-    Ok(uses.print(alloc, out)?)
+    Ok(uses.print(out)?)
 }
 
 fn print_all(
@@ -76,7 +74,6 @@ fn print_all(
     declarations: &[Declaration],
 ) -> Result<(), AllocError> {
     for declaration in declarations {
-        out.push('\n')?;
         let alias = alias(alloc, declarations, declaration)?;
         print_impls(alloc, out, declaration, declarations, alias.as_str())?;
     }

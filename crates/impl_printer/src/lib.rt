@@ -1,5 +1,8 @@
 //! Prints the implementations by which `dynamo_record` describes structs and enums, with their
-//! imports, in the layout of `rt fmt`.
+//! imports. Lists are on one line, however wide they are: `rt fmt` lays out what is printed.
+//!
+//! A function returns [`AllocError`](std::alloc::AllocError) if memory runs out, and has no other
+//! error unless it names one.
 #![tactic(auto)]
 
 mod branch;
@@ -7,14 +10,15 @@ mod case;
 mod choices;
 mod fields;
 mod file;
+mod heading;
 mod impls;
 mod imports;
 mod module_path;
+mod names;
 mod newtype;
 mod record;
 mod record_rules;
-mod shared;
-mod tagged;
+mod traits;
 mod tree;
 mod tuple_struct;
 mod unit_enum;

@@ -1,60 +1,62 @@
-use crate::fields::{conform_call, ghost_parts, make_function, print_field_list, write_call};
-use crate::record_rules::{has_rules, print_rules, reading_of};
-use crate::shared::{
-    Heading, codes, name_functions, names_function, print_deserialize, print_serialize,
-    print_shaped,
-};
-use crate::tree::{leaf_refs, leaf_types, names, shown_names};
-use code_layout::ListKind;
+use crate::fields::{ghost_parts, make_function, print_field_list};
+use crate::heading::Heading;
+use crate::names::{codes, name_functions, names, names_function, shown_names};
+use crate::record_rules::{has_rules, print_rules};
+use crate::traits::{BY_SHAPE, Traits, print_traits};
+use crate::tree::{ref_tree, type_tree};
 use declarations::Field;
 use std::alloc::{AllocError, Global};
 use std::fmt::Write;
 
 /// Prints the impls of a struct of named fields.
-///
-/// # Errors
-///
-/// Returns [`AllocError`] if memory runs out.
 pub fn print_record(
     alloc: Global,
     out: &mut String,
-    about: &Heading,
+    heading: &Heading,
     fields: &[Field],
 ) -> Result<(), AllocError> {
-    let ty = about.ty.as_str();
-    let types = leaf_types(alloc, fields)?;
-    let refs = leaf_refs(alloc, fields, "&self.")?;
-    print_field_list(alloc, out, about, types.as_slice())?;
-    print_description(alloc, out, about, fields)?;
-    let is_ruled = has_rules(about, fields);
+    print_field_list(out, heading, type_tree(alloc, fields)?.as_str())?;
+    print_description(alloc, out, heading, fields)?;
+    let is_ruled = has_rules(heading, fields);
     if is_ruled {
-        print_rules(alloc, out, about, fields)?;
+        print_rules(alloc, out, heading, fields)?;
     }
-    print_serialize(
-        alloc,
-        out,
-        about,
-        &format!(in alloc; "record_tells ⟦<{ty} as Record>⟧.about")?,
-        "",
-        &write_call(alloc, "write_record", ty, refs.as_slice())?,
-    )?;
-    let reading = reading_of(alloc, ty, is_ruled)?;
-    let body = reading.body.as_str();
-    print_deserialize(alloc, out, about, reading.reads.as_str(), body)?;
-    print_shaped(
-        alloc,
-        out,
-        about,
-        reading.about.as_str(),
-        "λ _ _ h. h",
-        &conform_call(alloc, "record_conforms", ty, refs.as_slice())?,
-    )
+    let refs = ref_tree(alloc, fields, "&self.")?;
+    let traits = traits(alloc, heading.ty.as_str(), refs.as_str(), is_ruled)?;
+    print_traits(alloc, out, heading, &traits)
+}
+
+// Those of a struct with rules for the names of entries, or without.
+fn traits(alloc: Global, ty: &str, refs: &str, is_ruled: bool) -> Result<Traits, AllocError> {
+    let described = format!(in alloc; "⟦<{ty} as Record>⟧.about")?;
+    let tells = format!(in alloc; "record_tells {described}")?;
+    let (reads, read, about, described) = if is_ruled {
+        let described = format!(in alloc; "⟦<{ty} as RecordRules>⟧.rules {described}")?;
+        (
+            "rules_reads",
+            "read_record_by_rules",
+            "about_by_rules",
+            described,
+        )
+    } else {
+        ("record_reads", "read_record", "about_record", described)
+    };
+    Ok(Traits {
+        tells,
+        wants: String::new(alloc),
+        write: format!(in alloc; "write_record::<{ty}, _, S>(serializer, &{refs})")?,
+        reads: format!(in alloc; "{reads} {described}")?,
+        read: format!(in alloc; "{read}(alloc, deserializer)")?,
+        about: format!(in alloc; "{about} {described} (refl, refl)")?,
+        by_shape: String::from_str(alloc, BY_SHAPE)?,
+        conforms: format!(in alloc; "record_conforms::<{ty}, _>(&{refs})")?,
+    })
 }
 
 fn print_description(
     alloc: Global,
     out: &mut String,
-    about: &Heading,
+    heading: &Heading,
     fields: &[Field],
 ) -> Result<(), AllocError> {
     let Heading {
@@ -62,48 +64,28 @@ fn print_description(
         shown,
         arguments,
         ..
-    } = about;
-    let head = about.impl_head(alloc, "Record")?;
+    } = heading;
+    let head = heading.head(alloc, "Record")?;
     let list = format!(in alloc; "{name}Fields{arguments}")?;
     let stored = shown_names(alloc, fields)?;
     let codes = codes(alloc, stored.as_slice())?;
     let names = names(alloc, fields)?;
     let parts = ghost_parts(alloc, names.as_slice())?;
-    writeln!(
-        out,
-        "{head}
-    type Fields = {list};
-
-    ghost about = {{ record_of (codes \"{shown}\") ({codes}) (λ s. {parts}) ⟦<{list} as FieldList>⟧.about }};
-
-    ghost named = {{ (refl, refl) }};
-"
-    )?;
-    print_functions(alloc, out, about, stored.as_slice(), names.as_slice())
-}
-
-// Prints the functions of the description, by the names of the fields, where they are stored and in
-// the struct, and the end of it.
-fn print_functions(
-    alloc: Global,
-    out: &mut String,
-    about: &Heading,
-    stored: &[String],
-    names: &[String],
-) -> Result<(), AllocError> {
-    let Heading { name, shown, .. } = about;
     let name_functions = name_functions(alloc, "struct", shown.as_str())?;
-    let names_function = names_function(alloc, stored)?;
-    let open = format!(in alloc; "{name} {{")?;
-    let make = make_function(alloc, about, names, ListKind::Fields, open.as_str())?;
+    let names_function = names_function(alloc, stored.as_slice())?;
+    let own = names.join(alloc, ", ")?;
+    let value = format!(in alloc; "{name} {{ {own} }}")?;
+    let make = make_function(alloc, heading, names.as_slice(), value.as_str())?;
     writeln!(
         out,
-        "{name_functions}
-
+        "
+{head}
+    type Fields = {list};
+    ghost about = {{ record_of (codes \"{shown}\") ({codes}) (λ s. {parts}) ⟦<{list} as FieldList>⟧.about }};
+    ghost named = {{ (refl, refl) }};
+{name_functions}
 {names_function}
-
 {make}
-}}
-"
+}}"
     )
 }

@@ -1,19 +1,14 @@
 ghost use Rattle.std.specs.Prelude.{◌≤◌, ◌<◌};
 
-use code_layout::{Code, ListKind};
 use declarations::{Field, Form, SetKind, StoredSet};
 use std::alloc::{AllocError, Global};
 
 /// The list of these fields, as `dynamo_record` groups them: one is alone, and more are a pair,
 /// four or eight groups, of which the first are the larger.
-///
-/// # Errors
-///
-/// Returns [`AllocError`] if memory runs out.
-pub fn tree(alloc: Global, kind: ListKind, leaves: &[String]) -> Result<Code, AllocError> {
+pub fn tree(alloc: Global, leaves: &[String]) -> Result<String, AllocError> {
     let groups = match leaves {
-        [] => return Code::text(alloc, ""),
-        [leaf] => return Code::text(alloc, leaf.as_str()),
+        [] => return Ok(String::new(alloc)),
+        [leaf] => return leaf.clone(),
         _ if leaves.len() < 4 => 2,
         _ if leaves.len() < 8 => 4,
         _ => 8,
@@ -22,10 +17,11 @@ pub fn tree(alloc: Global, kind: ListKind, leaves: &[String]) -> Result<Code, Al
     let mut rest = leaves;
     for done in 0..groups {
         let (group, after) = rest.split_at(share(rest.len(), groups - done));
-        items.push(tree(alloc, kind, group)?)?;
+        items.push(tree(alloc, group)?)?;
         rest = after;
     }
-    Code::list(alloc, kind, "(", items)
+    let items = items.join(alloc, ", ")?;
+    format!(in alloc; "({items})")
 }
 
 // How many leaves the first of so many groups has.
@@ -38,11 +34,17 @@ fn share(leaves: usize, groups: usize) -> usize
     leaves.div_ceil(groups)
 }
 
+/// The list of these fields, each between these two texts.
+pub fn tree_of(
+    alloc: Global,
+    texts: &[String],
+    before: &str,
+    after: &str,
+) -> Result<String, AllocError> {
+    tree(alloc, wrapped(alloc, texts, before, after)?.as_slice())
+}
+
 /// Each text between these two.
-///
-/// # Errors
-///
-/// Returns [`AllocError`] if memory runs out.
 pub fn wrapped(
     alloc: Global,
     texts: &[String],
@@ -56,94 +58,61 @@ pub fn wrapped(
     Ok(found)
 }
 
-/// What so many fields without names are called: the letters, from `a` on.
-///
-/// # Errors
-///
-/// Returns [`AllocError`] if memory runs out.
-pub fn letters(alloc: Global, count: usize) -> Result<Vec<String>, AllocError> {
-    let mut found = Vec::new(alloc);
-    for letter in ('a'..='z').take(count) {
-        let mut text = String::new(alloc);
-        text.push(letter)?;
-        found.push(text)?;
-    }
-    Ok(found)
-}
-
-/// What so many fields without names are called in a value: by their places, from 0 on.
-///
-/// # Errors
-///
-/// Returns [`AllocError`] if memory runs out.
-pub fn places(alloc: Global, count: usize) -> Result<Vec<String>, AllocError> {
-    let mut found = Vec::new(alloc);
-    for place in 0..count {
-        found.push(format!(in alloc; "{place}")?)?;
-    }
-    Ok(found)
-}
-
-/// The names of the fields.
-///
-/// # Errors
-///
-/// Returns [`AllocError`] if memory runs out.
-pub fn names(alloc: Global, fields: &[Field]) -> Result<Vec<String>, AllocError> {
-    let mut found = Vec::new(alloc);
+/// The list of the types of the fields.
+pub fn type_tree(alloc: Global, fields: &[Field]) -> Result<String, AllocError> {
+    let mut leaves = Vec::new(alloc);
     for field in fields {
-        found.push(field.name.clone()?)?;
+        leaves.push(leaf_type(alloc, field)?)?;
     }
-    Ok(found)
+    tree(alloc, leaves.as_slice())
 }
 
-/// The names that the fields are written under.
-///
-/// # Errors
-///
-/// Returns [`AllocError`] if memory runs out.
-pub fn shown_names(alloc: Global, fields: &[Field]) -> Result<Vec<String>, AllocError> {
-    let mut found = Vec::new(alloc);
+fn leaf_type(alloc: Global, field: &Field) -> Result<String, AllocError> {
+    let of = match set_of(field.form) {
+        Some(set) => {
+            let prefix = if set.is_rust_set { "As" } else { "In" };
+            let (name, member) = (set_name(set), field.of.as_str());
+            format!(in alloc; "{prefix}{name}<{member}>")?
+        }
+        None => field.of.clone()?,
+    };
+    match field.form {
+        Form::Plain | Form::Set(_) => format!(in alloc; "Field<{of}>"),
+        Form::Defaulted | Form::DefaultedSet(_) => format!(in alloc; "Field<WithDefault<{of}>>"),
+        Form::Omitted | Form::OmittedSet(_) => format!(in alloc; "Field<Omitted<{of}>>"),
+    }
+}
+
+/// The list of what is written of the fields, each of which is borrowed by its name after this.
+pub fn ref_tree(alloc: Global, fields: &[Field], before: &str) -> Result<String, AllocError> {
+    let mut leaves = Vec::new(alloc);
     for field in fields {
-        found.push(field.shown.clone()?)?;
+        leaves.push(leaf_ref(alloc, field, before)?)?;
     }
-    Ok(found)
+    tree(alloc, leaves.as_slice())
 }
 
-/// The types of the fields in the list.
-///
-/// # Errors
-///
-/// Returns [`AllocError`] if memory runs out.
-pub fn leaf_types(alloc: Global, fields: &[Field]) -> Result<Vec<String>, AllocError> {
-    let mut found = Vec::new(alloc);
-    for field in fields {
-        let of = field.of.as_str();
-        found.push(match field.form {
-            Form::Plain => format!(in alloc; "Field<{of}>")?,
-            Form::Defaulted => format!(in alloc; "Field<WithDefault<{of}>>")?,
-            Form::Omitted => format!(in alloc; "Field<Omitted<{of}>>")?,
-            Form::Set(set) => {
-                let (before, name) = (set_prefix(set), set_name(set));
-                format!(in alloc; "Field<{before}{name}<{of}>>")?
-            }
-            Form::DefaultedSet(set) => {
-                let (before, name) = (set_prefix(set), set_name(set));
-                format!(in alloc; "Field<WithDefault<{before}{name}<{of}>>>")?
-            }
-            Form::OmittedSet(set) => {
-                let (before, name) = (set_prefix(set), set_name(set));
-                format!(in alloc; "Field<Omitted<{before}{name}<{of}>>>")?
-            }
-        })?;
+fn leaf_ref(alloc: Global, field: &Field, before: &str) -> Result<String, AllocError> {
+    let name = field.name.as_str();
+    let value = match set_of(field.form) {
+        Some(set) => {
+            let wrapper = set_name(set);
+            format!(in alloc; "{wrapper}({before}{name})")?
+        }
+        None => format!(in alloc; "{before}{name}")?,
+    };
+    match field.form {
+        Form::Omitted | Form::OmittedSet(_) => format!(in alloc; "OmittedRef({value})"),
+        _ => Ok(value),
     }
-    Ok(found)
 }
 
-// What the name of the field's type begins with: that of a list in a set differs from that of a set
-// of Rust.
-fn set_prefix(set: StoredSet) -> &'static str {
-    if set.is_rust_set { "As" } else { "In" }
+/// The set as which a field of this form is stored.
+pub fn set_of(form: Form) -> Option<StoredSet> {
+    match form {
+        Form::Set(set) | Form::DefaultedSet(set) | Form::OmittedSet(set) => Some(set),
+        _ => None,
+    }
 }
 
 // The name of the type that a value is written by as such a set.
@@ -153,29 +122,4 @@ fn set_name(set: StoredSet) -> &'static str {
         SetKind::Numbers => "NumberSet",
         SetKind::Binaries => "BinarySet",
     }
-}
-
-/// What is written of the fields, each of which is borrowed by its name after this.
-///
-/// # Errors
-///
-/// Returns [`AllocError`] if memory runs out.
-pub fn leaf_refs(alloc: Global, fields: &[Field], before: &str) -> Result<Vec<String>, AllocError> {
-    let mut found = Vec::new(alloc);
-    for field in fields {
-        let name = field.name.as_str();
-        found.push(match field.form {
-            Form::Plain | Form::Defaulted => format!(in alloc; "{before}{name}")?,
-            Form::Omitted => format!(in alloc; "OmittedRef({before}{name})")?,
-            Form::Set(set) | Form::DefaultedSet(set) => {
-                let wrapper = set_name(set);
-                format!(in alloc; "{wrapper}({before}{name})")?
-            }
-            Form::OmittedSet(set) => {
-                let wrapper = set_name(set);
-                format!(in alloc; "OmittedRef({wrapper}({before}{name}))")?
-            }
-        })?;
-    }
-    Ok(found)
 }

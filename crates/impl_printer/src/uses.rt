@@ -1,12 +1,8 @@
 //! The `use` lines of types, traits and functions.
-use code_layout::filled;
 use declarations::{Body, Contents, Declaration, Failure, Field, Import, Reason};
 use std::alloc::{AllocError, Global};
 use std::fmt::Write;
 use std::iter::once;
-
-// The width past which an import is printed on several lines.
-const WIDTH: usize = 98;
 
 // The types of the library and of `std` that a field may have and that need an import.
 const KNOWN: [(&str, &str); 5] = [
@@ -35,10 +31,6 @@ impl Uses {
     }
 
     /// Adds a name of a path.
-    ///
-    /// # Errors
-    ///
-    /// Out of memory, as with the calls below.
     pub fn add(&mut self, alloc: Global, path: &str, name: &str) -> Result<(), AllocError> {
         let import = Import {
             path: String::from_str(alloc, path)?,
@@ -47,31 +39,8 @@ impl Uses {
         Ok(self.found.push(import)?)
     }
 
-    /// Adds the names of a path that are marked.
-    ///
-    /// # Errors
-    ///
-    /// Returns [`AllocError`] if memory runs out.
-    pub fn add_wanted(
-        &mut self,
-        alloc: Global,
-        path: &str,
-        names: &[(&str, bool)],
-    ) -> Result<(), AllocError> {
-        for (name, is_wanted) in names {
-            if *is_wanted {
-                self.add(alloc, path, name)?;
-            }
-        }
-        Ok(())
-    }
-
     /// Adds what a file of declarations imports, and the known types that its fields have, if they
     /// aren't other types there.
-    ///
-    /// # Errors
-    ///
-    /// Returns [`AllocError`] if memory runs out.
     pub fn add_own(
         &mut self,
         alloc: Global,
@@ -113,70 +82,19 @@ impl Uses {
         METHOD_PARAMETERS.contains(&name) || self.found.iter().any(|it| it.name.as_str() == name)
     }
 
-    /// Prints the imports, a line or more for each path.
-    ///
-    /// # Errors
-    ///
-    /// Returns [`AllocError`] if memory runs out.
-    pub fn print(mut self, alloc: Global, out: &mut String) -> Result<(), AllocError> {
+    /// Prints the imports, each on a line. `rt fmt` joins those of a path.
+    pub fn print(mut self, out: &mut String) -> Result<(), AllocError> {
         self.found.sort_unstable();
         self.found.dedup();
-        let mut lines = Vec::new(alloc);
-        let mut names = Vec::new(alloc);
-        let mut path = String::new(alloc);
-        for import in self.found {
-            let Import { path: next, name } = import;
-            if next != path && !names.is_empty() {
-                lines.push(use_line(alloc, path.as_str(), names.as_slice())?)?;
-                names = Vec::new(alloc);
+        for Import { path, name } in self.found {
+            if path.is_empty() {
+                writeln!(out, "use {name};")?;
+            } else {
+                writeln!(out, "use {path}::{{{name}}};")?;
             }
-            path = next;
-            names.push(name)?;
-        }
-        if !names.is_empty() {
-            lines.push(use_line(alloc, path.as_str(), names.as_slice())?)?;
-        }
-        lines.sort_unstable();
-        for line in lines {
-            writeln!(out, "{line}")?;
         }
         Ok(())
     }
-}
-
-fn use_line(alloc: Global, path: &str, names: &[String]) -> Result<String, AllocError> {
-    let separator = if path.is_empty() { "" } else { "::" };
-    if let [name] = names
-        && !is_self(name.as_str())
-    {
-        return format!(in alloc; "use {path}{separator}{name};");
-    }
-    let names = self_first(alloc, names)?;
-    let line = names.join(alloc, ", ")?;
-    let line = format!(in alloc; "use {path}{separator}{{{line}}};")?;
-    if line.len() <= WIDTH {
-        return Ok(line);
-    }
-    let lines = filled(alloc, "    ", names.as_slice())?;
-    format!(in alloc; "use {path}{separator}{{\n{lines}}};")
-}
-
-// Whether it is the module of a path itself, perhaps by another name.
-fn is_self(name: &str) -> bool {
-    name == "self" || name.starts_with("self as ")
-}
-
-// The names with `self` before the others.
-fn self_first(alloc: Global, names: &[String]) -> Result<Vec<String>, AllocError> {
-    let mut found = Vec::new(alloc);
-    for comes_first in [true, false] {
-        for name in names {
-            if is_self(name.as_str()) == comes_first {
-                found.push(name.clone()?)?;
-            }
-        }
-    }
-    Ok(found)
 }
 
 // Whether a field of the declaration has a type with this name.
