@@ -6,7 +6,7 @@ use Rattle.dynamo_value.specs.Fault.{Fault}
 use Rattle.dynamo_value.specs.declared.item.Item.{Item}
 use Rattle.table_keys.specs.declared.key.Key.{Key}
 use Rattle.table_keys.specs.Queries.{seen}
-use Rattle.typed_table.specs.Stored.{ReadEach, RefusesOne}
+use Rattle.typed_table.specs.Stored.{ReadEach, RefusesFirst}
 
 module _ {T : Type 0} (Reads : Item → Result T Fault → Type 0) where
   -- what reading gives of the item of an entry
@@ -26,11 +26,14 @@ module _ {T : Type 0} (Reads : Item → Result T Fault → Type 0) where
       subst (λ (zs : List (Bor Key × Bor Item)). ReadEach Reads (seen zs) (vs ++ v ∷ [])) (sym (take_more es i p lt ∙ ap (λ z. take i es ++ z ∷ []) (sym at)))
       (one_more (take i es) vs p v h k)
 
-  -- the item at a place is refused
-  pub stops : (es : List (Bor Key × Bor Item)) (i : ℕ) (p : Bor Key × Bor Item) (f : Fault) → i < length es → p ≡ get_or es i p → Gives p (Err f) → RefusesOne Reads f (seen es)
-  stops [] i p f lt at h = absurd (omega (arith, lt))
-  stops (e ∷ es) zero p f lt at h = inl (subst (λ q. Gives q (Err f)) at h)
-  stops (e ∷ es) (suc i) p f lt at h = inr (stops es i p f (omega (arith, lt)) at h)
+  -- the item at a place is refused, and those before it read
+  pub stops : (es : List (Bor Key × Bor Item)) (i : ℕ) (p : Bor Key × Bor Item) (vs : List T) (f : Fault)
+      → i < length es → p ≡ get_or es i p → ReadEach Reads (seen (take i es)) vs → Gives p (Err f)
+      → RefusesFirst Reads f (seen es)
+  stops [] i p vs f lt at h k = absurd (omega (arith, lt))
+  stops (e ∷ es) zero p vs f lt at h k = inl (subst (λ q. Gives q (Err f)) at k)
+  stops (e ∷ es) (suc i) p [] f lt at h k = absurd h
+  stops (e ∷ es) (suc i) p (v ∷ vs) f lt at h k = inr (v, h.0, stops es i p vs f (omega (arith, lt)) at h.1 k)
 
   pub all_read : (es : List (Bor Key × Bor Item)) (i : ℕ) (vs : List T) → length es ≤ i → ReadEach Reads (seen (take i es)) vs → ReadEach Reads (seen es) vs
   all_read es i vs le h = subst (λ (zs : List (Bor Key × Bor Item)). ReadEach Reads (seen zs) vs) (take_all i es le) h

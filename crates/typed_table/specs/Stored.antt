@@ -74,16 +74,18 @@ ReadEach Reads (e ∷ es) (value ∷ values) = Reads e.1 (Ok value) × ReadEach 
 ReadEach Reads [] (value ∷ values) = ⊥
 ReadEach Reads (e ∷ es) [] = ⊥
 
--- one of the items is refused by this fault
-abbrev pub RefusesOne : {T : Type 0} → (Item → Result T Fault → Type 0) → Fault
+-- an item is refused by this fault, and all items before it read
+abbrev pub RefusesFirst : {T : Type 0} → (Item → Result T Fault → Type 0) → Fault
     → List (Key × Item) → Type 0
-RefusesOne Reads fault [] = ⊥
-RefusesOne Reads fault (e ∷ es) = Reads e.1 (Err fault) ⊎ RefusesOne Reads fault es
+RefusesFirst {T} Reads fault [] = ⊥
+RefusesFirst {T} Reads fault (e ∷ es) =
+    Reads e.1 (Err fault) ⊎ ((value : T) × Reads e.1 (Ok value) × RefusesFirst Reads fault es)
 
--- why a call that reads these items fails: one of them is refused, or memory is wanting
+-- why a call that reads these items fails: memory ran out, or one of them is refused and all before
+-- it read
 abbrev pub FailsToRead : {T : Type 0} → (Item → Result T Fault → Type 0) → List (Key × Item)
     → Error → Type 0
-FailsToRead Reads entries e = (fault_of e ≡ out_of_memory) ⊎ RefusesOne Reads (fault_of e) entries
+FailsToRead Reads entries e = (fault_of e ≡ out_of_memory) ⊎ RefusesFirst Reads (fault_of e) entries
 
 -- a page of a scan: the items behind a key, up to a limit
 abbrev pub page : ℕ → Option (Bor Key) → Table → List (Key × Item)

@@ -10,7 +10,7 @@ ghost use Rattle.dynamo_de.specs.Source.{attribute};
 ghost use Rattle.dynamo_write.specs.Written.{item_written};
 ghost use Rattle.dynamo_shape.specs.Clear.{Clear};
 ghost use Rattle.table_keys.specs.Queries.{seen};
-ghost use Rattle.typed_table.specs.Stored.{ReadEach, RefusesOne};
+ghost use Rattle.typed_table.specs.Stored.{ReadEach, RefusesFirst};
 ghost use Rattle.typed_table.specs.Written.{IsItemOf};
 
 use crate::AsItem;
@@ -74,10 +74,11 @@ pub fn value_from<T: Shaped>(alloc: Global, item: Item) -> Result<T>
 ///
 /// # Errors
 ///
-/// Returns the error of reading one of them, or `OutOfMemory` if memory runs out.
+/// Returns the error of reading the first of them that doesn't read, or `OutOfMemory` if memory runs
+/// out.
 pub(crate) fn values_of<T: AsItem>(alloc: Global, found: &[(&Key, &Item)]) -> Result<Vec<T>>
     ensures read { IfOk result (λ values. ReadEach T.reads_item (seen found.now) values.items) }
-    ensures err { IfErr result (λ e. (fault_of e ≡ out_of_memory) ⊎ RefusesOne T.reads_item (fault_of e) (seen found.now)) }
+    ensures err { IfErr result (λ e. (fault_of e ≡ out_of_memory) ⊎ RefusesFirst T.reads_item (fault_of e) (seen found.now)) }
 {
     let mut values = Vec::with_capacity(alloc, found.len())?;
     for (_, item) in found {

@@ -327,7 +327,7 @@ impl<T: AsItem + Keyed> TypedTable<T> {
     ///
     /// # Errors
     ///
-    /// Returns the error of reading one of the items.
+    /// Returns the error of reading the first of the items that doesn't read.
     ///
     /// Returns [`ErrorImpl::OutOfMemory`](dynamo_value::ErrorImpl::OutOfMemory) if memory runs out.
     pub fn query(&self, query: &Query<'_>) -> Result<Vec<T>>
@@ -369,7 +369,7 @@ impl<T: AsItem + Keyed> TypedTable<T> {
     ///
     /// # Errors
     ///
-    /// Returns the error of reading one of the items.
+    /// Returns the error of reading the first of the items that doesn't read.
     ///
     /// Returns [`ErrorImpl::OutOfMemory`](dynamo_value::ErrorImpl::OutOfMemory) if memory runs out.
     pub fn scan(&self, limit: usize, start_after: Option<&Key>) -> Result<Vec<T>>
@@ -410,7 +410,7 @@ impl<T: AsItem + Keyed> TypedTable<T> {
     ///
     /// # Errors
     ///
-    /// Returns the error of reading one of the items.
+    /// Returns the error of reading the first of the items that doesn't read.
     ///
     /// Returns [`ErrorImpl::OutOfMemory`](dynamo_value::ErrorImpl::OutOfMemory) if memory runs out.
     pub fn scan_all(&self) -> Result<Vec<T>>

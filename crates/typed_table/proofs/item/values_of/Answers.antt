@@ -9,7 +9,9 @@ returns-in_err-read_item-clause-err g c =
     let handed_on = err_from_is_err_and c.from_residual-in_err-read_item.result c.from_residual-in_err-read_item.ensures.1 in
     rw (handed_on.1, handed_on.2) (elim c.in_err-read_item.ensures.read [
       | inl lacks ↦ inl lacks
-      | inr refused ↦ inr (stops g.T.AsItem.reads_item c.args.found.now c.loop-item.item-index c.loop-item-item.result (fault_of c.in_err-read_item.field-0.0) c.loop-item-test.true c.loop-item-item.is refused)
+      | inr refused ↦ inr (stops g.T.AsItem.reads_item c.args.found.now c.loop-item.item-index
+          c.loop-item-item.result c.loop-item.values.items (fault_of c.in_err-read_item.field-0.0)
+          c.loop-item-test.true c.loop-item-item.is c.loop-item.invariant refused)
     ])
 
 pub loop-item-preserved : goal.loop-item-preserved
