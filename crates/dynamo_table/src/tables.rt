@@ -5,8 +5,8 @@ use sqlite::{Alter, Connection, params};
 use std::alloc::Global;
 use std::fmt::Write;
 use table_keys::KeySchema;
-use table_rows::{Definition, StoreError, count, make_tables, run};
-use table_store::TableStore;
+use table_store::rows::{Definition, count, make_tables, run};
+use table_store::{StoreError, TableStore};
 
 const NAMES: &str = "SELECT name FROM dynamo_table ORDER BY name";
 

@@ -1,2 +1,3 @@
-mod Keys
+mod Finds
 mod Kept
+mod Keys

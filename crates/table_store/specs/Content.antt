@@ -7,9 +7,8 @@ use Rattle.table_keys.specs.KeyOrder.{key_cmp}
 use Rattle.table_keys.specs.declared.error.TableError.{TableError}
 use Rattle.table_keys.specs.declared.key.Key.{Key}
 use Rattle.table_keys.specs.declared.schema.KeySchema.{KeySchema}
-use Rattle.table_rows.specs.Errors.{of_table}
-pub use Rattle.table_rows.specs.Found.{IsFound}
-use Rattle.table_rows.specs.declared.error.StoreError.{StoreError}
+use Rattle.table_store.specs.Errors.{of_table}
+use Rattle.table_store.specs.declared.error.StoreError.{StoreError}
 use Rattle.table_store.specs.declared.store.TableStore.{TableStore}
 
 abbrev pub schema_of : {S : Type 0} → TableStore S → KeySchema

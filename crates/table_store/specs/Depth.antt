@@ -10,8 +10,8 @@ use Rattle.table_keys.specs.KeyOf.{ReadsKey}
 use Rattle.table_keys.specs.declared.error.TableError.{TableError}
 use Rattle.table_keys.specs.declared.key.Key.{Key}
 use Rattle.table_keys.specs.declared.schema.KeySchema.{KeySchema}
-use Rattle.table_rows.specs.Errors.{of_table}
-use Rattle.table_rows.specs.declared.error.StoreError.{StoreError}
+use Rattle.table_store.specs.Errors.{of_table}
+use Rattle.table_store.specs.declared.error.StoreError.{StoreError}
 
 -- A list or a map takes one of the levels, and its parts nest within the others. Nothing else takes one.
 abbrev pub nests_step : AttributeValue-F (ℕ → Bool) → ℕ → Bool

@@ -1,2 +1,4 @@
 pub mod Content
 pub mod Depth
+pub mod Errors
+pub mod Found

@@ -2,12 +2,11 @@ ghost use Rattle.std.specs.Prelude.{◌≡◌, IfOk};
 ghost use Rattle.table_keys.specs.KeyOf.{words_of};
 ghost use Rattle.table_store.specs.Content.{schema_of};
 
-use crate::TableStore;
+use crate::{StoreError, TableStore};
 use sqlite::{Connection, File, FileStore, Files, MemStore, Options};
 use sqlite_disk::Memory;
 use std::alloc::Global;
 use table_keys::KeySchema;
-use table_rows::StoreError;
 
 /// Returns an empty table in a database in memory.
 ///

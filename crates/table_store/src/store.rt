@@ -3,14 +3,16 @@ ghost use Rattle.std.specs.Fn.{FnOnceReturnsAt};
 ghost use Rattle.table_keys.specs.KeyOf.{ReadsKey, words_of};
 ghost use Rattle.table_keys.specs.Conditions.{holds};
 ghost use Rattle.table_store.specs.Depth.{Checked, IsKept};
-ghost use Rattle.table_store.specs.Content.{FailsToChange, HasKey, HasThisKey, IsFound, KeepsKey, NeedsKey, schema_of};
+ghost use Rattle.table_store.specs.Content.{FailsToChange, HasKey, HasThisKey, KeepsKey, NeedsKey, schema_of};
+ghost use Rattle.table_store.specs.Found.{IsFound};
 
+use crate::StoreError;
 use crate::depth::is_kept;
+use crate::rows::{self, Definition, make_tables};
 use dynamo_value::Item;
 use sqlite::{Alter, Connection};
 use std::alloc::Global;
 use table_keys::{Bounds, Condition, Key, KeyBytes, KeySchema, Query, TableError, bytes_of};
-use table_rows::{Definition, StoreError, make_tables};
 
 /// A DynamoDB table in a SQLite database: items by their keys, in the order of the keys.
 ///
@@ -143,7 +145,7 @@ impl<S: Alter + Drop> TableStore<S> {
     pub fn count(&mut self) -> Result<u64, StoreError>
         ensures schema { schema_of self.new ≡ schema_of self.old }
     {
-        table_rows::count(&mut self.conn, self.table.id)
+        rows::count(&mut self.conn, self.table.id)
     }
 
     /// Returns the item under a key, or `None`.
@@ -158,7 +160,7 @@ impl<S: Alter + Drop> TableStore<S> {
         ensures schema { schema_of self.new ≡ schema_of self.old }
     {
         let key = KeyBytes::of(self.alloc, key)?;
-        table_rows::get(self.alloc, &mut self.conn, self.table.id, &key)
+        rows::get(self.alloc, &mut self.conn, self.table.id, &key)
     }
 
     /// Puts an item under its key, and returns the item that was there.
@@ -229,7 +231,7 @@ impl<S: Alter + Drop> TableStore<S> {
     {
         let key = self.table.schema.key_of(item)?;
         let bytes = KeyBytes::of(self.alloc, &key)?;
-        let before = table_rows::get(self.alloc, &mut self.conn, self.table.id, &bytes)?;
+        let before = rows::get(self.alloc, &mut self.conn, self.table.id, &bytes)?;
         if !condition.holds(before.is_some()) {
             return Err(StoreError::Key(TableError::ConditionFailed));
         }
@@ -259,11 +261,11 @@ impl<S: Alter + Drop> TableStore<S> {
         ensures schema { schema_of self.new ≡ schema_of self.old }
     {
         let key = KeyBytes::of(self.alloc, key)?;
-        let before = table_rows::get(self.alloc, &mut self.conn, self.table.id, &key)?;
+        let before = rows::get(self.alloc, &mut self.conn, self.table.id, &key)?;
         if !condition.holds(before.is_some()) {
             return Err(StoreError::Key(TableError::ConditionFailed));
         }
-        table_rows::delete(&mut self.conn, self.table.id, &key)?;
+        rows::delete(&mut self.conn, self.table.id, &key)?;
         Ok(before)
     }
 
@@ -331,7 +333,7 @@ impl<S: Alter + Drop> TableStore<S> {
             return Ok(Vec::new(self.alloc));
         };
         let partition = bytes_of(self.alloc, query.partition)?;
-        table_rows::find(
+        rows::find(
             self.alloc,
             &mut self.conn,
             &self.table,
@@ -357,7 +359,7 @@ impl<S: Alter + Drop> TableStore<S> {
             Some(key) => KeyBytes::of(self.alloc, key)?,
             None => KeyBytes::before_all(self.alloc),
         };
-        table_rows::page(self.alloc, &mut self.conn, self.table.id, &start, limit)
+        rows::page(self.alloc, &mut self.conn, self.table.id, &start, limit)
     }
 
     /// Puts each of these items under its key: all of them, or none if one fails.
@@ -371,11 +373,11 @@ impl<S: Alter + Drop> TableStore<S> {
         ensures kept { OnOk result (All IsKept items.now) }
         ensures schema { schema_of self.new ≡ schema_of self.old }
     {
-        table_rows::run(&mut self.conn, "BEGIN")?;
+        rows::run(&mut self.conn, "BEGIN")?;
         match self.put_each(items) {
-            Ok(()) => table_rows::run(&mut self.conn, "COMMIT"),
+            Ok(()) => rows::run(&mut self.conn, "COMMIT"),
             Err(error) => {
-                let _ = table_rows::run(&mut self.conn, "ROLLBACK");
+                let _ = rows::run(&mut self.conn, "ROLLBACK");
                 Err(error)
             }
         }
@@ -389,7 +391,7 @@ impl<S: Alter + Drop> TableStore<S> {
         if !is_kept(item) {
             return Err(StoreError::TooDeep);
         }
-        table_rows::put(self.alloc, &mut self.conn, self.table.id, key, item)
+        rows::put(self.alloc, &mut self.conn, self.table.id, key, item)
     }
 
     fn put_each(&mut self, items: &[Item]) -> Result<(), StoreError>

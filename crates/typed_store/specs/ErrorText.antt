@@ -1,7 +1,7 @@
 -- The printed text of why a value could not be stored or got.
 use Rattle.std.specs.Prelude.{ℕ, List, Option}
 use Rattle.dynamo_value.specs.KindText.{kind_text}
-use Rattle.table_rows.specs.Errors.{store_error_text}
+use Rattle.table_store.specs.Errors.{store_error_text}
 use Rattle.typed_store.specs.declared.error.TypedStoreError.{TypedStoreError}
 
 -- that of the fault by itself

@@ -14,9 +14,9 @@ use Rattle.table_keys.specs.declared.error.TableError.{TableError}
 use Rattle.table_keys.specs.declared.key.Key.{Key}
 use Rattle.table_keys.specs.declared.schema.KeySchema.{KeySchema}
 use Rattle.table_keys.specs.declared.query.Query.{Query}
-use Rattle.table_rows.specs.Errors.{of_table}
+use Rattle.table_store.specs.Errors.{of_table}
 use Rattle.table_store.specs.Content as store
-use Rattle.table_store.specs.Content.{IsFound}
+use Rattle.table_store.specs.Found.{IsFound}
 use Rattle.table_store.specs.declared.store.TableStore.{TableStore}
 use Rattle.typed_table.specs.Stored.{IsKeyOf, IsUnwritten}
 use Rattle.typed_store.specs.declared.error.TypedStoreError.{TypedStoreError}

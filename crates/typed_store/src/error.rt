@@ -1,6 +1,6 @@
 ghost use Rattle.std.specs.Prelude.{◌≡◌};
-ghost use Rattle.table_rows.specs.Errors.{of_table};
-ghost use Rattle.table_rows.specs.declared.error.StoreError.{StoreError};
+ghost use Rattle.table_store.specs.Errors.{of_table};
+ghost use Rattle.table_store.specs.declared.error.StoreError.{StoreError};
 ghost use Rattle.typed_store.specs.ErrorText.{typed_store_error_text};
 ghost use Rattle.typed_store.specs.declared.error.TypedStoreError.{TypedStoreError};
 

@@ -1,6 +1,6 @@
 use Rattle.std.proofs.Common.{rules, Err, inl, inr, refl, subst, sym}
 use Rattle.std.specs.Fn.{FnOnceReturnsAt}
-use Rattle.table_rows.specs.declared.error.StoreError.{StoreError}
+use Rattle.table_store.specs.declared.error.StoreError.{StoreError}
 use Rattle.table_keys.specs.declared.error.TableError.{TableError}
 use Rattle.table_store.specs.Content.{HasThisKey}
 use Rattle.table_store.proofs.Kept.{of_err}

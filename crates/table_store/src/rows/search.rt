@@ -1,8 +1,8 @@
 ghost use Rattle.std.specs.Prelude.{◌≤◌, All, IfOk, length};
-ghost use Rattle.table_rows.specs.Found.{IsFound};
+ghost use Rattle.table_store.specs.Found.{IsFound};
 
-use crate::rows::read_item;
-use crate::{Definition, StoreError};
+use crate::StoreError;
+use crate::rows::{Definition, read_item};
 use dynamo_value::Item;
 use sqlite::types::ValueRef;
 use sqlite::{Alter, Connection, params};

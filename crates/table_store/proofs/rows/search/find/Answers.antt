@@ -1,7 +1,7 @@
 use Rattle.std.proofs.Common.{sym, ap, ◌∙◌, arith}
-use Rattle.table_rows.proofs.Finds.{one_more}
-use Rattle.table_rows.proofs.search.find.Goals.{then-finds+in_ok-push, else-finds}
-use Rattle.table_rows.proofs.search.find.Goals as goal
+use Rattle.table_store.proofs.Finds.{one_more}
+use Rattle.table_store.proofs.rows.search.find.Goals.{then-finds+in_ok-push, else-finds}
+use Rattle.table_store.proofs.rows.search.find.Goals as goal
 
 pub loop-preserved : goal.loop-preserved
 loop-preserved g c =

@@ -1,6 +1,14 @@
+//! The rows of DynamoDB tables in a SQLite database. Each call on items runs one SQL statement, and
+//! [`page`] at most two.
+
+mod definition;
+mod search;
+
 use crate::StoreError;
+pub use definition::{Definition, make_tables};
 use dynamo_json::{DynamoJson, TextError};
 use dynamo_value::{ErrorImpl, Item};
+pub use search::{find, page};
 use sqlite::types::ValueRef;
 use sqlite::{Alter, Connection, Row, params};
 use std::alloc::Global;

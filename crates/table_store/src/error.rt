@@ -1,6 +1,6 @@
 ghost use Rattle.std.specs.Prelude.{◌≡◌};
-ghost use Rattle.table_rows.specs.Errors.{of_table, of_database, store_error_text};
-ghost use Rattle.table_rows.specs.declared.error.StoreError.{StoreError};
+ghost use Rattle.table_store.specs.Errors.{of_table, of_database, store_error_text};
+ghost use Rattle.table_store.specs.declared.error.StoreError.{StoreError};
 
 use sqlite::{Error, ErrorCode};
 use std::alloc::{AllocError, AllocFailed};

@@ -4,7 +4,7 @@ use Rattle.sqlite.specs.declared.error.Error.{Error}
 use Rattle.sqlite.specs.declared.error.ErrorCode.{ErrorCode}
 use Rattle.table_keys.specs.ErrorText.{error_text}
 use Rattle.table_keys.specs.declared.error.TableError.{TableError}
-use Rattle.table_rows.specs.declared.error.StoreError.{StoreError}
+use Rattle.table_store.specs.declared.error.StoreError.{StoreError}
 
 -- want of memory is the same fault wherever it comes from
 abbrev pub of_table : TableError → StoreError

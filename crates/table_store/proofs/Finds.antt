@@ -8,7 +8,7 @@ use Rattle.table_keys.specs.declared.key.Key.{Key}
 use Rattle.table_keys.specs.declared.schema.KeySchema.{KeySchema}
 use Rattle.table_keys.specs.Queries.{finds}
 use Rattle.table_keys.specs.declared.query.Query.{Query}
-use Rattle.table_rows.specs.Found.{IsFound}
+use Rattle.table_store.specs.Found.{IsFound}
 
 -- a list below the limit takes one item more
 pub one_more : (schema : KeySchema) (query : Query) (found new : List Item) (item : Item) (key : Key) → new ≡ found ++ item ∷ []
