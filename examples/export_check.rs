@@ -1,9 +1,9 @@
 //! Checks which lines of an export don't read as a type, before a change of the type is shipped.
-//! In crates.txt: `export_check: dynamo_serde fixtures serde anyhow`
+//! In crates.txt: `export_check: dynamo_serde exports serde anyhow`
 #![tactic(auto)]
 
 use dynamo_serde::from_item_located;
-use fixtures::Lines;
+use exports::Lines;
 use serde::{Deserialize, Serialize};
 
 #[derive(Drop, Serialize, Deserialize)]

@@ -1,9 +1,9 @@
 //! Loads items into a table in a file, asks a query, and opens the file once more.
-//! In crates.txt: `table_in_file: dynamo_value fixtures serde_dynamo table_keys table_store anyhow`
+//! In crates.txt: `table_in_file: dynamo_value exports serde_dynamo table_keys table_store anyhow`
 #![tactic(auto)]
 
 use dynamo_value::Item;
-use fixtures::Lines;
+use exports::Lines;
 use serde_dynamo::DynamoJson;
 use table_keys::{KeySchema, Query, SortCondition};
 use table_store::{create_at, open_at};

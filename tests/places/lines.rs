@@ -1,7 +1,6 @@
 //! Lines of exports and request files with one fault each, and what is said of it.
 use described_types::Order;
-use fixtures::{Lines, requests_in_file};
-use schema_check::{Groups, next_value, value_of};
+use exports::{Groups, Lines, next_value, requests_in_file, value_of};
 use std::alloc::{AllocError, Global};
 use std::process::Abort;
 use std::test::Fail;

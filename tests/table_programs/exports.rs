@@ -1,7 +1,7 @@
 //! The lines of an export.
 use dynamo_json::DynamoJson;
 use dynamo_value::{AttributeValue, Error, ErrorImpl, Item};
-use fixtures::{Line, LineFault, Lines};
+use exports::{Line, LineFault, Lines};
 use serde_json::Value;
 use std::alloc::{AllocError, Global};
 use std::io;

@@ -1,7 +1,7 @@
 //! Request files, one a line.
 use dynamo_json::DynamoJson;
 use dynamo_value::Item;
-use fixtures::{Request, TableRequests, requests_in_file};
+use exports::{Request, TableRequests, requests_in_file};
 use std::{fs, io};
 
 fn print_item(rt: &HostRuntime, word: &str, item: &Item) -> io::Result<()> {

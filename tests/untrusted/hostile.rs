@@ -2,7 +2,7 @@
 use crate::names;
 use dynamo_json::DynamoJson;
 use dynamo_value::{AttributeValue, Item};
-use fixtures::Lines;
+use exports::Lines;
 use serde_json::Value;
 use std::alloc::{AllocError, Global};
 use std::fmt::Display;

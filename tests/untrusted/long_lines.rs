@@ -1,5 +1,5 @@
 //! Lines around their limit, beside a plain model of what is to come.
-use fixtures::{Fault, Lines};
+use exports::{Fault, Lines};
 use std::alloc::{AllocError, Global};
 use std::io::{self, BufRead, BufReader};
 use std::process::Abort;

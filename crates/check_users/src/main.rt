@@ -4,8 +4,7 @@
 //! arguments.
 #![tactic(auto)]
 
-use fixtures::Lines;
-use schema_check::{Finding, Groups, Summary, next_value};
+use exports::{Finding, Groups, Lines, Summary, next_value};
 use serde_dynamo::samples::User;
 use std::io::{BufRead, BufReader};
 use std::process::ExitCode;

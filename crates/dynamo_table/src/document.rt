@@ -1,6 +1,6 @@
 //! What the JSON values hold that AWS's tools write.
 use crate::refusal::Refusal;
-use fixtures::Fault;
+use exports::Fault;
 use serde_json::Value;
 use std::alloc::Global;
 

@@ -1,6 +1,6 @@
 //! Items of plain JSON.
 use dynamo_value::{AttributeValue, Item, refusal};
-use fixtures::{Fault, Position, json_of};
+use exports::{Fault, Position, json_of};
 use json::{Error, Scratch, Value};
 use std::alloc::{AllocError, Global};
 use std::collections::HashMap;

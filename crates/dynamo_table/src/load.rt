@@ -10,7 +10,7 @@ use crate::text::{Start, first_value, unmarked};
 use crate::words::{Flags, MAX_LINE};
 use dynamo_place::DynamoJsonLocated;
 use dynamo_value::Item;
-use fixtures::{Fault, Lines, Request, change_of, item_alone, json_of, one_request_located};
+use exports::{Fault, Lines, Request, change_of, item_alone, json_of, one_request_located};
 use json::{Scratch, is_valid};
 use serde_json::Value;
 use sqlite::Alter;

@@ -4,7 +4,7 @@ use crate::refusal::Answer;
 use dynamo_json::DynamoJson;
 use dynamo_place::DynamoJsonLocated;
 use dynamo_value::Item;
-use fixtures::json_of;
+use exports::json_of;
 use serde_json::Value;
 use sqlite::Alter;
 use std::alloc::Global;
@@ -42,6 +42,6 @@ fn read_item<S: Alter + Drop>(alloc: Global, store: &TableStore<S>, json: &Value
     Ok(item_of(alloc, inner)?)
 }
 
-fn item_of(alloc: Global, json: &Value) -> Result<Item, fixtures::Fault> {
+fn item_of(alloc: Global, json: &Value) -> Result<Item, exports::Fault> {
     Ok(Item::from_json_located(alloc, json)?)
 }

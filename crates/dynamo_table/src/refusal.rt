@@ -1,5 +1,5 @@
 //! How a command ends.
-use fixtures::Fault;
+use exports::Fault;
 use sqlite::Error;
 use std::alloc::{AllocError, AllocFailed};
 use std::{fmt, io};

@@ -5,7 +5,7 @@ use crate::refusal::{Answer, Outcome, Refusal};
 use crate::run::{open_for, run_command};
 use crate::teller::Teller;
 use crate::words::{MAX_LINE, words_in};
-use fixtures::{Fault, Lines};
+use exports::{Fault, Lines};
 use sqlite::{Connection, File, FileStore};
 use std::io::BufReader;
 

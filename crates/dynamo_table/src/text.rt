@@ -1,5 +1,5 @@
 //! The text of an input: its byte order mark, and the JSON values in it.
-use fixtures::{Fault, Position};
+use exports::{Fault, Position};
 use std::alloc::Global;
 use std::io;
 use std::io::Read;

@@ -4,7 +4,7 @@ use crate::purchases::purchase;
 use crate::random::Random;
 use crate::stopped::Stopped;
 use crate::{digest, lines};
-use fixtures::Lines;
+use exports::Lines;
 use serde_dynamo::{AttributeValue, DynamoJson, Item, to_attribute_value, to_item};
 use std::alloc::{AllocError, Global};
 use std::fmt::Write;
