@@ -1,12 +1,15 @@
 -- Tokens that are laid one after another, and what is ahead once some are passed.
 use Rattle.std.proofs.Math.Seq.{drop-cons}
-use Rattle.std.proofs.Common.{◌≡◌, ℕ, suc, ◌+◌, ◌<◌, ◌≤◌, List, [], ◌∷◌, ◌++◌, map, length, take, drop, get_or, refl, sym, ap, ◌∙◌, subst, append_assoc, append-nil, arith}
+use Rattle.std.proofs.Common.{◌≡◌, ℕ, suc, ◌+◌, ◌<◌, ◌≤◌, List, [], ◌∷◌, ◌++◌, map, length, take, drop, get_or, string_bytes, refl, sym, ap, ◌∙◌, subst, append_assoc, append-nil, arith}
 use Rattle.std.proofs.lemmas.List.{take_more, take_all, drop_all}
 use Rattle.dynamo_value.specs.Av as av
-use Rattle.dynamo_value.specs.Av.{Av, elements_of}
-use Rattle.dynamo_value.specs.View.{view, elements_view}
+use Rattle.dynamo_value.specs.Av.{Av, elements_of, members_of}
+use Rattle.dynamo_value.specs.View.{view, elements_view, entries_view, members_view}
 use Rattle.dynamo_value.specs.declared.attribute_value.AttributeValue.{AttributeValue}
-use Rattle.dynamo_serde.specs.Laid.{Token, IsLaid, AreLaid, begin_list, end_seq}
+use Rattle.dynamo_value.proofs.Members.{Entry}
+use Rattle.dynamo_read.specs.Entries.{seen_entry, seen_entries}
+use Rattle.dynamo_read.specs.Lent.{Lent, entry_of}
+use Rattle.dynamo_serde.specs.Laid.{Token, laid, members_laid, elements_laid, key, begin_list, end_seq, begin_map, end_map}
 use Rattle.dynamo_serde.specs.Tape.{row, token_of}
 use Rattle.dynamo_serde.specs.declared.tape.Token as tape
 use Rattle.dynamo_serde.specs.declared.tape.Token.TheVariants as token
@@ -33,29 +36,58 @@ module _ {A : Type 0} (make : List ℕ → Token) (f : A → List ℕ) where
 -- ---- the elements of a list
 
 abbrev pub ListUpTo : List AttributeValue → ℕ → List Token → List Token → Type 0
-ListUpTo vs i old new = (inside : List Token) × AreLaid (elements_of (map view (take i vs))) inside × (new ≡ old ++ inside)
+ListUpTo vs i old new = new ≡ old ++ elements_laid (elements_of (map view (take i vs)))
 
-are_laid_push : (as' : List Av) (inside : List Token) (a : Av) (more : List Token) → AreLaid (elements_of as') inside → IsLaid a more → AreLaid (elements_of (as' ++ a ∷ [])) (inside ++ more)
-are_laid_push [] inside a more h k = (more, [], k, refl, ap (λ ts. ts ++ more) h ∙ sym (append-nil more))
-are_laid_push (b ∷ as') inside a more h k =
-    (h.0, h.1 ++ more, h.2, are_laid_push as' h.1 a more h.3 k, ap (λ ts. ts ++ more) h.4 ∙ append_assoc h.0 h.1 more)
+elements_push : (as' : List Av) (a : Av) → elements_laid (elements_of (as' ++ a ∷ [])) ≡ elements_laid (elements_of as') ++ laid a
+elements_push [] a = append-nil (laid a)
+elements_push (b ∷ as') a = ap (λ ts. laid b ++ ts) (elements_push as' a) ∙ sym (append_assoc (laid b) (elements_laid (elements_of as')) (laid a))
 
 pub list_more : (vs : List AttributeValue) (i : ℕ) (v : AttributeValue) (old mid new : List Token) → i < length vs → v ≡ get_or vs i v
-    → ListUpTo vs i old mid → (more : List Token) → IsLaid (view v) more → new ≡ mid ++ more → ListUpTo vs (i + 1) old new
-list_more vs i v old mid new lt is h more laid same =
+    → ListUpTo vs i old mid → new ≡ mid ++ laid (view v) → ListUpTo vs (i + 1) old new
+list_more vs i v old mid new lt is h same =
+    let before = map view (take i vs) in
     let taken : take (i + 1) vs ≡ take i vs ++ v ∷ [] = take_more vs i v lt ∙ ap (λ y. take i vs ++ y ∷ []) (sym is) in
-    let values : map view (take (i + 1) vs) ≡ map view (take i vs) ++ view v ∷ [] = ap (map view) taken ∙ map_push view (take i vs) v in (
-      h.0 ++ more,
-      subst (λ as'. AreLaid (elements_of as') (h.0 ++ more)) (sym values) (are_laid_push (map view (take i vs)) h.0 (view v) more h.1 laid),
-      same ∙ ap (λ ts. ts ++ more) h.2 ∙ append_assoc old h.0 more,
-    )
+    let values : map view (take (i + 1) vs) ≡ before ++ view v ∷ [] = ap (map view) taken ∙ map_push view (take i vs) v in
+    same ∙ ap (λ ts. ts ++ laid (view v)) h ∙ append_assoc old (elements_laid (elements_of before)) (laid (view v))
+    ∙ ap (λ ts. old ++ ts) (sym (elements_push before (view v)) ∙ ap (λ as'. elements_laid (elements_of as')) (sym values))
 
 pub list_all : (vs xs : List AttributeValue) (i : ℕ) (old begun mid new : List Token) → xs ≡ vs → length xs ≤ i
-    → begun ≡ old ++ begin_list ∷ [] → ListUpTo xs i begun mid → new ≡ mid ++ end_seq ∷ []
-    → (more : List Token) × IsLaid (av.L (elements_view vs)) more × (new ≡ old ++ more)
+    → begun ≡ old ++ begin_list ∷ [] → ListUpTo xs i begun mid → new ≡ mid ++ end_seq ∷ [] → new ≡ old ++ laid (av.L (elements_view vs))
 list_all vs xs i old begun mid new same end opened h closes =
-    let all : take i xs ≡ vs = take_all i xs end ∙ same in
-    (begin_list ∷ (h.0 ++ end_seq ∷ []), (h.0, subst (λ ys. AreLaid (elements_of (map view ys)) h.0) all h.1, refl), between begin_list end_seq h.0 old begun mid new opened h.2 closes)
+    between begin_list end_seq (elements_laid (elements_view vs)) old begun mid new opened
+    (h ∙ ap (λ ys. begun ++ elements_laid (elements_view ys)) (take_all i xs end ∙ same)) closes
+
+-- ---- the members of a map
+
+members_push : (es : List (List ℕ × Av)) (e : List ℕ × Av) → members_laid (members_of (es ++ e ∷ [])) ≡ members_laid (members_of es) ++ (key e.0 ∷ laid e.1)
+members_push [] e = ap (λ ts. key e.0 ∷ ts) (append-nil (laid e.1))
+members_push (d ∷ es) e =
+    ap (λ ts. key d.0 ∷ (laid d.1 ++ ts)) (members_push es e)
+    ∙ ap (λ ts. key d.0 ∷ ts) (sym (append_assoc (laid d.1) (members_laid (members_of es)) (key e.0 ∷ laid e.1)))
+
+-- the row of these entries, in the order in which they come
+abbrev pub entries_laid : List Lent → List Token
+entries_laid es = members_laid (members_of (seen_entries (map entry_of es)))
+
+entries_push : (es : List Lent) (e : Lent) → entries_laid (es ++ e ∷ []) ≡ entries_laid es ++ (key (string_bytes e.0.now) ∷ laid (view e.1.now))
+entries_push es e =
+    ap (λ xs. members_laid (members_of (seen_entries xs))) (map_push entry_of es e)
+    ∙ ap (λ xs. members_laid (members_of xs)) (map_push seen_entry (map entry_of es) (entry_of e))
+    ∙ members_push (seen_entries (map entry_of es)) (seen_entry (entry_of e))
+
+pub map_more : (done : List Lent) (e : Lent) (old mid keyed new : List Token) → mid ≡ old ++ entries_laid done
+    → keyed ≡ mid ++ key (string_bytes e.0.now) ∷ [] → new ≡ keyed ++ laid (view e.1.now) → new ≡ old ++ entries_laid (done ++ e ∷ [])
+map_more done e old mid keyed new h opened same =
+    let k = key (string_bytes e.0.now) in
+    let a = laid (view e.1.now) in
+    same ∙ ap (λ ts. ts ++ a) (opened ∙ ap (λ ts. ts ++ k ∷ []) h) ∙ append_assoc (old ++ entries_laid done) (k ∷ []) a
+    ∙ append_assoc old (entries_laid done) (k ∷ a) ∙ ap (λ ts. old ++ ts) (sym (entries_push done e))
+
+pub map_all : (es : List Entry) (done : List Lent) (old begun mid new : List Token) → seen_entries (map entry_of done) ≡ entries_view es
+    → begun ≡ old ++ begin_map ∷ [] → mid ≡ begun ++ entries_laid done → new ≡ mid ++ end_map ∷ [] → new ≡ old ++ laid (av.M (members_view es))
+map_all es done old begun mid new seen opened h closes =
+    between begin_map end_map (members_laid (members_view es)) old begun mid new opened
+    (h ∙ ap (λ xs. begun ++ members_laid (members_of xs)) seen) closes
 
 -- ---- what is ahead
 

@@ -1,3 +1,4 @@
+mod Fetching
 mod Laying
 pub mod Logged
 pub mod Machine

@@ -27,7 +27,7 @@ elements_push [] k = append-nil (value_events k)
 elements_push (a ∷ sent) k =
     ap (λ es. value_events a ++ es) (elements_push sent k) ∙ sym (append_assoc (value_events a) (elements_events (elements_of sent)) (value_events k))
 
-elements_ordered : (sent : List Av) → elements_in_order (elements_of sent) ≡ elements_of (map in_order sent)
+pub elements_ordered : (sent : List Av) → elements_in_order (elements_of sent) ≡ elements_of (map in_order sent)
 elements_ordered [] = refl
 elements_ordered (a ∷ sent) = ap (av.element (in_order a)) (elements_ordered sent)
 
@@ -69,12 +69,12 @@ members_push (e ∷ sent) key k =
     ap (λ es. (field_key e.0 AsIs ∷ value_events e.1) ++ es) (members_push sent key k)
     ∙ sym (append_assoc (field_key e.0 AsIs ∷ value_events e.1) (members_events (members_of sent)) (field_key key AsIs ∷ value_events k))
 
-ordered_push : (sent : List (List ℕ × Av)) (key : List ℕ) (k : Av)
+pub ordered_push : (sent : List (List ℕ × Av)) (key : List ℕ) (k : Av)
     → members_in_order (members_of (sent ++ (key, k) ∷ [])) ≡ members_in_order (members_of sent) ++ (key, in_order k) ∷ []
 ordered_push [] key k = refl
 ordered_push (e ∷ sent) key k = ap (λ es. (e.0, in_order e.1) ∷ es) (ordered_push sent key k)
 
-collect_push : (es before : List (List ℕ × Av)) (key : List ℕ) (a : Av) → collect_onto before (es ++ (key, a) ∷ []) ≡ put text_cmp key a (collect_onto before es)
+pub collect_push : (es before : List (List ℕ × Av)) (key : List ℕ) (a : Av) → collect_onto before (es ++ (key, a) ∷ []) ≡ put text_cmp key a (collect_onto before es)
 collect_push [] before key a = refl
 collect_push (e ∷ es) before key a = collect_push es (put text_cmp e.0 e.1 before) key a
 

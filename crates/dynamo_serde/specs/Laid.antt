@@ -7,7 +7,7 @@ use Rattle.serde.specs.Event.{Event, boolean as boolean_event, signed, unsigned,
 use Rattle.serde.specs.Names.{Finds}
 use Rattle.serde.specs.declared.name.Name.{Name}
 use Rattle.dynamo_value.specs.Av as av
-use Rattle.dynamo_value.specs.Av.{Av, Elements}
+use Rattle.dynamo_value.specs.Av.{Av, Members, Elements}
 use Rattle.dynamo_ser.specs.Key.{bool_text}
 use Rattle.dynamo_ser.specs.Symbols.{SetKind, strings, numbers, blobs}
 
@@ -17,23 +17,31 @@ pub data Token : Type 0 where
   begin_list end_seq begin_map end_map : Token
   begin_set : SetKind → Token
 
--- A list, a set and a map stand between their two ends; of a map's members nothing is said.
+-- The row of an attribute value: a scalar is one token, and a list, a set or a map stands between its two ends. Each member of a
+-- map is its key and then its value, in ascending order of the bytes of the keys.
 abbrev mutual
-  pub IsLaid : Av → List Token → Type 0
-  IsLaid (av.N s) ts = ts ≡ number s ∷ []
-  IsLaid (av.S s) ts = ts ≡ text s ∷ []
-  IsLaid (av.Boolean b) ts = ts ≡ boolean b ∷ []
-  IsLaid (av.B blob) ts = ts ≡ bytes blob ∷ []
-  IsLaid (av.Null b) ts = ts ≡ null b ∷ []
-  IsLaid (av.M ms) ts = (inside : List Token) × (ts ≡ begin_map ∷ (inside ++ end_map ∷ []))
-  IsLaid (av.L as') ts = (inside : List Token) × AreLaid as' inside × (ts ≡ begin_list ∷ (inside ++ end_seq ∷ []))
-  IsLaid (av.Ss texts) ts = ts ≡ begin_set strings ∷ (map text texts ++ end_seq ∷ [])
-  IsLaid (av.Ns texts) ts = ts ≡ begin_set numbers ∷ (map number texts ++ end_seq ∷ [])
-  IsLaid (av.Bs xs) ts = ts ≡ begin_set blobs ∷ (map bytes xs ++ end_seq ∷ [])
+  pub laid : Av → List Token
+  laid (av.N s) = number s ∷ []
+  laid (av.S s) = text s ∷ []
+  laid (av.Boolean b) = boolean b ∷ []
+  laid (av.B blob) = bytes blob ∷ []
+  laid (av.Null b) = null b ∷ []
+  laid (av.M ms) = begin_map ∷ (members_laid ms ++ end_map ∷ [])
+  laid (av.L as') = begin_list ∷ (elements_laid as' ++ end_seq ∷ [])
+  laid (av.Ss texts) = begin_set strings ∷ (map text texts ++ end_seq ∷ [])
+  laid (av.Ns texts) = begin_set numbers ∷ (map number texts ++ end_seq ∷ [])
+  laid (av.Bs xs) = begin_set blobs ∷ (map bytes xs ++ end_seq ∷ [])
 
-  pub AreLaid : Elements → List Token → Type 0
-  AreLaid av.no_elements ts = ts ≡ []
-  AreLaid (av.element a as') ts = (first rest : List Token) × IsLaid a first × AreLaid as' rest × (ts ≡ first ++ rest)
+  pub members_laid : Members → List Token
+  members_laid av.no_members = []
+  members_laid (av.member k a ms) = key k ∷ (laid a ++ members_laid ms)
+
+  pub elements_laid : Elements → List Token
+  elements_laid av.no_elements = []
+  elements_laid (av.element a as') = laid a ++ elements_laid as'
+
+abbrev pub IsLaid : Av → List Token → Type 0
+IsLaid a ts = ts ≡ laid a
 
 -- Where a reader stands: the tokens to come, and whether the kind of the value that comes was told by the last step.
 pub record Place : Type 0 where

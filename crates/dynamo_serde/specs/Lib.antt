@@ -2,6 +2,7 @@ pub mod Symbol
 pub mod SymbolOf
 pub mod Sent
 pub mod Building
+pub mod Fetched
 pub mod Called
 pub mod Laid
 pub mod Located

@@ -1,5 +1,5 @@
 -- The place that a tape of the program stands for; for private clauses.
-use Rattle.std.specs.Prelude.{◌≡◌, List, ◌++◌, Bool, true, false, map, drop}
+use Rattle.std.specs.Prelude.{List, Bool, true, false, map, drop}
 use Rattle.dynamo_serde.specs.Laid.{Token, Place, null, boolean, number, text, bytes, key, begin_list, begin_set, end_seq, begin_map, end_map}
 use Rattle.dynamo_write.specs.SetKind.{kind_of}
 use Rattle.dynamo_serde.specs.declared.tape.Token as tape
@@ -33,7 +33,3 @@ ahead t = row (drop t.at t.tokens.items)
 
 abbrev pub place : Tape → Place
 place t = record { ahead = ahead t; told = is_told t.doubt }
-
--- more tokens are laid
-abbrev pub Lays : List tape.Token → (List Token → Type 0) → List tape.Token → Type 0
-Lays old P new = (more : List Token) × P more × (row new ≡ row old ++ more)

@@ -3,7 +3,7 @@
 -- its kind's.
 use Rattle.std.specs.Prelude.{◌≡◌, ℕ, ◌+◌, List, [], ◌∷◌, ◌++◌, length, Some, IfSome}
 use Rattle.serde.specs.Event as event
-use Rattle.serde.specs.Event.{Event, Log, field_key}
+use Rattle.serde.specs.Event.{Event, Log, Logs, map_begins, map_ends, variant_key, field_key}
 use Rattle.serde.specs.declared.name.Case.TheVariants.{AsIs}
 use Rattle.dynamo_value.specs.Av as av
 use Rattle.dynamo_value.specs.Av.{Av, Members, Elements, members_of}
@@ -82,6 +82,11 @@ abbrev mutual
 -- where the events are known, these come after them
 abbrev pub Logged : List Event → Log → Log → Type 0
 Logged es old new = IfSome old (λ before. new ≡ Some (before ++ es))
+
+-- what `inside` writes comes as the one member of a map, under this name
+abbrev pub SendsUnder : List ℕ → (Log → Log → Type 0) → Log → Log → Type 0
+SendsUnder name inside old new =
+    (first named last : Log) × Logs old first (map_begins (Some 1)) × Logs first named (variant_key name AsIs) × inside named last × Logs last new map_ends
 
 -- the events of this attribute value come, its members in the order that the hashed maps happen to keep, which nobody chose
 abbrev pub SendsValue : Av → Log → Log → Type 0

@@ -2,8 +2,8 @@
 ghost use Rattle.std.specs.Prelude.{◌≡◌, [], ◌∷◌, ◌++◌, List, map, string_bytes, false, IfOk, OnOk, MatchOption};
 ghost use Rattle.dynamo_value.specs.Av as av;
 ghost use Rattle.dynamo_value.specs.View.{view, elements_view, members_view};
-ghost use Rattle.dynamo_serde.specs.Laid.{Token as Laid, Takes, TakesText, IsLaid};
-ghost use Rattle.dynamo_serde.specs.Tape.{token_of, row, ahead, place, Lays};
+ghost use Rattle.dynamo_serde.specs.Laid.{Token as Laid, Takes, TakesText, IsLaid, laid};
+ghost use Rattle.dynamo_serde.specs.Tape.{token_of, row, ahead, place};
 
 use crate::fault::{LEVELS, fault, too_deep};
 use dynamo_value::{AttributeValue, ErrorImpl, Result};
@@ -68,7 +68,7 @@ fn lay_one<'v>(token: Token<'v>, tokens: &mut Vec<Token<'v>>) -> Result<()>
 }
 
 fn lay_texts<'v>(texts: &'v Vec<String>, tokens: &mut Vec<Token<'v>>) -> Result<()>
-    ensures { OnOk result (Lays tokens.old.items (IsLaid (av.Ss (map string_bytes texts.now.items))) tokens.new.items) }
+    ensures { OnOk result (row tokens.new.items ≡ row tokens.old.items ++ laid (av.Ss (map string_bytes texts.now.items))) }
 {
     lay_one(Token::BeginSet(SetKind::Strings), tokens)?;
     for text in texts {
@@ -78,7 +78,7 @@ fn lay_texts<'v>(texts: &'v Vec<String>, tokens: &mut Vec<Token<'v>>) -> Result<
 }
 
 fn lay_numbers<'v>(texts: &'v Vec<String>, tokens: &mut Vec<Token<'v>>) -> Result<()>
-    ensures { OnOk result (Lays tokens.old.items (IsLaid (av.Ns (map string_bytes texts.now.items))) tokens.new.items) }
+    ensures { OnOk result (row tokens.new.items ≡ row tokens.old.items ++ laid (av.Ns (map string_bytes texts.now.items))) }
 {
     lay_one(Token::BeginSet(SetKind::Numbers), tokens)?;
     for text in texts {
@@ -88,7 +88,7 @@ fn lay_numbers<'v>(texts: &'v Vec<String>, tokens: &mut Vec<Token<'v>>) -> Resul
 }
 
 fn lay_blobs<'v>(blobs: &'v Vec<Vec<u8>>, tokens: &mut Vec<Token<'v>>) -> Result<()>
-    ensures { OnOk result (Lays tokens.old.items (IsLaid (av.Bs (map (λ b. b.items) blobs.now.items))) tokens.new.items) }
+    ensures { OnOk result (row tokens.new.items ≡ row tokens.old.items ++ laid (av.Bs (map (λ b. b.items) blobs.now.items))) }
 {
     lay_one(Token::BeginSet(SetKind::Blobs), tokens)?;
     for blob in blobs {
@@ -105,7 +105,7 @@ fn lay<'v>(
     levels: usize,
     tokens: &mut Vec<Token<'v>>,
 ) -> Result<()>
-    ensures { OnOk result (Lays tokens.old.items (IsLaid (view value.now)) tokens.new.items) }
+    ensures { OnOk result (row tokens.new.items ≡ row tokens.old.items ++ laid (view value.now)) }
 {
     match value {
         AttributeValue::N(text) => lay_one(Token::Number(text.as_str()), tokens),
@@ -128,7 +128,7 @@ fn lay_list<'v>(
     levels: usize,
     tokens: &mut Vec<Token<'v>>,
 ) -> Result<()>
-    ensures { OnOk result (Lays tokens.old.items (IsLaid (av.L (elements_view items.now.items))) tokens.new.items) }
+    ensures { OnOk result (row tokens.new.items ≡ row tokens.old.items ++ laid (av.L (elements_view items.now.items))) }
 {
     let Some(levels) = levels.checked_sub(1) else {
         return Err(too_deep(alloc));
@@ -148,7 +148,7 @@ fn lay_map<'v>(
     levels: usize,
     tokens: &mut Vec<Token<'v>>,
 ) -> Result<()>
-    ensures { OnOk result (Lays tokens.old.items (IsLaid (av.M (members_view map.now.entries))) tokens.new.items) }
+    ensures { OnOk result (row tokens.new.items ≡ row tokens.old.items ++ laid (av.M (members_view map.now.entries))) }
 {
     let Some(levels) = levels.checked_sub(1) else {
         return Err(too_deep(alloc));

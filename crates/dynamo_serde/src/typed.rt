@@ -1,8 +1,8 @@
 // Any type that serde writes or reads.
-ghost use Rattle.std.specs.Prelude.{[], Some, IfOk};
+ghost use Rattle.std.specs.Prelude.{◌≡◌, [], Some, length, IfOk};
 ghost use Rattle.serde.specs.Event.{Log};
 ghost use Rattle.dynamo_value.specs.Av as av;
-ghost use Rattle.dynamo_value.specs.Item.{item_view};
+ghost use Rattle.dynamo_value.specs.Item.{item_view, items_view};
 ghost use Rattle.dynamo_value.specs.View.{view};
 ghost use Rattle.dynamo_serde.specs.Sent.{IsValueOf};
 
@@ -137,7 +137,9 @@ pub fn from_item<T: DeserializeOwned>(alloc: Global, item: Item) -> Result<T> {
 /// # Errors
 ///
 /// Returns the first error of reading an item, as [`read_item`] does.
-pub fn from_items<T: DeserializeOwned>(alloc: Global, items: Items) -> Result<Vec<T>> {
+pub fn from_items<T: DeserializeOwned>(alloc: Global, items: Items) -> Result<Vec<T>>
+    ensures { IfOk result (λ values. length values.items ≡ length (items_view items)) }
+{
     let maps: Vec<HashMap<String, AttributeValue>> = items.into();
     let mut values = Vec::with_capacity(alloc, maps.len())?;
     for map in &maps {

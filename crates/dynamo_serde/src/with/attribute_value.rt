@@ -3,9 +3,10 @@
 //!
 //! For an optional one or for several, put the attribute in a newtype struct: `Option<Any>` or
 //! `Vec<Any>`.
-ghost use Rattle.std.specs.Prelude.{map, string_bytes, OnOk};
+ghost use Rattle.std.specs.Prelude.{map, string_bytes, IfOk, OnOk};
 ghost use Rattle.dynamo_value.specs.Av as av;
 ghost use Rattle.dynamo_value.specs.View.{view, elements_view, members_view};
+ghost use Rattle.dynamo_serde.specs.Fetched.{Fetches, FetchesMap, FetchesList, FetchesTexts};
 ghost use Rattle.dynamo_serde.specs.Value.{Logged, SendsValue, value_events};
 
 use crate::fault::LEVELS;
@@ -36,7 +37,9 @@ pub fn serialize<S: Serializer>(value: &AttributeValue, out: &mut S) -> Result<(
 pub fn deserialize<F: Format>(
     alloc: Global,
     from: &mut Deserializer<'_, '_, F>,
-) -> Result<AttributeValue, F::Error> {
+) -> Result<AttributeValue, F::Error>
+    ensures { IfOk result (λ v. Fetches F.gives F.stays F.picks (view v) from.old from.new) }
+{
     fetch(alloc, from, LEVELS)
 }
 
@@ -147,7 +150,9 @@ fn fetch<F: Format>(
     alloc: Global,
     from: &mut Deserializer<'_, '_, F>,
     levels: usize,
-) -> Result<AttributeValue, F::Error> {
+) -> Result<AttributeValue, F::Error>
+    ensures { IfOk result (λ v. Fetches F.gives F.stays F.picks (view v) from.old from.new) }
+{
     match from.variant(&KINDS)? {
         N => Ok(AttributeValue::N(from.string(alloc)?)),
         S => Ok(AttributeValue::S(from.string(alloc)?)),
@@ -168,7 +173,9 @@ fn fetch_list<F: Format>(
     alloc: Global,
     from: &mut Deserializer<'_, '_, F>,
     levels: usize,
-) -> Result<Vec<AttributeValue>, F::Error> {
+) -> Result<Vec<AttributeValue>, F::Error>
+    ensures { IfOk result (λ items. FetchesList F.gives F.stays F.picks (elements_view items.items) from.old from.new) }
+{
     let Some(levels) = levels.checked_sub(1) else {
         return Err(from.invalid());
     };
@@ -176,13 +183,13 @@ fn fetch_list<F: Format>(
     let mut items = Vec::new(alloc);
     for _ in 0..u64::MAX {
         if !from.next_item()? {
-            break;
+            return Ok(items);
         }
         if items.push(fetch(alloc, from, levels)?).is_err() {
             return Err(from.no_memory());
         }
     }
-    Ok(items)
+    Err(from.no_memory())
 }
 
 #[cycle(fetch)]
@@ -190,7 +197,9 @@ pub(crate) fn fetch_map<F: Format>(
     alloc: Global,
     from: &mut Deserializer<'_, '_, F>,
     levels: usize,
-) -> Result<HashMap<String, AttributeValue>, F::Error> {
+) -> Result<HashMap<String, AttributeValue>, F::Error>
+    ensures { IfOk result (λ map. FetchesMap F.gives F.stays F.picks (members_view map.entries) from.old from.new) }
+{
     let Some(levels) = levels.checked_sub(1) else {
         return Err(from.invalid());
     };
@@ -198,7 +207,7 @@ pub(crate) fn fetch_map<F: Format>(
     let mut members = HashMap::new(alloc);
     for _ in 0..u64::MAX {
         if !from.next_entry()? {
-            break;
+            return Ok(members);
         }
         let key = from.string(alloc)?;
         let value = fetch(alloc, from, levels)?;
@@ -206,7 +215,7 @@ pub(crate) fn fetch_map<F: Format>(
             return Err(from.no_memory());
         }
     }
-    Ok(members)
+    Err(from.no_memory())
 }
 
 // Strings of this kind, which are strings or numbers.
@@ -214,12 +223,14 @@ fn fetch_texts<F: Format>(
     alloc: Global,
     from: &mut Deserializer<'_, '_, F>,
     kind: usize,
-) -> Result<Vec<String>, F::Error> {
+) -> Result<Vec<String>, F::Error>
+    ensures { IfOk result (λ texts. FetchesTexts F.gives F.stays F.picks kind (map string_bytes texts.items) from.old from.new) }
+{
     from.begin_seq()?;
     let mut texts = Vec::new(alloc);
     for _ in 0..u64::MAX {
         if !from.next_item()? {
-            break;
+            return Ok(texts);
         }
         if from.variant(&KINDS)? != kind {
             return Err(from.invalid());
@@ -228,5 +239,5 @@ fn fetch_texts<F: Format>(
             return Err(from.no_memory());
         }
     }
-    Ok(texts)
+    Err(from.no_memory())
 }

@@ -1,4 +1,10 @@
 //! A field that is a set of byte strings, `BS`: `#[serde(with = "dynamo_serde::binary_set")]`.
+ghost use Rattle.std.specs.Prelude.{map, IfOk, OnOk};
+ghost use Rattle.dynamo_value.specs.Av as av;
+ghost use Rattle.dynamo_serde.specs.Fetched.{ReadsBlobs};
+ghost use Rattle.dynamo_serde.specs.Value.{Logged, value_events};
+
+use crate::symbol::BINARY_SET;
 use serde::{Case, Deserializer, Format, Serializer};
 use std::alloc::Global;
 
@@ -7,9 +13,11 @@ use std::alloc::Global;
 /// # Errors
 ///
 /// Returns the serializer's error, as that for out of memory.
-pub fn serialize<S: Serializer>(blobs: &Vec<Vec<u8>>, out: &mut S) -> Result<(), S::Error> {
+pub fn serialize<S: Serializer>(blobs: &Vec<Vec<u8>>, out: &mut S) -> Result<(), S::Error>
+    ensures { OnOk result (Logged (value_events (av.Bs (map (λ b. b.items) blobs.now.items))) (S.written out.old) (S.written out.new)) }
+{
     out.begin_map(Some(1))?;
-    out.variant_key("\u{37e}BYTESSET\u{37e}", Case::AsIs)?;
+    out.variant_key(BINARY_SET, Case::AsIs)?;
     out.begin_seq(Some(blobs.len()))?;
     for blob in blobs {
         out.bytes(blob.as_slice())?;
@@ -27,17 +35,19 @@ pub fn serialize<S: Serializer>(blobs: &Vec<Vec<u8>>, out: &mut S) -> Result<(),
 pub fn deserialize<F: Format>(
     alloc: Global,
     from: &mut Deserializer<'_, '_, F>,
-) -> Result<Vec<Vec<u8>>, F::Error> {
+) -> Result<Vec<Vec<u8>>, F::Error>
+    ensures { IfOk result (λ blobs. ReadsBlobs F.gives F.stays (map (λ b. b.items) blobs.items) from.old from.new) }
+{
     from.begin_seq()?;
     let mut blobs = Vec::new(alloc);
     for _ in 0..u64::MAX {
         if !from.next_item()? {
-            break;
+            return Ok(blobs);
         }
         let blob = from.byte_buf(alloc)?;
         if blobs.push(blob).is_err() {
             return Err(from.no_memory());
         }
     }
-    Ok(blobs)
+    Err(from.no_memory())
 }

@@ -1,8 +1,9 @@
 //! A field that is an `Item`, as the map of its attributes, `M`:
 //! `#[serde(with = "dynamo_serde::item")]`.
-ghost use Rattle.std.specs.Prelude.{OnOk};
+ghost use Rattle.std.specs.Prelude.{IfOk, OnOk};
 ghost use Rattle.dynamo_value.specs.Av as av;
 ghost use Rattle.dynamo_value.specs.Item.{item_view};
+ghost use Rattle.dynamo_serde.specs.Fetched.{FetchesMap};
 ghost use Rattle.dynamo_serde.specs.Value.{SendsValue};
 
 use crate::fault::LEVELS;
@@ -32,7 +33,9 @@ pub fn serialize<S: Serializer>(item: &Item, out: &mut S) -> Result<(), S::Error
 pub fn deserialize<F: Format>(
     alloc: Global,
     from: &mut Deserializer<'_, '_, F>,
-) -> Result<Item, F::Error> {
+) -> Result<Item, F::Error>
+    ensures { IfOk result (λ item. FetchesMap F.gives F.stays F.picks (item_view item) from.old from.new) }
+{
     match fetch_map(alloc, from, LEVELS) {
         Ok(map) => Ok(Item::from(map)),
         Err(error) => Err(error),

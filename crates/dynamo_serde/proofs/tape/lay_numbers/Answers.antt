@@ -1,4 +1,4 @@
-use Rattle.std.proofs.Common.{[], ◌∷◌, ◌++◌, map, string_bytes, refl}
+use Rattle.std.proofs.Common.{string_bytes}
 use Rattle.std.proofs.lemmas.Result.{on_ok_weaker}
 use Rattle.dynamo_ser.specs.Symbols.{numbers}
 use Rattle.dynamo_serde.specs.Laid.{number, begin_set, end_seq}
@@ -9,10 +9,6 @@ use Rattle.dynamo_serde.proofs.tape.lay_numbers.Goals as goal
 pub returns : goal.returns
 returns c =
     on_ok_weaker c.lay_one-2.result
-    (λ e. (
-      begin_set numbers ∷ (map number (map string_bytes c.args.texts.now.items) ++ end_seq ∷ []),
-      refl,
-      laid_all number string_bytes c.args.texts.now.items c.deref-text-items.result.now c.loop-text.text-index (begin_set numbers) end_seq
-          (row c.args.tokens.now.items) (row c.lay_one.new.tokens.items) (row c.loop-text.tokens.items) (row c.lay_one-2.new.tokens.items)
-          c.deref-text-items.ensures.value c.loop-text-test.false c.in_ok-lay_one.ensures c.loop-text.invariant e,
-    )) c.lay_one-2.ensures
+    (laid_all number string_bytes c.args.texts.now.items c.deref-text-items.result.now c.loop-text.text-index (begin_set numbers) end_seq
+    (row c.args.tokens.now.items) (row c.lay_one.new.tokens.items) (row c.loop-text.tokens.items) (row c.lay_one-2.new.tokens.items)
+    c.deref-text-items.ensures.value c.loop-text-test.false c.in_ok-lay_one.ensures c.loop-text.invariant) c.lay_one-2.ensures
