@@ -4,7 +4,7 @@ use crate::failure::{Failure, Reason};
 use crate::lexer::tokens;
 use crate::module::imported;
 use crate::parts::{after_visibility, attributed, bracketed, line_of, parts, type_text};
-use crate::rename::RenameRule;
+use crate::rename::{RenameRule, stored_field};
 use crate::tagged::refuse_tagged;
 use crate::token::Token;
 use crate::types::refuse_type;
@@ -325,11 +325,7 @@ fn named_field(
         _ => return Err(Failure::Refused(name.line, Reason::NoSet)),
     };
     let name = name.text.clone()?;
-    let shown = match (about.rename, rule) {
-        (Some(rename), _) => rename,
-        (None, Some(rule)) => rule.of_field(alloc, name.as_str())?,
-        (None, None) => name.clone()?,
-    };
+    let shown = stored_field(alloc, name.as_str(), about.rename, rule)?;
     Ok(Field {
         name,
         shown,

@@ -3,7 +3,7 @@ use crate::declaration::{Body, Contents, Variant};
 use crate::failure::{Failure, Reason};
 use crate::parser::{named_fields, unnamed_fields};
 use crate::parts::{attributed, bracketed, line_of, parts};
-use crate::rename::RenameRule;
+use crate::rename::{RenameRule, stored_variant};
 use crate::token::Token;
 use std::alloc::Global;
 
@@ -66,11 +66,7 @@ fn read_variant(
         about.refuse_rename_all()?;
     }
     let name = name.text.clone()?;
-    let shown = match (about.rename, rule) {
-        (Some(rename), _) => rename,
-        (None, Some(rule)) => rule.of_variant(alloc, name.as_str())?,
-        (None, None) => name.clone()?,
-    };
+    let shown = stored_variant(alloc, name.as_str(), about.rename, rule)?;
     Ok(Variant {
         name,
         shown,
