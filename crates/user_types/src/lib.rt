@@ -5,6 +5,7 @@ pub mod at_shapes;
 pub mod by_hand;
 pub mod equal;
 pub mod forms;
+pub mod keyed;
 pub mod kinds;
 pub mod own_types;
 pub mod station;
