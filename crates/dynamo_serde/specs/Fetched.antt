@@ -1,6 +1,6 @@
 -- An attribute value of any kind, as the field modules read it by the steps of a format: which steps are made, in which order,
--- and what each gives. Its kind is asked for first: of the names of the kinds, N, S, BOOL, B, NULL, M, L, SS, NS and BS in this
--- order, from 0, the one that comes is picked.
+-- and what each gives. Its kind is asked for first: one of several names comes, and its place among them, from 0, is that in
+-- the order N, S, BOOL, B, NULL, M, L, SS, NS, BS. Which names were asked for is left open.
 use Rattle.std.specs.Prelude.{◌≡◌, ℕ, List, [], ◌∷◌, Bool, None, false}
 use Rattle.serde.specs.Event.{Event, boolean, text, octets, seq_begins, seq_ends, map_begins, map_ends, key_begins}
 use Rattle.serde.specs.Steps as steps

@@ -18,7 +18,7 @@ pub data Token : Type 0 where
   begin_set : SetKind → Token
 
 -- The row of an attribute value: a scalar is one token, and a list, a set or a map stands between its two ends. Each member of a
--- map is its key and then its value, in ascending order of the bytes of the keys.
+-- map is its key and then its value, in the order of the members, which in a view is the ascending order of the bytes of their keys.
 abbrev mutual
   pub laid : Av → List Token
   laid (av.N s) = number s ∷ []

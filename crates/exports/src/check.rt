@@ -18,9 +18,9 @@ use std::io::BufRead;
 ///
 /// # Errors
 ///
-/// Returns a [`Finding`] if the line has no item, or if its item can't be read as the type. The next call
-/// goes on behind the line, except after [`Fault::Read`](crate::Fault::Read). A line whose item can't be
-/// read as the type is read once more, to find the place of the error.
+/// Returns a [`Finding`] if the line has no item, or if its item can't be read as the type. The next
+/// call goes on behind the line, except after [`Fault::Read`](crate::Fault::Read). A line whose item
+/// can't be read as the type is read once more, to find the place of the error.
 pub fn next_value<T: Deserialize, R: BufRead>(
     alloc: Global,
     lines: &mut Lines<R>,
@@ -53,8 +53,8 @@ fn value_in<T: Deserialize>(alloc: Global, line: Line, text: &[u8]) -> Result<T,
     }
 }
 
-// The place where reading the item of a text as the type returns this error. It is the whole if another error
-// is returned, as if memory runs out.
+// The place where reading the item of a text as the type returns this error. It is the whole if
+// another error is returned, as if memory runs out.
 fn place_in<T: Deserialize>(alloc: Global, text: &[u8], error: &Error) -> Place {
     match item_of_text(alloc, text) {
         Ok(item) => match from_item_located::<T>(alloc, item) {

@@ -3,9 +3,9 @@
 //! - [`Lines`] are the items of a full or an incremental export to S3, one in each line. A line
 //!   without an item is a [`LineFault`]. [`change_of`] returns the put or the delete of a line.
 //! - [`requests_in_file`] reads the request file of `aws dynamodb batch-write-item`.
-//! - [`next_value`] reads the next line of an export as a value of a type. A line that can't be read
-//!   is a [`Finding`]. [`Groups`] counts the findings with the same error at the same place, and
-//!   [`Summary`] the lines.
+//! - [`next_value`] reads the next line of an export as a value of a type. A line that can't be
+//!   read is a [`Finding`]. [`Groups`] counts the findings with the same error at the same place,
+//!   and [`Summary`] the lines.
 //!
 //! # Examples
 //!

@@ -109,8 +109,8 @@ pub fn reread_clear<T: Shaped>(alloc: Global, value: &T) -> Result<(AttributeVal
 ///
 /// # Errors
 ///
-/// Returns the error of [`to_item`](crate::to_item), as `NotMaplike` for a value that isn't written
-/// as a map.
+/// Returns the error of [`to_item`](crate::to_item), such as `NotMaplike` for a value that isn't
+/// written as a map.
 ///
 /// Returns [`ErrorImpl::OutOfMemory`](dynamo_value::ErrorImpl::OutOfMemory) if memory runs out.
 ///
@@ -119,7 +119,7 @@ pub fn reread_clear<T: Shaped>(alloc: Global, value: &T) -> Result<(AttributeVal
 /// # Examples
 ///
 /// ```rust
-/// use serde_dynamo::{Error, ErrorImpl, stored};
+/// use serde_dynamo::{ErrorImpl, stored};
 /// use std::collections::BTreeMap;
 ///
 /// let mut ages = BTreeMap::new(alloc);

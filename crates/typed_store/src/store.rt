@@ -290,7 +290,8 @@ impl<T: AsItem + Keyed, S: Alter + Drop> TypedStore<T, S> {
     ///
     /// # Errors
     ///
-    /// Returns [`TypedStoreError::Value`] with the error of reading one of the items.
+    /// Returns [`TypedStoreError::Value`] with the error of reading the first of the
+    /// items that doesn't read.
     ///
     /// Returns [`TypedStoreError::Store`] with the error of [`TableStore::query`].
     pub fn query(&mut self, query: &Query<'_>) -> Result<Vec<T>, TypedStoreError>
@@ -332,7 +333,8 @@ impl<T: AsItem + Keyed, S: Alter + Drop> TypedStore<T, S> {
     ///
     /// # Errors
     ///
-    /// Returns [`TypedStoreError::Value`] with the error of reading one of the items.
+    /// Returns [`TypedStoreError::Value`] with the error of reading the first of the
+    /// items that doesn't read.
     ///
     /// Returns [`TypedStoreError::Store`] with the error of [`TableStore::scan`].
     pub fn scan(

@@ -74,8 +74,8 @@ pub fn value_from<T: Shaped>(alloc: Global, item: Item) -> Result<T>
 ///
 /// # Errors
 ///
-/// Returns the error of reading the first of them that doesn't read, or `OutOfMemory` if memory runs
-/// out.
+/// Returns the error of reading the first of them that doesn't read, or `OutOfMemory` if memory
+/// runs out.
 pub(crate) fn values_of<T: AsItem>(alloc: Global, found: &[(&Key, &Item)]) -> Result<Vec<T>>
     ensures read { IfOk result (λ values. ReadEach T.reads_item (seen found.now) values.items) }
     ensures err { IfErr result (λ e. (fault_of e ≡ out_of_memory) ⊎ RefusesFirst T.reads_item (fault_of e) (seen found.now)) }

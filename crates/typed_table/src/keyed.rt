@@ -10,6 +10,8 @@ use table_keys::KeySchema;
 /// each table of the type, is proved to have this key. Without the member nothing is promised.
 ///
 /// ```text
+/// ghost use Rattle.std.specs.Prelude.{◌≡◌, [], ◌∷◌, codes};
+///
 /// ghost keyed_by = { λ words. words ≡ codes "hotel:S" ∷ codes "number:N" ∷ [] };
 /// ```
 ///

@@ -92,7 +92,8 @@ pub struct TypedTable<T> {
 }
 
 impl<T: AsItem + Keyed> TypedTable<T> {
-    /// Returns an empty table whose key is that of the type. Its items, and the values that it returns, are allocated in `alloc`.
+    /// Returns an empty table whose key is that of the type. Its items, and the values that it
+    /// returns, are allocated in `alloc`.
     ///
     /// # Errors
     ///
