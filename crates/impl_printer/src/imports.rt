@@ -28,8 +28,8 @@ const DEFINITIONS: [&str; 10] = [
     "dynamo_record.specs.declared.variant_list.Choice.TheVariants Left Right",
 ];
 
-/// The words that are imported for impls: definitions, and names that are of `dynamo_record` or have
-/// their path.
+/// The words that are imported for impls: definitions, and names that are of `dynamo_record` or
+/// have their path.
 #[derive(Drop)]
 pub struct Words {
     // Texts of words, with a space between two.
