@@ -23,7 +23,8 @@ pub unless_err : {A B : Type 0} (r : Result A B) (P : Type 0) → is_err r ≡ f
 unless_err (Ok a) P fine h = h
 unless_err (Err b) P fine h = let never : ⊥ = cc (fine) in absurd never
 
-in_turn_push : {A D : Type 0} (reads : A → D → D → Type 0) (xs : List A) (x : A) (old mid new : D) → InTurn reads xs old mid → reads x mid new → InTurn reads (xs ++ x ∷ []) old new
+in_turn_push : {A D : Type 0} (reads : A → D → D → Type 0) (xs : List A) (x : A) (old mid new : D)
+    → InTurn reads xs old mid → reads x mid new → InTurn reads (xs ++ x ∷ []) old new
 in_turn_push reads [] x old mid new h k = (new, subst (λ d. reads x d new) h k, refl)
 in_turn_push reads (y ∷ xs) x old mid new h k = (h.0, h.1, in_turn_push reads xs x h.0 mid new h.2 k)
 
@@ -35,7 +36,8 @@ set_more reads f vs ws v old mid new pushed h k =
 
 module _ {F E K : Type 0} (gives : F → List ℕ → Event → F → Type 0) (stays : F → F → Type 0) (picks : F → List ℕ → Bool → List Name → ℕ → F → Type 0) where
   -- the kind that was asked for is this one
-  pub asked : (names : List Name) (at kind : ℕ) (old new : Deserializer F E K) → at ≡ kind → Picks picks old false names at new → Asks gives stays picks kind old new
+  pub asked : (names : List Name) (at kind : ℕ) (old new : Deserializer F E K)
+      → at ≡ kind → Picks picks old false names at new → Asks gives stays picks kind old new
   asked names at kind old new is h = (names, subst (λ n. Picks picks old false names n new) is h)
 
   elements_push : (as' : List Av) (a : Av) (old mid looked new : Deserializer F E K) → ReadsElements gives stays picks (elements_of as') old mid
@@ -43,11 +45,13 @@ module _ {F E K : Type 0} (gives : F → List ℕ → Event → F → Type 0) (s
   elements_push [] a old mid looked new h st r = (looked, new, subst (λ d. Stays stays d looked) h st, r, refl)
   elements_push (b ∷ as') a old mid looked new h st r = (h.0, h.1, h.2, h.3, elements_push as' a h.1 mid looked new h.4 st r)
 
-  members_push : (es : List (List ℕ × Av)) (k : List ℕ) (a : Av) (old mid entry keyed new : Deserializer F E K) → ReadsMembers gives stays picks (members_of es) old mid
+  members_push : (es : List (List ℕ × Av)) (k : List ℕ) (a : Av) (old mid entry keyed new : Deserializer F E K)
+      → ReadsMembers gives stays picks (members_of es) old mid
       → Gives gives mid key_begins entry → Gives gives entry (text k) keyed → ReadsValue gives stays picks a keyed new
       → ReadsMembers gives stays picks (members_of (es ++ (k, a) ∷ [])) old new
   members_push [] k a old mid entry keyed new h begins key r = (entry, keyed, new, subst (λ d. Gives gives d key_begins entry) h begins, key, r, refl)
-  members_push (e ∷ es) k a old mid entry keyed new h begins key r = (h.0, h.1, h.2, h.3, h.4, h.5, members_push es k a h.2 mid entry keyed new h.6 begins key r)
+  members_push (e ∷ es) k a old mid entry keyed new h begins key r =
+      (h.0, h.1, h.2, h.3, h.4, h.5, members_push es k a h.2 mid entry keyed new h.6 begins key r)
 
   -- the elements so far
   abbrev pub ListSoFar : List AttributeValue → Deserializer F E K → Deserializer F E K → Type 0
@@ -68,9 +72,11 @@ module _ {F E K : Type 0} (gives : F → List ℕ → Event → F → Type 0) (s
   -- the entries so far, of which those with equal keys are one
   abbrev pub MapSoFar : List Entry → Deserializer F E K → Deserializer F E K → Type 0
   MapSoFar es begun now =
-      (read : List (List ℕ × Av)) × (collect (members_in_order (members_of read)) ≡ entries_view es) × ReadsMembers gives stays picks (members_of read) begun now
+      (read : List (List ℕ × Av)) × (collect (members_in_order (members_of read)) ≡ entries_view es)
+      × ReadsMembers gives stays picks (members_of read) begun now
 
-  pub map_more : {S : Type 0} (m n : HashMap (String Global) AttributeValue S) (k : String Global) (v : AttributeValue) (begun mid entry keyed new : Deserializer F E K)
+  pub map_more : {S : Type 0} (m n : HashMap (String Global) AttributeValue S) (k : String Global) (v : AttributeValue)
+      (begun mid entry keyed new : Deserializer F E K)
       → Updates string_eq m n k (Some v) → MapSoFar m.entries begun mid → Gives gives mid key_begins entry → Gives gives entry (text (string_bytes k)) keyed
       → Fetches gives stays picks (view v) keyed new → MapSoFar n.entries begun new
   map_more m n k v begun mid entry keyed new updates h begins key r =

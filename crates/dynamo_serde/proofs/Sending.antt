@@ -74,7 +74,8 @@ pub ordered_push : (sent : List (List ℕ × Av)) (key : List ℕ) (k : Av)
 ordered_push [] key k = refl
 ordered_push (e ∷ sent) key k = ap (λ es. (e.0, in_order e.1) ∷ es) (ordered_push sent key k)
 
-pub collect_push : (es before : List (List ℕ × Av)) (key : List ℕ) (a : Av) → collect_onto before (es ++ (key, a) ∷ []) ≡ put text_cmp key a (collect_onto before es)
+pub collect_push : (es before : List (List ℕ × Av)) (key : List ℕ) (a : Av)
+    → collect_onto before (es ++ (key, a) ∷ []) ≡ put text_cmp key a (collect_onto before es)
 collect_push [] before key a = refl
 collect_push (e ∷ es) before key a = collect_push es (put text_cmp e.0 e.1 before) key a
 
