@@ -5,6 +5,7 @@ mod attributes;
 mod conversions;
 mod depth;
 mod described_twins;
+mod differences;
 mod enums;
 mod keys;
 mod left_out_twins;

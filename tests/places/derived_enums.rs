@@ -82,9 +82,9 @@ fn a_tag_inside_is_a_field(rt: HostRuntime) -> Result<(), Fail> {
         (r#"{"L":[{"M":{"kind":{"S":"Circle"},"r":{"N":"300"}}}]}"#, "[0].r: Failed to parse '300'"),
         (r#"{"L":[{"M":{"kind":{"S":"Square"},"a":{"L":[]}}}]}"#, "[0].a: Expected num"),
         (r#"{"L":[{"M":{"kind":{"S":"Circle"}}}]}"#, "[0]: missing field `r`"),
-        (r#"{"L":[{"M":{"kind":{"N":"1"},"r":{"N":"1"}}}]}"#, "[0].kind: Expected enum"),
+        (r#"{"L":[{"M":{"kind":{"N":"1"},"r":{"N":"1"}}}]}"#, "[0].kind: Expected string"),
         (r#"{"L":[{"M":{"r":{"N":"1"}}}]}"#, "[0]: missing field `kind`"),
-        (r#"{"L":[{"M":{"kind":{"S":"Point"}}},{"M":{"kind":{"S":"Line"}}}]}"#, "[1]: "),
+        (r#"{"L":[{"M":{"kind":{"S":"Point"}}},{"M":{"kind":{"S":"Line"}}}]}"#, "[1]: unknown variant `Line`"),
         (r#"{"L":[{"S":"Point"}]}"#, "[0]: Expected map"),
     ])
 }
@@ -99,11 +99,11 @@ fn a_tag_beside_its_content(rt: HostRuntime) -> Result<(), Fail> {
         (r#"{"L":[{"M":{"c":{"M":{}},"t":{"S":"Opened"}}}]}"#, "[0].c: missing field `at`"),
         (r#"{"L":[{"M":{"c":{"L":[{"N":"1"},{"S":""}]},"t":{"S":"Moved"}}}]}"#, "[0].c[1]: Expected num"),
         (r#"{"L":[{"M":{"t":{"S":"Named"}}}]}"#, "[0]: missing field `c`"),
-        (r#"{"L":[{"M":{"t":{"S":"Opened"}}}]}"#, "[0]: Expected an item with a single key"),
+        (r#"{"L":[{"M":{"t":{"S":"Opened"}}}]}"#, "[0]: missing content"),
         (r#"{"L":[{"M":{"c":{"N":"1"}}}]}"#, "[0]: missing field `t`"),
-        (r#"{"L":[{"M":{"t":{"S":"Closed"}}},{"M":{"c":{"L":[]},"t":{"S":"Lost"}}}]}"#, "[1]: "),
-        (r#"{"L":[{"M":{"t":{"S":"Closed"}}},{"M":{"t":{"S":"Lost"}}}]}"#, "[1]: "),
-        (r#"{"L":[{"M":{"c":{"L":[]},"t":{"N":"1"}}}]}"#, "[0]: Expected enum"),
+        (r#"{"L":[{"M":{"t":{"S":"Closed"}}},{"M":{"c":{"L":[]},"t":{"S":"Lost"}}}]}"#, "[1]: unknown variant `Lost`"),
+        (r#"{"L":[{"M":{"t":{"S":"Closed"}}},{"M":{"t":{"S":"Lost"}}}]}"#, "[1]: unknown variant `Lost`"),
+        (r#"{"L":[{"M":{"c":{"L":[]},"t":{"N":"1"}}}]}"#, "[0]: Expected string"),
     ])
 }
 

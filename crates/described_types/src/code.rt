@@ -1,6 +1,6 @@
 ghost use Rattle.std.specs.Prelude.{codes};
 ghost use Rattle.std.proofs.Common.{refl};
-ghost use Rattle.dynamo_types.specs.Keys.{own_key};
+ghost use Rattle.dynamo_record.specs.Keys.{own_key};
 ghost use Rattle.dynamo_record.specs.Newtypes.{about_newtype, key_newtype, newtype_by_shape, newtype_reads};
 
 use dynamo_record::{read_newtype, write_newtype};

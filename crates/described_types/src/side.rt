@@ -1,6 +1,6 @@
 ghost use Rattle.std.specs.Prelude.{[], ◌∷◌, codes};
 ghost use Rattle.std.proofs.Common.{refl};
-ghost use Rattle.dynamo_types.specs.Keys.{own_key};
+ghost use Rattle.dynamo_record.specs.Keys.{own_key};
 ghost use Rattle.dynamo_record.specs.UnitEnums.{units_of, about_units, key_units, unit_enum_tells, unit_enum_reads};
 ghost use Rattle.described_types.specs.contracts.side.Side.{enum as variants};
 

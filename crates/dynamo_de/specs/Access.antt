@@ -34,9 +34,14 @@ KeyOf fault reads (e ∷ es) old new r = (new.entries ≡ es) × (new.pending �
 abbrev pub NextKey : {V E : Type 0} → (E → Fault) → (Source → Result V Fault → Type 0) → MapLeft → MapLeft → Result (Option V) E → Type 0
 NextKey fault reads old new r = KeyOf fault reads old.entries old new r
 
+-- Refused by this very fault, and never by out of memory in its place.
+abbrev pub RefusedBy : {V E : Type 0} → (E → Fault) → Fault → Result V E → Type 0
+RefusedBy fault f (Ok v) = ⊥
+RefusedBy fault f (Err e) = fault e ≡ f
+
 -- The pending value is taken and then read, so that a failing one is gone. With none pending nothing changes.
 abbrev pub ValueOf : {V E : Type 0} → (E → Fault) → (Source → Result V Fault → Type 0) → Option Source → MapLeft → MapLeft → Result V E → Type 0
-ValueOf fault reads None old new r = (new.entries ≡ old.entries) × (new.pending ≡ None) × Meets fault (λ a. a ≡ Err map_value_before_key) r
+ValueOf fault reads None old new r = (new.entries ≡ old.entries) × (new.pending ≡ None) × RefusedBy fault map_value_before_key r
 ValueOf fault reads (Some s) old new r = (new.entries ≡ old.entries) × (new.pending ≡ None) × Meets fault (reads s) r
 
 abbrev pub NextValue : {V E : Type 0} → (E → Fault) → (Source → Result V Fault → Type 0) → MapLeft → MapLeft → Result V E → Type 0

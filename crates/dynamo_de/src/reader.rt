@@ -1,4 +1,4 @@
-ghost use Rattle.std.specs.Prelude.{◌≡◌, ℕ, Bool, IfSome, List, Option, Result};
+ghost use Rattle.std.specs.Prelude.{◌≡◌, ℕ, Bool, false, IfSome, List, Option, Result};
 ghost use Rattle.dynamo_value.specs.Fault.{Fault, expected_char, map_value_before_key};
 ghost use Rattle.dynamo_de.specs.Access.{Hints, hint_of};
 ghost use Rattle.dynamo_de.specs.Inside.{ShowsInside};
@@ -34,6 +34,9 @@ pub trait Reader: Sized + Drop {
     ghost counted: { Self.Elements → Bool };
 
     ghost entries: { Self.Entries → List Entry };
+
+    // Whether the remaining entries are counted.
+    ghost counted_entries: { Self.Entries → Bool } = { λ _. false };
 
     ghost chosen: { Self.Choice → Result (List ℕ × Option Source) Fault };
 
@@ -115,10 +118,9 @@ pub trait Reader: Sized + Drop {
         ensures hint { Hints (elements rest.now) result }
         ensures exact { result ≡ hint_of (counted rest.now) (elements rest.now) };
 
-    /// Returns the number of remaining entries, if it is known.
-    fn entries_left(_rest: &Self::Entries) -> Option<usize>
-        ensures { Hints (entries _rest.now) result }
-    {
-        None
-    }
+    /// Returns the number of remaining entries, if it is known. An implementation that returns it
+    /// says for which entries by the ghost member `counted_entries`.
+    fn entries_left(rest: &Self::Entries) -> Option<usize>
+        ensures hint { Hints (entries rest.now) result }
+        ensures exact { result ≡ hint_of (counted_entries rest.now) (entries rest.now) };
 }

@@ -113,7 +113,11 @@ impl<R: Reader> MapAccess for ReaderMapAccess<R> {
         }
     }
 
-    fn size_hint(&self) -> Option<usize> {
+    /// Returns the number of remaining entries, if the reader counts them.
+    fn size_hint(&self) -> Option<usize>
+        ensures hint { Hints (R.entries self.now.entries) result }
+        ensures exact { result ≡ hint_of (R.counted_entries self.now.entries) (R.entries self.now.entries) }
+    {
         R::entries_left(&self.entries)
     }
 }

@@ -15,7 +15,7 @@ ghost use Rattle.dynamo_json.specs.OfText.{RefusedText, fault_in};
 ghost use Rattle.dynamo_json.specs.Parsed.{parsed, parsed_item};
 
 use crate::from_text::Stop;
-use crate::{TextError, from_json, from_text, json_text, to_json};
+use crate::{TextError, conforms, from_json, from_text, json_text, to_json};
 use dynamo_value::{AttributeValue, Item, Result, refusal};
 use serde_json::Value;
 use std::alloc::{AllocError, Global};
@@ -158,6 +158,15 @@ pub trait DynamoJson: Sized + Drop {
     fn from_json_text(alloc: Global, text: &str) -> Result<Self, TextError>
         ensures ok { IfOk result (λ value. read text.now ≡ Some (json_value value)) }
         ensures err { IfErr result (λ e. RefusedText refusal text.now (fault_in e)) };
+
+    /// Promises what holds of each value of a program, at every depth: a byte string holds bytes,
+    /// and no map has a key twice. So it is written and read back as itself, by the law
+    /// `attribute_value` of `serde_dynamo::laws`.
+    ///
+    /// It walks over the whole value, allocates nothing, and has no other effect. Call it in a
+    /// function whose contract needs the promise; `to_json` makes the same promise of the value
+    /// whose JSON it returns.
+    fn conforms(&self);
 }
 
 // The JSON value of a text.
@@ -212,6 +221,13 @@ impl DynamoJson for AttributeValue {
             Err(Stop::Unlike) => Ok(Self::from_json(alloc, &json_of_text(alloc, text)?)?),
         }
     }
+
+    fn conforms(&self)
+        ensures bytes { HasBytes (av.view self.now) }
+        ensures keys { KeysDiffer self.now }
+    {
+        conforms::value(self)
+    }
 }
 
 /// Each JSON value is that of one item at most.
@@ -256,5 +272,12 @@ impl DynamoJson for Item {
             Err(Stop::OutOfMemory) => Err(TextError::from(AllocError)),
             Err(Stop::Unlike) => Ok(Self::from_json(alloc, &json_of_text(alloc, text)?)?),
         }
+    }
+
+    fn conforms(&self)
+        ensures bytes { MembersHaveBytes (item_view self.now) }
+        ensures keys { ItemKeysDiffer self.now }
+    {
+        conforms::members(self.inner())
     }
 }

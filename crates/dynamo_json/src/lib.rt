@@ -1,6 +1,7 @@
 //! JSON: attribute values and items as DynamoDB JSON, both ways, and values as plain JSON.
 #![tactic(auto)]
 
+mod conforms;
 mod dynamo;
 mod from_json;
 mod from_text;

@@ -83,4 +83,8 @@ impl Reader for DeserializerBytes {
     fn elements_left(_rest: &NoElements) -> Option<usize> {
         None
     }
+
+    fn entries_left(_rest: &NoEntries) -> Option<usize> {
+        None
+    }
 }

@@ -157,4 +157,8 @@ impl<P: TextKind> Reader for TextDeserializer<P> {
     fn elements_left(_rest: &NoElements) -> Option<usize> {
         None
     }
+
+    fn entries_left(_rest: &NoEntries) -> Option<usize> {
+        None
+    }
 }

@@ -51,8 +51,8 @@ type Inner<R> = Showing<R, <R as Reader>::Elements, <R as Reader>::Entries, <R a
 
 type Outer<R> = Showing<Located<R>, LocatedElements<R>, LocatedEntries<R>, LocatedChoice<R>>;
 
-// The same, with located readers around what is inside.
-fn raise<R: Reader>(alloc: Global, shown: Inner<R>, way: Way) -> Outer<R>
+// The same, with located readers around what is inside. It borrows the way, so that most arms have nothing to drop.
+fn raise<R: Reader>(alloc: Global, shown: Inner<R>, way: &Way) -> Outer<R>
     ensures { seen (λ d. R.source d.reader) (λ l. R.elements l.rest) (λ m. R.entries m.rest)
         (λ c. R.chosen c.choice) result ≡ seen R.source R.elements R.entries R.chosen shown }
 {
@@ -75,16 +75,30 @@ fn raise<R: Reader>(alloc: Global, shown: Inner<R>, way: Way) -> Outer<R>
         Showing::Bytes(v) => Showing::Bytes(v),
         Showing::None => Showing::None,
         Showing::Unit => Showing::Unit,
-        Showing::Some(reader) => Showing::Some(Located { reader, way }),
-        Showing::Newtype(reader) => Showing::Newtype(Located { reader, way }),
+        Showing::Some(reader) => Showing::Some(Located {
+            reader,
+            way: way.again(),
+        }),
+        Showing::Newtype(reader) => Showing::Newtype(Located {
+            reader,
+            way: way.again(),
+        }),
         Showing::Sequence(rest) => Showing::Sequence(LocatedElements {
             rest,
             alloc,
-            way,
+            way: way.again(),
             index: 0,
         }),
-        Showing::Map(rest) => Showing::Map(LocatedEntries { rest, alloc, way }),
-        Showing::Enum(choice) => Showing::Enum(LocatedChoice { choice, alloc, way }),
+        Showing::Map(rest) => Showing::Map(LocatedEntries {
+            rest,
+            alloc,
+            way: way.again(),
+        }),
+        Showing::Enum(choice) => Showing::Enum(LocatedChoice {
+            choice,
+            alloc,
+            way: way.again(),
+        }),
     }
 }
 
@@ -105,6 +119,8 @@ impl<R: Reader> Reader for Located<R> {
 
     ghost entries = { λ m. R.entries m.rest };
 
+    ghost counted_entries = { λ m. R.counted_entries m.rest };
+
     ghost chosen = { λ c. R.chosen c.choice };
 
     fn alloc(&self) -> Global {
@@ -119,7 +135,7 @@ impl<R: Reader> Reader for Located<R> {
         let Located { reader, way } = self;
         way.mark();
         let alloc = reader.alloc();
-        Ok(raise::<R>(alloc, reader.show(request)?, way))
+        Ok(raise::<R>(alloc, reader.show(request)?, &way))
     }
 
     fn surface(self, request: Request) -> Result<Surface, R::Error> {

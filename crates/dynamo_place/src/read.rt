@@ -36,13 +36,20 @@ pub fn read_located<T: Deserialize, R: Reader>(
     ensures { Meets (λ e. R.Error.fault e.error) (T.reads (R.source reader)) result }
 {
     let way = Way::start(alloc);
-    match T::deserialize(alloc, Located::new(reader, way.again())) {
+    match read_from(alloc, Located::new(reader, way.again())) {
         Ok(value) => Ok(value),
         Err(error) => Err(LocatedError {
             place: way.place(alloc),
             error,
         }),
     }
+}
+
+// Reads a value from any reader. A caller with a certain reader is proved from this contract alone.
+fn read_from<T: Deserialize, R: Reader>(alloc: Global, reader: R) -> Result<T, R::Error>
+    ensures { Meets R.Error.fault (T.reads (R.source reader)) result }
+{
+    T::deserialize(alloc, reader)
 }
 
 /// Reads a value from an attribute value as `from_attribute_value` does, and says where an error was found.
@@ -61,7 +68,7 @@ pub fn from_attribute_value_located<T: Deserialize>(
     read_lent(alloc, reader, again)
 }
 
-// Reads a value, and after an error reads it again to find the place.
+// Reads a value that is lent, and after an error reads it again to find the place.
 fn read_lent<T: Deserialize>(
     alloc: Global,
     reader: LentDeserializer<'_>,
@@ -69,21 +76,36 @@ fn read_lent<T: Deserialize>(
 ) -> Result<T, LocatedError<Error>>
     ensures { Meets (λ e. fault_of e.error) (T.reads (lent_source reader.entry)) result }
 {
-    match T::deserialize(alloc, reader) {
+    read_twice(alloc, reader, again)
+}
+
+// The same from any reader, and another one of the same source.
+fn read_twice<T: Deserialize, R: Reader<Error = Error>>(
+    alloc: Global,
+    reader: R,
+    again: R,
+) -> Result<T, LocatedError<Error>>
+    ensures { Meets (λ e. fault_of e.error) (T.reads (R.source reader)) result }
+{
+    match read_from(alloc, reader) {
         Ok(value) => Ok(value),
         Err(error) => {
-            let place = place_of::<T>(alloc, again, &error);
+            let place = place_of::<T, R>(alloc, again, &error);
             Err(LocatedError { place, error })
         }
     }
 }
 
 // The place where reading returns this error, or that of the whole if it returns another one.
-fn place_of<T: Deserialize>(alloc: Global, reader: LentDeserializer<'_>, error: &Error) -> Place {
+fn place_of<T: Deserialize, R: Reader<Error = Error>>(
+    alloc: Global,
+    reader: R,
+    error: &Error,
+) -> Place {
     if matches!(error.kind(), ErrorImpl::OutOfMemory) {
         return Place::new();
     }
-    match read_located::<T, LentDeserializer<'_>>(alloc, reader) {
+    match read_located::<T, R>(alloc, reader) {
         Ok(_value) => Place::new(),
         Err(located) if located.error.kind() == error.kind() => located.place,
         Err(_located) => Place::new(),

@@ -7,7 +7,7 @@ ghost use Rattle.dynamo_place.specs.Placed.{without_place};
 use crate::locating::LocatingSerializer;
 use crate::trail::Trail;
 use crate::{LocatedError, Place};
-use dynamo_ser::Serialize;
+use dynamo_ser::{Serialize, Serializer};
 use dynamo_value::{AttributeValue, Error, Item};
 use dynamo_write::{to_attribute_value, to_item};
 use std::alloc::Global;
@@ -87,9 +87,13 @@ fn located<T: Serialize>(alloc: Global, value: &T, error: Error) -> LocatedError
 // The place where an error is met when a value is written again, or the empty one if it isn't met again.
 fn place_of<T: Serialize>(alloc: Global, value: &T, error: &Error) -> Place {
     let trail = Trail::new(alloc);
-    let written = value.serialize(LocatingSerializer::new(alloc, &trail));
-    match written {
+    match write_to(value, LocatingSerializer::new(alloc, &trail)) {
         Err(again) if again.kind() == error.kind() => trail.into_place(),
         _ => Place::new(),
     }
+}
+
+// Writes a value with any serializer, so that the proof of a caller with a certain one is short.
+fn write_to<T: Serialize, S: Serializer>(value: &T, serializer: S) -> Result<S::Ok, S::Error> {
+    value.serialize(serializer)
 }

@@ -12,5 +12,6 @@ pub use Rattle.dynamo_de.specs.Source
 pub mod Accesses
 pub mod Entries
 pub mod Lent
+pub mod Outright
 pub mod Reader
 pub mod Unread

@@ -5,6 +5,7 @@ ghost use Rattle.dynamo_de.specs.Access.{Hints};
 ghost use Rattle.dynamo_de.specs.Shown.{shown};
 ghost use Rattle.dynamo_de.specs.Shows.{ShowsSurface};
 ghost use Rattle.dynamo_de.specs.Source.{attribute, plain_text};
+ghost use Rattle.dynamo_read.specs.Outright.{OutrightButEntries};
 ghost use Rattle.dynamo_read.specs.Reader.{source_of, IsShown, asks_elements, Counted, IfElements};
 ghost use Rattle.dynamo_read.specs.Unread.{elements_left, elements_counted, entries_left, chosen_of};
 
@@ -78,7 +79,8 @@ impl Deserializer {
 // What a source that isn't a string shows for a string's request, without its contents.
 #[inline(never)]
 fn other_surface(reader: Deserializer, request: Request) -> Result<Surface>
-    ensures { ShowsSurface fault_of (shown request (source_of reader)) result }
+    ensures shown { ShowsSurface fault_of (shown request (source_of reader)) result }
+    ensures outright { OutrightButEntries (shown request (source_of reader)) result }
 {
     Ok(reader.show(request)?.surface())
 }
@@ -119,6 +121,8 @@ impl Reader for Deserializer {
 
     ghost entries = { entries_left };
 
+    ghost counted_entries = { λ _. true };
+
     ghost chosen = { chosen_of };
 
     fn alloc(&self) -> Global {
@@ -133,11 +137,13 @@ impl Reader for Deserializer {
         }
     }
 
-    /// Returns what the source holds. The elements of a list are counted, those of a set aren't.
+    /// Returns what the source holds. The elements of a list are counted, those of a set aren't. It
+    /// allocates nothing but the list of a map's entries.
     #[inline(always)]
     fn show(self, request: Request) -> Result<Shown>
         ensures shown { IsShown (shown request (source_of self)) result }
         ensures counted { asks_elements request ≡ true → IfElements (Counted (source_of self)) result }
+        ensures outright { OutrightButEntries (shown request (source_of self)) result }
     {
         let alloc = self.alloc;
         match self.source {
@@ -151,7 +157,10 @@ impl Reader for Deserializer {
 
     /// Returns the same without its contents. A string is returned at once for a string's request.
     #[inline(always)]
-    fn surface(self, request: Request) -> Result<Surface> {
+    fn surface(self, request: Request) -> Result<Surface>
+        ensures shown { ShowsSurface fault_of (shown request (source_of self)) result }
+        ensures outright { OutrightButEntries (shown request (source_of self)) result }
+    {
         let Deserializer { alloc, source } = self;
         match (request, source) {
             (

@@ -125,6 +125,8 @@ impl<'a> Reader for LentDeserializer<'a> {
 
     ghost entries = { lent_entries };
 
+    ghost counted_entries = { λ _. true };
+
     ghost chosen = { lent_chosen };
 
     fn alloc(&self) -> Global {

@@ -8,6 +8,7 @@ ghost use Rattle.dynamo_de.specs.Shown.{any_shown, num_shown, bool_shown, char_s
 ghost use Rattle.dynamo_de.specs.Shows.{Shows, seen};
 ghost use Rattle.dynamo_de.specs.Source.{Source, Entry, attribute};
 ghost use Rattle.dynamo_leaf.specs.Leaf.{leaf_sight, asked};
+ghost use Rattle.dynamo_read.specs.Outright.{RefusesOutright, OutrightButEntries};
 ghost use Rattle.dynamo_read.specs.Reader.{source_of, IsShown, asks_elements, Counted, IfElements};
 ghost use Rattle.dynamo_read.specs.Unread.{elements_left, entries_left, chosen_of};
 
@@ -30,6 +31,7 @@ pub(crate) fn attribute_value(
 ) -> Result<Shown>
     ensures shown { IsShown (attribute_shown request (view value)) result }
     ensures counted { asks_elements request ≡ true → IfElements (Counted (attribute (view value))) result }
+    ensures outright { OutrightButEntries (attribute_shown request (view value)) result }
 {
     match request {
         Request::Any | Request::IgnoredAny => any(alloc, value),
@@ -64,6 +66,7 @@ pub(crate) fn attribute_value(
 fn any(alloc: Global, value: AttributeValue) -> Result<Shown>
     ensures shown { IsShown (any_shown (view value)) result }
     ensures counted { IfElements (Counted (attribute (view value))) result }
+    ensures outright { OutrightButEntries (any_shown (view value)) result }
 {
     match value {
         AttributeValue::N(text) => number_text(alloc, Request::Any, text),
@@ -83,7 +86,8 @@ fn any(alloc: Global, value: AttributeValue) -> Result<Shown>
 // An integer of the kind that is asked for.
 #[inline(always)]
 fn number(alloc: Global, request: Request, value: AttributeValue) -> Result<Shown>
-    ensures { (kind : IntegerKind) → asked request ≡ Some kind → IsShown (num_shown kind (view value)) result }
+    ensures shown { (kind : IntegerKind) → asked request ≡ Some kind → IsShown (num_shown kind (view value)) result }
+    ensures outright { (kind : IntegerKind) → asked request ≡ Some kind → OutrightButEntries (num_shown kind (view value)) result }
 {
     match value {
         AttributeValue::N(text) => number_text(alloc, request, text),
@@ -94,9 +98,10 @@ fn number(alloc: Global, request: Request, value: AttributeValue) -> Result<Show
 // A boolean.
 #[inline(always)]
 pub(crate) fn boolean<D, L, M, C>(value: &AttributeValue) -> Result<Showing<D, L, M, C>>
-    ensures { (source : D → Source) (elements : L → List Source) (entries : M → List Entry)
+    ensures shown { (source : D → Source) (elements : L → List Source) (entries : M → List Entry)
         (variants : C → Result (List ℕ × Option Source) Fault)
         → Shows fault_of source elements entries variants (bool_shown (view value.now)) result }
+    ensures outright { RefusesOutright (bool_shown (view value.now)) result }
 {
     match value {
         AttributeValue::Bool(b) => Ok(Showing::Bool(*b)),
@@ -107,9 +112,10 @@ pub(crate) fn boolean<D, L, M, C>(value: &AttributeValue) -> Result<Showing<D, L
 // The one character of a string.
 #[inline(always)]
 pub(crate) fn character<D, L, M, C>(value: &AttributeValue) -> Result<Showing<D, L, M, C>>
-    ensures { (source : D → Source) (elements : L → List Source) (entries : M → List Entry)
+    ensures shown { (source : D → Source) (elements : L → List Source) (entries : M → List Entry)
         (variants : C → Result (List ℕ × Option Source) Fault)
         → Shows fault_of source elements entries variants (char_shown (view value.now)) result }
+    ensures outright { RefusesOutright (char_shown (view value.now)) result }
 {
     match value {
         AttributeValue::S(text) => only_char(text.as_str()),
@@ -121,9 +127,10 @@ pub(crate) fn character<D, L, M, C>(value: &AttributeValue) -> Result<Showing<D,
 // what it is.
 #[tactic(auto, using(crate::proofs::Characters::only_one, crate::proofs::Characters::first_of_more))]
 fn only_char<D, L, M, C>(text: &str) -> Result<Showing<D, L, M, C>>
-    ensures { (source : D → Source) (elements : L → List Source) (entries : M → List Entry)
+    ensures shown { (source : D → Source) (elements : L → List Source) (entries : M → List Entry)
         (variants : C → Result (List ℕ × Option Source) Fault)
         → Shows fault_of source elements entries variants (chars_shown (chars text.now)) result }
+    ensures outright { RefusesOutright (chars_shown (chars text.now)) result }
 {
     let mut chars = text.chars();
     let Some(first) = chars.next() else {
@@ -138,7 +145,8 @@ fn only_char<D, L, M, C>(text: &str) -> Result<Showing<D, L, M, C>>
 // A string.
 #[inline(always)]
 fn text(value: AttributeValue) -> Result<Shown>
-    ensures { IsShown (text_shown (view value)) result }
+    ensures shown { IsShown (text_shown (view value)) result }
+    ensures outright { RefusesOutright (text_shown (view value)) result }
 {
     match value {
         AttributeValue::S(text) => Ok(Showing::Text(text)),
@@ -149,7 +157,8 @@ fn text(value: AttributeValue) -> Result<Shown>
 // A byte string.
 #[inline(always)]
 fn bytes(value: AttributeValue) -> Result<Shown>
-    ensures { IsShown (bytes_shown (view value)) result }
+    ensures shown { IsShown (bytes_shown (view value)) result }
+    ensures outright { RefusesOutright (bytes_shown (view value)) result }
 {
     match value {
         AttributeValue::B(bytes) => Ok(Showing::Bytes(bytes)),
@@ -161,7 +170,8 @@ fn bytes(value: AttributeValue) -> Result<Shown>
 // is false.
 #[inline(always)]
 fn option(alloc: Global, value: AttributeValue) -> Result<Shown>
-    ensures { IsShown (option_shown (view value)) result }
+    ensures shown { IsShown (option_shown (view value)) result }
+    ensures outright { RefusesOutright (option_shown (view value)) result }
 {
     match value {
         AttributeValue::Null(true) => Ok(Showing::None),
@@ -175,9 +185,10 @@ pub(crate) fn null<D, L, M, C>(
     otherwise: ErrorImpl,
     value: &AttributeValue,
 ) -> Result<Showing<D, L, M, C>>
-    ensures { (source : D → Source) (elements : L → List Source) (entries : M → List Entry)
+    ensures shown { (source : D → Source) (elements : L → List Source) (entries : M → List Entry)
         (variants : C → Result (List ℕ × Option Source) Fault)
         → Shows fault_of source elements entries variants (null_shown (fault_of otherwise) (view value.now)) result }
+    ensures outright { RefusesOutright (null_shown (fault_of otherwise) (view value.now)) result }
 {
     match value {
         AttributeValue::Null(true) => Ok(Showing::Unit),
@@ -189,6 +200,7 @@ pub(crate) fn null<D, L, M, C>(
 fn sequence(alloc: Global, value: AttributeValue) -> Result<Shown>
     ensures shown { IsShown (seq_shown (view value)) result }
     ensures counted { IfElements (Counted (attribute (view value))) result }
+    ensures outright { RefusesOutright (seq_shown (view value)) result }
 {
     match value {
         AttributeValue::L(values) => Ok(Showing::Sequence(Elements::values(alloc, values))),
@@ -205,7 +217,8 @@ fn sequence(alloc: Global, value: AttributeValue) -> Result<Shown>
 // A map.
 #[inline(always)]
 fn map(alloc: Global, value: AttributeValue) -> Result<Shown>
-    ensures { IsShown (map_shown (view value)) result }
+    ensures shown { IsShown (map_shown (view value)) result }
+    ensures outright { OutrightButEntries (map_shown (view value)) result }
 {
     match value {
         AttributeValue::M(map) => Ok(Showing::Map(Entries::of_map(alloc, map)?)),
@@ -218,6 +231,7 @@ fn map(alloc: Global, value: AttributeValue) -> Result<Shown>
 fn structure(alloc: Global, value: AttributeValue) -> Result<Shown>
     ensures shown { IsShown (struct_shown (view value)) result }
     ensures counted { IfElements (Counted (attribute (view value))) result }
+    ensures outright { OutrightButEntries (struct_shown (view value)) result }
 {
     match value {
         AttributeValue::L(values) => Ok(Showing::Sequence(Elements::values(alloc, values))),
@@ -228,7 +242,8 @@ fn structure(alloc: Global, value: AttributeValue) -> Result<Shown>
 // A variant, by its name alone or by a map of its name to its content.
 #[inline(always)]
 fn enumeration(alloc: Global, value: AttributeValue) -> Result<Shown>
-    ensures { IsShown (enum_shown (view value)) result }
+    ensures shown { IsShown (enum_shown (view value)) result }
+    ensures outright { RefusesOutright (enum_shown (view value)) result }
 {
     match value {
         AttributeValue::S(name) => Ok(Showing::Enum(Choice::name(alloc, name))),
@@ -239,7 +254,8 @@ fn enumeration(alloc: Global, value: AttributeValue) -> Result<Shown>
 
 // What the string of a number shows.
 pub(crate) fn number_text(alloc: Global, request: Request, text: String) -> Result<Shown>
-    ensures { IsShown (number_text_shown request (string_bytes text)) result }
+    ensures shown { IsShown (number_text_shown request (string_bytes text)) result }
+    ensures outright { RefusesOutright (number_text_shown request (string_bytes text)) result }
 {
     let (leaf, text) = NumberText::show_text(request, text)?;
     Ok(of_leaf(alloc, leaf, text))
@@ -248,7 +264,8 @@ pub(crate) fn number_text(alloc: Global, request: Request, text: String) -> Resu
 // What the key of a map shows.
 #[inline(always)]
 pub(crate) fn key_text(alloc: Global, request: Request, text: String) -> Result<Shown>
-    ensures { IsShown (key_shown request (string_bytes text)) result }
+    ensures shown { IsShown (key_shown request (string_bytes text)) result }
+    ensures outright { RefusesOutright (key_shown request (string_bytes text)) result }
 {
     let (leaf, text) = KeyText::show_text(request, text)?;
     Ok(of_leaf(alloc, leaf, text))
@@ -257,7 +274,8 @@ pub(crate) fn key_text(alloc: Global, request: Request, text: String) -> Result<
 // What a plain string shows.
 #[inline(always)]
 pub(crate) fn plain_text(alloc: Global, request: Request, text: String) -> Result<Shown>
-    ensures { IsShown (plain_text_shown request (string_bytes text)) result }
+    ensures shown { IsShown (plain_text_shown request (string_bytes text)) result }
+    ensures outright { RefusesOutright (plain_text_shown request (string_bytes text)) result }
 {
     let (leaf, text) = PlainText::show_text(request, text)?;
     Ok(of_leaf(alloc, leaf, text))

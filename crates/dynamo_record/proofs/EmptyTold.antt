@@ -10,7 +10,7 @@ use Rattle.dynamo_ser.specs.Datum as datum
 use Rattle.dynamo_ser.specs.Datum.{Datum, elements_of}
 use Rattle.dynamo_ser.specs.Members.{members_onto, members_in_order}
 use Rattle.dynamo_shape.specs.Absence.{same_default}
-use Rattle.dynamo_types.specs.Keys.{map_tells}
+use Rattle.dynamo_record.specs.Keys.{map_tells}
 
 not_none : (n : ℕ) → (suc n == 0) ≡ false
 not_none n = grind (arith, nat_tests)

@@ -17,7 +17,7 @@ use Rattle.dynamo_shape.specs.Read.{read, into, read_each}
 use Rattle.dynamo_shape.specs.Same.{Same, SameElements}
 use Rattle.dynamo_shape.specs.Shape as shape
 use Rattle.dynamo_shape.proofs.Answered.{after, stops}
-use Rattle.dynamo_types.specs.About.{About}
+use Rattle.dynamo_record.specs.About.{About}
 use Rattle.dynamo_record.specs.Contents.{newtype_in, elements_in, about_one, about_several}
 use Rattle.dynamo_record.specs.Fields.{SameData, shapes_of, read_fields}
 use Rattle.dynamo_record.specs.InOrder.{each_element, elements_same, ReadsInOrder}

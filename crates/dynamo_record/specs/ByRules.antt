@@ -14,7 +14,7 @@ use Rattle.dynamo_shape.specs.Read.{read, into, read_field, fields_in_order, fie
 use Rattle.dynamo_shape.specs.Shape as shape
 use Rattle.dynamo_shape.specs.Shape.{Shape, FieldShapes, no_field_shapes, field_shape}
 use Rattle.dynamo_shape.proofs.FieldsByName.{Slots, first_slot, other_slots}
-use Rattle.dynamo_types.specs.About.{About}
+use Rattle.dynamo_record.specs.About.{About}
 use Rattle.dynamo_record.specs.Listed.{Holds, IfRead}
 use Rattle.dynamo_record.specs.Records.{AboutRecord, record_fields, RecordAnswers, IsAlike, AreNamed, about_record}
 

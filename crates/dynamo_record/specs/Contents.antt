@@ -7,7 +7,7 @@ use Rattle.dynamo_shape.specs.Conforms.{conforms, conform_each, conform_fields, 
 use Rattle.dynamo_shape.specs.Same.{Same, SameElements, SameFields}
 use Rattle.dynamo_shape.specs.Shape as shape
 use Rattle.dynamo_shape.specs.Shape.{FieldShapes}
-use Rattle.dynamo_types.specs.About.{About}
+use Rattle.dynamo_record.specs.About.{About}
 use Rattle.dynamo_record.specs.Fields.{ConformEach, AsMany, shapes_of, field_shapes, named_fields}
 use Rattle.dynamo_record.specs.InOrder.{each_element, elements_same, same_each}
 use Rattle.dynamo_record.specs.Listed.{AboutList}

@@ -11,7 +11,7 @@ use Rattle.dynamo_shape.specs.Read.{read, read_one_of}
 use Rattle.dynamo_shape.specs.Same.{Same}
 use Rattle.dynamo_shape.specs.Shape as shape
 use Rattle.dynamo_shape.specs.Shape.{Shape, Variants}
-use Rattle.dynamo_types.specs.About.{About}
+use Rattle.dynamo_record.specs.About.{About}
 use Rattle.dynamo_record.specs.Names.{Names, differ, place_of}
 use Rattle.dynamo_record.specs.Variants.{AboutVariants, variants_of}
 

@@ -23,7 +23,7 @@ use Rattle.dynamo_shape.proofs.Answered.{made}
 use Rattle.dynamo_shape.proofs.ByHand.{into_into}
 use Rattle.dynamo_shape.proofs.FieldsTold.{set_told, set_alike}
 use Rattle.dynamo_shape.proofs.Lists.{list_permitted}
-use Rattle.dynamo_types.specs.About.{About, list_tells}
+use Rattle.dynamo_record.specs.About.{About, list_tells}
 
 -- ---- sets
 

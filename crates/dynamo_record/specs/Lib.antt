@@ -1,3 +1,4 @@
+pub mod About
 pub mod Apart
 pub mod Behind
 pub mod ByRules
@@ -10,12 +11,14 @@ pub mod Flat
 pub mod Held
 pub mod InOrder
 pub mod Indices
+pub mod Keys
 pub mod Listed
 pub mod Names
 pub mod Newtypes
 pub mod Records
 pub mod Refs
 pub mod SetValues
+pub mod Sets
 pub mod TaggedEnums
 pub mod TaggedLists
 pub mod Told

@@ -13,7 +13,7 @@ use Rattle.dynamo_shape.specs.Read.{into}
 use Rattle.dynamo_shape.specs.Same.{Same}
 use Rattle.dynamo_shape.specs.Shape.{Shape}
 use Rattle.dynamo_shape.proofs.FieldsByName.{Slots, first_slot, other_slots, fill_slot}
-use Rattle.dynamo_types.specs.About.{About}
+use Rattle.dynamo_record.specs.About.{About}
 use Rattle.dynamo_record.specs.Names.{missing_text}
 use Rattle.dynamo_record.specs.Fields.{ConformEach, SameData, AsMany, Defaults, read_nth}
 

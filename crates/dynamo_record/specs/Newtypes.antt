@@ -16,8 +16,8 @@ use Rattle.dynamo_shape.specs.Shape as shape
 use Rattle.dynamo_shape.specs.Shape.{Shape}
 use Rattle.dynamo_shape.proofs.FieldsTold.{newtype_told, newtype_alike}
 use Rattle.dynamo_shape.proofs.Lists.{through_permitted}
-use Rattle.dynamo_types.specs.About.{About, about_part}
-use Rattle.dynamo_types.specs.Keys.{AboutKey, IsKeyOf}
+use Rattle.dynamo_record.specs.About.{About, about_part}
+use Rattle.dynamo_record.specs.Keys.{AboutKey, IsKeyOf}
 
 -- what may be answered on a source: what reading at the shape gives
 unfoldable pub ReadsAs : {T : Type 0} → About T → Source → Result T Fault → Type 0

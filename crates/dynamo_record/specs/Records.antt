@@ -13,7 +13,7 @@ use Rattle.dynamo_shape.specs.Read.{read, into, fields_of, fields_in_order, read
 use Rattle.dynamo_shape.specs.Same.{Same}
 use Rattle.dynamo_shape.specs.Shape as shape
 use Rattle.dynamo_shape.specs.Shape.{Shape, FieldShapes}
-use Rattle.dynamo_types.specs.About.{About}
+use Rattle.dynamo_record.specs.About.{About}
 use Rattle.dynamo_record.specs.Fields.{AsMany, field_shapes, named_fields}
 use Rattle.dynamo_record.specs.Listed.{AboutList, IfRead}
 use Rattle.dynamo_record.specs.Names.{Names, differ}

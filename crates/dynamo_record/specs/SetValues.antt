@@ -10,7 +10,7 @@ use Rattle.dynamo_shape.specs.Read.{missing}
 use Rattle.dynamo_shape.specs.Shape as shape
 use Rattle.dynamo_shape.specs.Shape.{Shape}
 use Rattle.dynamo_shape.proofs.SetsTold.{in_ordered_list}
-use Rattle.dynamo_types.specs.About.{About}
+use Rattle.dynamo_record.specs.About.{About}
 
 -- As a set of this kind, a value tells what it tells as a list, under the kind's symbol, and conforms where it does as a list.
 -- None stands in for a set that is missing.

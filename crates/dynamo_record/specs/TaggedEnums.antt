@@ -16,7 +16,7 @@ use Rattle.dynamo_shape.specs.Same.{Same, SameFields}
 use Rattle.dynamo_shape.specs.Shape as shape
 use Rattle.dynamo_shape.specs.Shape.{Shape, Tagged, FieldShapes}
 use Rattle.dynamo_shape.proofs.Found.{or_false}
-use Rattle.dynamo_types.specs.About.{About}
+use Rattle.dynamo_record.specs.About.{About}
 use Rattle.dynamo_record.specs.Apart.{both_true, not_true}
 use Rattle.dynamo_record.specs.Names.{Names, first_name, other_names, is_named, differ}
 use Rattle.dynamo_record.specs.TaggedLists.{Structs, struct_at, AboutTaggedList}

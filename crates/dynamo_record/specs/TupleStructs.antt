@@ -11,7 +11,7 @@ use Rattle.dynamo_shape.specs.Laws.{ReadsByShape}
 use Rattle.dynamo_shape.specs.Same.{Same, SameElements}
 use Rattle.dynamo_shape.specs.Shape as shape
 use Rattle.dynamo_shape.proofs.Lists.{through_permitted}
-use Rattle.dynamo_types.specs.About.{About, about_part}
+use Rattle.dynamo_record.specs.About.{About, about_part}
 use Rattle.dynamo_record.specs.Fields.{ConformEach, shapes_of}
 use Rattle.dynamo_record.specs.InOrder.{each_element, elements_same, same_each}
 use Rattle.dynamo_record.specs.Listed.{AboutList}

@@ -24,8 +24,8 @@ use Rattle.dynamo_shape.specs.Same.{Same}
 use Rattle.dynamo_shape.specs.Shape as shape
 use Rattle.dynamo_shape.specs.Shape.{Shape, Variants}
 use Rattle.dynamo_shape.proofs.Alike.{equal_alike}
-use Rattle.dynamo_types.specs.About.{About}
-use Rattle.dynamo_types.specs.Keys.{AboutKey, key_of}
+use Rattle.dynamo_record.specs.About.{About}
+use Rattle.dynamo_record.specs.Keys.{AboutKey, key_of}
 use Rattle.dynamo_record.specs.Names.{Names, first_name, other_names, differ}
 
 -- The name of an enum, those of its variants in order, and the number of a value's variant, by which `==` and the order of a

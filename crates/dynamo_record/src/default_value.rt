@@ -5,9 +5,8 @@ ghost use Rattle.dynamo_ser.specs.Datum as datum;
 ghost use Rattle.dynamo_ser.specs.Datum.{Datum};
 ghost use Rattle.dynamo_record.specs.FieldTypes.{IsDefault};
 
-use crate::FieldType;
+use crate::{FieldType, Shaped, ShapedKey};
 use dynamo_de::Error;
-use dynamo_types::{Shaped, ShapedKey};
 use dynamo_value::ByteBuf;
 use std::alloc::Global;
 use std::collections::{BTreeMap, BTreeSet, HashMap, HashSet};

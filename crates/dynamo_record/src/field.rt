@@ -1,9 +1,9 @@
 ghost use Rattle.dynamo_shape.specs.Absence.{Absence, required};
 ghost use Rattle.dynamo_shape.specs.Laws.{ReadsByShape};
-ghost use Rattle.dynamo_types.specs.About.{About, IsAbsent};
+ghost use Rattle.dynamo_record.specs.About.{About, IsAbsent};
 
+use crate::Shaped;
 use dynamo_de::{Deserialize, Error};
-use dynamo_types::Shaped;
 use std::alloc::Global;
 
 /// How a field is stored: the type of its value, the shape, and the value of a missing field.

@@ -3,9 +3,8 @@ ghost use Rattle.dynamo_shape.specs.Absence.{required, read_as};
 ghost use Rattle.dynamo_ser.specs.Symbols.{strings, numbers, blobs};
 ghost use Rattle.dynamo_record.specs.FieldTypes.{about_set, empty_set, set_permitted};
 
-use crate::{FieldType, WithDefault};
+use crate::{FieldType, Shaped, WithDefault};
 use dynamo_de::Error;
-use dynamo_types::Shaped;
 use std::alloc::Global;
 use std::marker::PhantomData;
 

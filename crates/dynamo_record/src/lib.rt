@@ -1,5 +1,7 @@
-//! Structs and enums by a description: what to state for a type of your own, so that it keeps the
-//! promises of [`Shaped`](dynamo_types::Shaped) without a proof.
+//! Types with a shape: [`Shaped`], and its implementations for the types of the library and of std.
+//!
+//! And structs and enums by a description: what to state for a type of your own, so that it keeps the
+//! promises of [`Shaped`] without a proof.
 //!
 //! | Type | Trait | Functions for its impls |
 //! |---|---|---|
@@ -25,6 +27,7 @@ mod field_types;
 mod flat_lists;
 mod flat_refs;
 mod held;
+mod impls;
 mod member_sets;
 mod named;
 mod names;
@@ -35,6 +38,7 @@ mod record;
 mod record_rules;
 mod ref_list;
 mod set_value;
+mod shaped;
 mod tagged_enum;
 mod tagged_list;
 mod tuple_struct;
@@ -59,6 +63,7 @@ pub use record::{Record, read_record, record_conforms, write_record};
 pub use record_rules::{RecordRules, read_record_by_rules};
 pub use ref_list::RefList;
 pub use set_value::SetValue;
+pub use shaped::{Shaped, ShapedKey};
 pub use tagged_enum::{TaggedEnum, read_tagged};
 pub use tagged_list::{Inner, TaggedList};
 pub use tuple_struct::{TupleStruct, read_tuple_struct, tuple_struct_conforms, write_tuple_struct};

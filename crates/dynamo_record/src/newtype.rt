@@ -5,9 +5,9 @@ ghost use Rattle.dynamo_de.specs.Reading as reading;
 ghost use Rattle.dynamo_de.specs.Source.{Text};
 ghost use Rattle.dynamo_record.specs.Newtypes.{named_newtype, ReadsAs};
 
+use crate::Shaped;
 use dynamo_de::{Deserialize, Deserializer, Reader, Request, Showing};
 use dynamo_ser::Serializer;
-use dynamo_types::Shaped;
 use std::alloc::Global;
 
 /// Reads the field of a newtype struct.

@@ -3,10 +3,9 @@ ghost use Rattle.std.specs.Prelude.{◌≡◌, ◌∷◌};
 ghost use Rattle.dynamo_shape.specs.Absence.{left_out, same_default};
 
 use crate::names::first_of;
-use crate::{DefaultValue, FieldType, RefList, WithDefault};
+use crate::{DefaultValue, FieldType, RefList, Shaped, ShapedKey, WithDefault};
 use dynamo_de::Error;
 use dynamo_ser::{ListBuilder, Serializer, StructBuilder};
-use dynamo_types::{Shaped, ShapedKey};
 use std::alloc::Global;
 use std::collections::{BTreeMap, BTreeSet, HashMap, HashSet};
 use std::marker::PhantomData;

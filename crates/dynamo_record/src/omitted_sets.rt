@@ -8,10 +8,10 @@ ghost use Rattle.dynamo_record.specs.FieldTypes.{about_set, empty_set, set_permi
 use crate::names::first_of;
 use crate::{
     FieldType, InBinarySet, InNumberSet, InStringSet, Omitted, OmittedRef, RefList, SetValue,
+    Shaped,
 };
 use dynamo_de::Error;
 use dynamo_ser::{BinarySet, ListBuilder, NumberSet, Serializer, StringSet, StructBuilder};
-use dynamo_types::Shaped;
 use std::alloc::Global;
 
 impl<T: Shaped> FieldType for Omitted<InStringSet<T>> {

@@ -6,10 +6,9 @@ ghost use Rattle.dynamo_record.specs.Fields.{Defaults};
 ghost use Rattle.dynamo_record.specs.Listed.{Shapes, Data};
 ghost use Rattle.dynamo_record.specs.Refs.{PutsFields, PutsElements, ConformFront};
 
-use crate::SetValue;
 use crate::names::first_of;
+use crate::{SetValue, Shaped};
 use dynamo_ser::{BinarySet, ListBuilder, NumberSet, Serializer, StringSet, StructBuilder};
-use dynamo_types::Shaped;
 
 /// The fields of a value by reference, in the order of its [`FieldList`](crate::FieldList): one
 /// reference, or a tuple of two, four or eight lists.

@@ -10,12 +10,12 @@ ghost use Rattle.dynamo_ser.specs.Symbols.{SetKind};
 ghost use Rattle.dynamo_shape.specs.Absence.{same_default};
 ghost use Rattle.dynamo_shape.specs.Laws.{ReadsByShape};
 ghost use Rattle.dynamo_shape.proofs.HashedSets.{members_any};
-ghost use Rattle.dynamo_types.specs.About.{About};
-ghost use Rattle.dynamo_types.specs.Sets.{about_members_in, members_in_read};
+ghost use Rattle.dynamo_record.specs.About.{About};
+ghost use Rattle.dynamo_record.specs.Sets.{about_members_in, members_in_read};
 ghost use Rattle.dynamo_record.specs.FieldTypes.{about_set as about_list_set, set_permitted};
 ghost use Rattle.dynamo_record.specs.SetValues.{IsSetOf, list_is_set, ordered_is_set};
 
-use dynamo_types::{Shaped, ShapedKey};
+use crate::{Shaped, ShapedKey};
 use std::alloc::Global;
 use std::collections::{BTreeSet, HashSet};
 

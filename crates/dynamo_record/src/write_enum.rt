@@ -8,9 +8,8 @@ ghost use Rattle.dynamo_record.specs.Fields.{shapes_of, field_shapes, named_fiel
 ghost use Rattle.dynamo_record.specs.Names.{first_name, names_from};
 ghost use Rattle.dynamo_record.specs.Variants.{tag, content_at};
 
-use crate::{Enumeration, NamedFields, RefList};
+use crate::{Enumeration, NamedFields, RefList, Shaped};
 use dynamo_ser::{Serialize, SerializeStructVariant, SerializeTupleVariant, Serializer};
-use dynamo_types::Shaped;
 
 /// The name with this index, or an empty one behind the last.
 fn name_at(names: &'static [&'static str], place: usize) -> &'static str

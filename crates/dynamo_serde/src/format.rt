@@ -1,12 +1,13 @@
 // The steps of serde's readers, on a tape.
+ghost use Rattle.std.specs.Prelude.{◌≡◌, false};
 ghost use Rattle.dynamo_serde.specs.Laid.{Reads, Picks, Stays};
-ghost use Rattle.dynamo_serde.specs.Tape.{place};
+ghost use Rattle.dynamo_serde.specs.Tape.{is_told, place};
 
 use crate::fault::{about, fault, message, no_memory};
 use crate::kinds;
 use crate::tape::{Doubt, Mark, Tape, Token};
 use dynamo_value::{Error, ErrorImpl, Result};
-use serde::{Format, Kind, Name};
+use serde::{Format, Kind, Name, NameKind};
 use std::alloc::Global;
 use std::num::ParseIntError;
 
@@ -182,6 +183,7 @@ impl<'v> Format for Tape<'v> {
             _ => return Err(self.wrong_len()),
         };
         self.doubt = Doubt::Looked;
+        self.unmatched = None;
         Ok(kind)
     }
 
@@ -281,7 +283,7 @@ impl<'v> Format for Tape<'v> {
             }
             Some(Token::EndMap) => {
                 self.pass();
-                self.doubt = Doubt::Variant;
+                self.doubt = doubt_at_end(names);
                 Ok(None)
             }
             _ => Err(fault(ErrorImpl::ExpectedMap)),
@@ -301,7 +303,11 @@ impl<'v> Format for Tape<'v> {
 
     fn variant(&mut self, _input: &[u8], names: &[Name<'_>]) -> Result<usize> {
         if !kinds::are_asked(names) {
-            return Ok(serde::find(names, self.text(ErrorImpl::ExpectedEnum)?));
+            // An enum without a tag looks first, so what is no string here is a tag.
+            let text = self.text(ErrorImpl::ExpectedString)?;
+            let at = serde::find(names, text);
+            self.unmatched = if at < names.len() { None } else { Some(text) };
+            return Ok(at);
         }
         match self.look() {
             Some(token) => {
@@ -343,7 +349,11 @@ impl<'v> Format for Tape<'v> {
         self.about_last("unknown field")
     }
 
+    // After a tag that names no variant, the reader may be anywhere in the enum's map.
     fn unknown_variant(&self) -> Error {
+        if let Some(name) = self.unmatched {
+            return about(self.alloc, "unknown variant", name);
+        }
         if self.is_crowded() {
             return fault(ErrorImpl::ExpectedSingleKey);
         }
@@ -359,6 +369,7 @@ impl<'v> Format for Tape<'v> {
             Doubt::Width => self.too_wide(),
             Doubt::Unit => fault(ErrorImpl::ExpectedUnit),
             Doubt::Variant => fault(ErrorImpl::ExpectedSingleKey),
+            Doubt::Content => message(self.alloc, "missing content"),
             _ => message(self.alloc, "invalid value"),
         }
     }
@@ -369,6 +380,17 @@ impl<'v> Format for Tape<'v> {
 
     fn custom(&self, text: &str) -> Error {
         message(self.alloc, text)
+    }
+}
+
+// What is in doubt at the end of a map: an enum's content, if the name of one field was looked for.
+#[inline(always)]
+fn doubt_at_end(names: &[Name<'_>]) -> Doubt
+    ensures { is_told result ≡ false }
+{
+    match names {
+        [name] if name.kind == NameKind::Field && !name.skipped => Doubt::Content,
+        _ => Doubt::Variant,
     }
 }
 

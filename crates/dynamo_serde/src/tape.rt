@@ -42,6 +42,8 @@ pub(crate) enum Doubt {
     Told,
     // It is the map of an enum, with no variant in it or with more than one.
     Variant,
+    // It is the map of an enum, without its content.
+    Content,
 }
 
 /// The part of an attribute value that isn't read yet. It is a `Format` of serde's.
@@ -51,6 +53,8 @@ pub struct Tape<'v> {
     tokens: Vec<Token<'v>>,
     at: usize,
     pub(crate) doubt: Doubt,
+    // The last string that was to name a variant, if it names none.
+    pub(crate) unmatched: Option<&'v str>,
 }
 
 /// A place on a tape.
@@ -183,6 +187,7 @@ impl<'v> Tape<'v> {
             tokens,
             at: 0,
             doubt: Doubt::None,
+            unmatched: None,
         })
     }
 
@@ -202,6 +207,7 @@ impl<'v> Tape<'v> {
             tokens,
             at: 0,
             doubt: Doubt::None,
+            unmatched: None,
         })
     }
 

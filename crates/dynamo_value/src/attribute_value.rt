@@ -78,6 +78,7 @@ impl AttributeValue {
     /// let value = to_attribute_value(alloc, &ages)?;
     /// assert_eq!(rt; value.clone()?.fitted(), value);
     /// ```
+    #[inline(always)]
     pub fn fitted(self) -> AttributeValue
         ensures { view result ≡ view self }
     {
@@ -302,7 +303,9 @@ pub(crate) fn copy_map(
     Ok(copies)
 }
 
-// Frees the spare capacity of a map.
+// Frees the spare capacity of a map. It isn't inlined, so that `fitted` is small where a value is no
+// map.
+#[inline(never)]
 fn fit(map: &mut HashMap<String, AttributeValue>)
     ensures { members_view map.new.entries ≡ members_view map.old.entries }
 {

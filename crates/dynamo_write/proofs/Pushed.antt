@@ -1,5 +1,5 @@
 -- What a builder gives where it holds a piece more.
-use Rattle.std.proofs.Common.{◌≡◌, ℕ, List, [], ◌∷◌, ◌++◌, String, string_bytes, Global, Result, Ok, Err, refl, ap, subst, append_assoc}
+use Rattle.std.proofs.Common.{◌≡◌, ℕ, List, [], ◌∷◌, ◌++◌, String, string_bytes, Global, Result, Ok, Err, refl, ap, sym, subst, append_assoc}
 use Rattle.std.proofs.lemmas.List.{map-append}
 use Rattle.std.specs.Borrow.{Bor}
 use Rattle.dynamo_value.specs.Fault.{Fault}
@@ -9,7 +9,7 @@ use Rattle.dynamo_ser.specs.Datum as datum
 use Rattle.dynamo_ser.specs.Datum.{Datum}
 use Rattle.dynamo_ser.specs.Key.{key_text}
 use Rattle.dynamo_write.specs.Held.{held_entries, fields_of}
-use Rattle.dynamo_write.specs.Target.{AboutTarget, AnswersPart, GivesList, GivesMap, GivesStruct, parts_before, map_of}
+use Rattle.dynamo_write.specs.Target.{AboutTarget, AnswersPart, GivesList, GivesWholeList, GivesMap, GivesStruct, parts_before, map_of}
 
 module _ {V : Type 0} (t : AboutTarget V) where
   -- ---- lists
@@ -27,6 +27,17 @@ module _ {V : Type 0} (t : AboutTarget V) where
       → t.written d ≡ Ok (t.seen v) → GivesList t (vs ++ v ∷ []) whole ds r → GivesList t vs whole (datum.element d ds) r
   list_pushed vs v whole d ds r is given =
       rw (t.an_element d ds, is) (subst (λ x. AnswersPart t x r) (one_more_value vs v whole (t.elements ds)) given)
+
+  pub whole_given : (vs : List V) (whole : t.Parts → t.Seen) (ds : datum.Elements) (r : Result V Error)
+      → GivesWholeList t vs whole ds r → GivesList t vs whole ds r
+  whole_given vs whole datum.no_elements (Ok v) is = rw t.no_element (ap Ok (sym is))
+  whole_given vs whole datum.no_elements (Err e) none = absurd none
+  whole_given vs whole (datum.element d ds) r given = given
+
+  pub whole_list_pushed : (vs : List V) (v : V) (whole : t.Parts → t.Seen) (d : Datum) (ds : datum.Elements) (r : Result V Error)
+      → t.written d ≡ Ok (t.seen v) → GivesWholeList t (vs ++ v ∷ []) whole ds r → GivesWholeList t vs whole (datum.element d ds) r
+  whole_list_pushed vs v whole d ds r is given =
+      list_pushed vs v whole d ds r is (whole_given (vs ++ v ∷ []) whole ds r given)
 
   -- ---- entries
 

@@ -1,6 +1,6 @@
 -- What is known of the values that a serializer makes: how they are made of one another, and what data are written as. And what
 -- the builders of a list, a map, a struct and a variant give.
-use Rattle.std.specs.Prelude.{◌≡◌, ℕ, List, [], ◌∷◌, ◌++◌, Result, Ok}
+use Rattle.std.specs.Prelude.{◌≡◌, ℕ, List, [], ◌∷◌, ◌++◌, Result, Ok, MatchResult}
 use Rattle.dynamo_value.specs.Fault.{Fault}
 use Rattle.dynamo_value.specs.Steps.{◌>>=◌}
 use Rattle.dynamo_value.specs.declared.error.Error.{Error}
@@ -55,6 +55,11 @@ module _ {V : Type 0} (t : AboutTarget V) where
   -- what is answered where these values stand and the elements follow
   abbrev pub GivesList : List V → (t.Parts → t.Seen) → datum.Elements → Result V Error → Type 0
   GivesList values whole ds r = AnswersPart (t.elements ds >>= λ rest. Ok (whole (parts_before values rest))) r
+
+  -- The same of a builder of lists. If no element follows, the list is answered and nothing else: its end takes no memory.
+  abbrev pub GivesWholeList : List V → (t.Parts → t.Seen) → datum.Elements → Result V Error → Type 0
+  GivesWholeList values whole datum.no_elements r = MatchResult r (λ v. t.seen v ≡ whole (parts_before values t.no_parts)) (λ e. ⊥)
+  GivesWholeList values whole (datum.element d ds) r = GivesList values whole (datum.element d ds) r
 
   -- what is answered where these entries stand and the pairs follow
   abbrev pub GivesMap : List (List ℕ × t.Seen) → datum.Pairs → Result V Error → Type 0

@@ -25,7 +25,9 @@ pub(crate) fn push<V: Drop>(
     Ok(())
 }
 
-// Makes room for as many fields as are expected, and for 64 at most.
+// Makes room for as many fields as are expected, and for 64 at most. It is called once
+// for a struct, so it isn't inlined.
+#[inline(never)]
 fn make_room<V>(fields: &mut Vec<(&'static str, V)>, expected: usize) -> Result<(), AllocError>
     requires { vec_capacity fields.old ≡ 0 }
     ensures fields { fields.new.items ≡ fields.old.items }

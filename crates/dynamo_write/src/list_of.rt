@@ -1,5 +1,5 @@
 ghost use Rattle.std.specs.Prelude.{◌≡◌, []};
-ghost use Rattle.dynamo_write.specs.Target.{GivesList};
+ghost use Rattle.dynamo_write.specs.Target.{GivesWholeList};
 
 use crate::Target;
 use dynamo_ser::{ListBuilder, SerializeSeq, SerializeTuple, SerializeTupleStruct};
@@ -30,7 +30,7 @@ impl<T: Target> ListBuilder<T> for ListOf<T> {
 
     type Error = Error;
 
-    ghost gives = { λ b ds r. GivesList T.about b.values.items T.about.list ds r };
+    ghost gives = { λ b ds r. GivesWholeList T.about b.values.items T.about.list ds r };
 
     ghost writer = { λ b. T.over b.alloc };
 
@@ -43,6 +43,7 @@ impl<T: Target> ListBuilder<T> for ListOf<T> {
         Ok(())
     }
 
+    // The list is made of the values as they lie, without a request for memory.
     fn finish(self) -> Result<T::Ok> {
         Ok(T::list(self.values))
     }

@@ -43,6 +43,7 @@ impl<T: Target> StructBuilder<T> for StructOf<T> {
         T::over(self.alloc)
     }
 
+    #[inline(always)]
     fn push_field(&mut self, key: &'static str, written: T::Ok) -> Result<()> {
         fields::push(&mut self.fields, self.expected, (key, written))?;
         Ok(())

@@ -46,6 +46,7 @@ impl<T: Target> StructBuilder<T> for StructVariantOf<'_, T> {
         T::over(self.alloc)
     }
 
+    #[inline(always)]
     fn push_field(&mut self, key: &'static str, written: T::Ok) -> Result<()> {
         fields::push(&mut self.fields, self.expected, (key, written))?;
         Ok(())

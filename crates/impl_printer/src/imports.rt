@@ -15,7 +15,7 @@ const ALWAYS: &str = "codes refl serde_dynamo::Shaped serde_dynamo::de::Deserial
 // printed.
 const DEFINITIONS: [&str; 10] = [
     "std.specs.Prelude [] ◌∷◌ codes false refl true",
-    "dynamo_types.specs.Keys own_key",
+    "dynamo_record.specs.Keys own_key",
     "dynamo_record.specs.Records record_of record_tells record_reads about_record",
     "dynamo_record.specs.ByRules about_by_rules rules_reads",
     "dynamo_record.specs.Newtypes about_newtype about_unit_struct key_newtype newtype_by_shape \

@@ -11,7 +11,7 @@ use Rattle.dynamo_json.proofs.Results.{the_same, no_value}
 use Rattle.dynamo_shape.specs.Clear.{Clear}
 use Rattle.dynamo_shape.specs.Conforms.{conforms}
 use Rattle.dynamo_shape.specs.Laws.{ReadsByShape}
-use Rattle.dynamo_types.specs.About.{About}
+use Rattle.dynamo_record.specs.About.{About}
 use Rattle.serde_dynamo.proofs.ReadBack.{itself, not_refused}
 
 -- what is written as an item is written as the map of it

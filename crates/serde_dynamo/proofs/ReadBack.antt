@@ -28,7 +28,7 @@ use Rattle.dynamo_shape.specs.Shape.{Shape}
 use Rattle.dynamo_shape.proofs.Back.{back}
 use Rattle.dynamo_shape.proofs.Exactly.{exactly}
 use Rattle.dynamo_shape.proofs.Flat.{flat_clear}
-use Rattle.dynamo_types.specs.About.{About}
+use Rattle.dynamo_record.specs.About.{About}
 
 -- ---- by way of DynamoDB JSON
 

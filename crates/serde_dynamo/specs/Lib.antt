@@ -1,5 +1,6 @@
 pub use Rattle.dynamo_value.specs.Av
 pub use Rattle.dynamo_value.specs.Bytes
+pub use Rattle.dynamo_value.specs.Contents
 pub use Rattle.dynamo_value.specs.Fault
 pub use Rattle.dynamo_value.specs.HasBytes
 pub use Rattle.dynamo_value.specs.Integer
@@ -64,8 +65,8 @@ pub use Rattle.dynamo_shape.specs.ReadsBack
 pub use Rattle.dynamo_shape.specs.Same
 pub use Rattle.dynamo_shape.specs.SameKey
 pub use Rattle.dynamo_shape.specs.Shape
-pub use Rattle.dynamo_types.specs.About
-pub use Rattle.dynamo_types.specs.Keys
+pub use Rattle.dynamo_record.specs.About
+pub use Rattle.dynamo_record.specs.Keys
 pub mod Reread
 pub mod SampleShapes
 pub mod Samples

@@ -373,8 +373,8 @@ pub use dynamo_read::{
     Deserializer, DeserializerEnum, DeserializerMap, DeserializerSeq, DeserializerVariant,
     LentDeserializer, from_attribute_value, from_item, from_item_ref, from_items,
 };
+pub use dynamo_record::{Shaped, ShapedKey};
 pub use dynamo_ser::{BinarySet, NumberSet, StringSet};
-pub use dynamo_types::{Shaped, ShapedKey};
 pub use dynamo_value::{
     AttributeValue, ByteBuf, Bytes, Error, ErrorImpl, Item, Items, Result, Text,
 };

@@ -1,3 +1,5 @@
+mod Called
 mod Finds
 mod Kept
 mod Keys
+mod Ran

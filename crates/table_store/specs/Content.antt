@@ -1,5 +1,5 @@
 -- What the keys of a table in a database are, and which items it refuses.
-use Rattle.std.specs.Prelude.{◌≡◌, ◌⊎◌, ⊤, false, Result, Ok, Err, MatchResult}
+use Rattle.std.specs.Prelude.{◌≡◌, ◌⊎◌, ⊤, false, Result, Ok, Err, Option, IfSome, MatchResult}
 use Rattle.std.specs.Ordering.{is_ne}
 use Rattle.dynamo_value.specs.declared.item.Item.{Item}
 use Rattle.table_keys.specs.KeyOf.{ReadsKey}
@@ -9,7 +9,12 @@ use Rattle.table_keys.specs.declared.key.Key.{Key}
 use Rattle.table_keys.specs.declared.schema.KeySchema.{KeySchema}
 use Rattle.table_store.specs.Errors.{of_table}
 use Rattle.table_store.specs.declared.error.StoreError.{StoreError}
+use Rattle.table_store.specs.declared.rows.definition.Definition.{Definition}
 use Rattle.table_store.specs.declared.store.TableStore.{TableStore}
+
+-- the number of the table and the attributes of its keys
+abbrev pub table_of : {S : Type 0} → TableStore S → Definition
+table_of store = store.table
 
 abbrev pub schema_of : {S : Type 0} → TableStore S → KeySchema
 schema_of store = store.table.schema
@@ -27,6 +32,20 @@ HasKey schema item = (key : Key) × ReadsKey schema item (Ok key)
 abbrev pub HasThisKey : KeySchema → Key → Item → Type 0
 HasThisKey schema key item =
     (own : Key) × ReadsKey schema item (Ok own) × (is_ne (key_cmp own key) ≡ false)
+
+-- what is found under a key has this key
+abbrev pub FoundHasKey : KeySchema → Key → Option Item → Type 0
+FoundHasKey schema key found = IfSome found (HasThisKey schema key)
+
+-- what was there has the key of the item that is put
+abbrev pub HadKeyOf : KeySchema → Item → Option Item → Type 0
+HadKeyOf schema item before =
+    (key : Key) × ReadsKey schema item (Ok key) × FoundHasKey schema key before
+
+-- what a change makes of an item that has this key
+abbrev pub OfKey : {E : Type 0} → (Item → Result Item E → Type 0) → KeySchema → Key
+    → Item → Result Item E → Type 0
+OfKey Makes schema key before made = HasThisKey schema key before × Makes before made
 
 -- a change makes an item that has this key
 abbrev pub KeepsKey : {E : Type 0} → (Item → Result Item E → Type 0) → KeySchema → Key → Type 0

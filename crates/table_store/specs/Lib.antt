@@ -1,4 +1,7 @@
+pub mod Calls
 pub mod Content
 pub mod Depth
 pub mod Errors
 pub mod Found
+pub mod Runs
+pub mod Statements

@@ -19,7 +19,8 @@ pub enum StoreError {
     /// Lists and maps nest in the item to more than the 32 levels that DynamoDB keeps.
     TooDeep,
 
-    /// The text of an item or of a table in the database can't be read.
+    /// The text of an item or of a table in the database can't be read, or an item has no key or
+    /// another one than its row.
     Unreadable,
 
     /// The database has no table of this name.

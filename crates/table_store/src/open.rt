@@ -93,7 +93,8 @@ pub fn create_in_memory(
 ///
 /// # Errors
 ///
-/// Returns [`StoreError::OtherSchema`] if there is a table of this name with other keys.
+/// Returns [`StoreError::OtherSchema`] if there is a table of this name with other keys, and
+/// [`StoreError::Unreadable`] if its key attributes can't be read.
 ///
 /// Returns [`StoreError::Database`] if the file isn't a database, or can't be opened or written,
 /// and [`StoreError::OutOfMemory`] if memory runs out.
@@ -112,7 +113,8 @@ pub fn create_at(
 ///
 /// # Errors
 ///
-/// Returns [`StoreError::NoTable`] if the file has no such table.
+/// Returns [`StoreError::NoTable`] if the file has no such table, and [`StoreError::Unreadable`] if
+/// its key attributes can't be read.
 ///
 /// Returns [`StoreError::Database`] if the file isn't a database, or can't be opened or written,
 /// and [`StoreError::OutOfMemory`] if memory runs out.

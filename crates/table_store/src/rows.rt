@@ -1,5 +1,11 @@
 //! The rows of DynamoDB tables in a SQLite database. Each call on items runs one SQL statement, and
 //! [`page`] at most two.
+ghost use Rattle.std.specs.Prelude.{◌≡◌, IfOk, MatchResult, Some};
+ghost use Rattle.serde_json.specs.Read.{read};
+ghost use Rattle.dynamo_value.specs.Item.{item_view};
+ghost use Rattle.dynamo_json.specs.Json.{item_json};
+ghost use Rattle.table_store.specs.Content.{FoundHasKey, HasThisKey};
+ghost use Rattle.table_store.specs.Runs.{Deletes, Gets, IsClean, IsItemOf, IsUnread, Puts, WasClean};
 
 mod definition;
 mod search;
@@ -13,7 +19,7 @@ use sqlite::types::ValueRef;
 use sqlite::{Alter, Connection, Row, params};
 use std::alloc::Global;
 use std::str;
-use table_keys::KeyBytes;
+use table_keys::{Key, KeyBytes, KeySchema, TableError};
 
 const GET: &str =
     "SELECT item FROM dynamo_item WHERE table_id = ?1 AND partition_key = ?2 AND sort_key = ?3";
@@ -27,7 +33,9 @@ const DELETE: &str =
 const COUNT: &str = "SELECT count(*) FROM dynamo_item WHERE table_id = ?1";
 
 // The item of a text of DynamoDB JSON.
-fn item_of(alloc: Global, text: &[u8]) -> Result<Item, StoreError> {
+fn item_of(alloc: Global, text: &[u8]) -> Result<Item, StoreError>
+    ensures { MatchResult result (λ item. read text.now ≡ Some (item_json (item_view item))) IsUnread }
+{
     let Ok(text) = str::from_utf8(text) else {
         return Err(StoreError::Unreadable);
     };
@@ -47,14 +55,17 @@ fn item_of(alloc: Global, text: &[u8]) -> Result<Item, StoreError> {
 /// Returns [`StoreError::Unreadable`] if the text can't be read.
 ///
 /// Returns [`StoreError::OutOfMemory`] if memory runs out.
-pub(crate) fn read_item(alloc: Global, row: &Row) -> Result<Item, StoreError> {
+pub(crate) fn read_item(alloc: Global, row: &Row) -> Result<Item, StoreError>
+    ensures { MatchResult result (IsItemOf row.now) IsUnread }
+{
     match row.get_ref(0) {
         Ok(ValueRef::Text(text)) => item_of(alloc, text),
         _ => Err(StoreError::Unreadable),
     }
 }
 
-/// Returns the item under a key, or `None` if there is none.
+/// Returns the item in the row of a key with these bytes, or `None` if there is none. [`get_own`]
+/// also looks at the item's own key.
 ///
 /// # Errors
 ///
@@ -67,10 +78,56 @@ pub fn get<S: Alter>(
     conn: &mut Connection<S>,
     id: i64,
     key: &KeyBytes,
-) -> Result<Option<Item>, StoreError> {
+) -> Result<Option<Item>, StoreError>
+    ensures ran { IsClean S.Store conn.new → Gets S.Store id key.now conn.old conn.new result }
+    ensures clean { WasClean S.Store conn.old conn.new }
+{
     let found = conn.query_all(GET, params![id, &key.partition, &key.sort])?;
     match found.first() {
         Some(row) => Ok(Some(read_item(alloc, row)?)),
+        None => Ok(None),
+    }
+}
+
+// Returns the item if it has this key. Otherwise no call of `TableStore` wrote the row, and it is
+// refused.
+fn of_key(schema: &KeySchema, key: &Key, item: Item) -> Result<Item, StoreError>
+    ensures { MatchResult result (λ own. (own ≡ item) × HasThisKey schema.now key.now own) IsUnread }
+{
+    let own_key = match schema.key_of(&item) {
+        Ok(own_key) => own_key,
+        Err(TableError::OutOfMemory) => return Err(StoreError::OutOfMemory),
+        Err(_) => return Err(StoreError::Unreadable),
+    };
+    if own_key.cmp(key).is_ne() {
+        return Err(StoreError::Unreadable);
+    }
+    Ok(item)
+}
+
+/// Returns the item under a key with these bytes, or `None` if there is none. The item has this key.
+///
+/// # Errors
+///
+/// Returns [`StoreError::Unreadable`] if the text of the item can't be read, or if the item has
+/// another key or none: then no call of `TableStore` wrote the row.
+///
+/// Returns [`StoreError::Database`] if the database fails, and [`StoreError::OutOfMemory`] if
+/// memory runs out.
+pub fn get_own<S: Alter>(
+    alloc: Global,
+    conn: &mut Connection<S>,
+    table: &Definition,
+    key: &Key,
+    bytes: &KeyBytes,
+) -> Result<Option<Item>, StoreError>
+    ensures key { IfOk result (FoundHasKey table.now.schema key.now) }
+    ensures ran { IsClean S.Store conn.new →
+        Gets S.Store table.now.id bytes.now conn.old conn.new result }
+    ensures clean { WasClean S.Store conn.old conn.new }
+{
+    match get(alloc, conn, table.id, bytes)? {
+        Some(item) => Ok(Some(of_key(&table.schema, key, item)?)),
         None => Ok(None),
     }
 }
@@ -87,7 +144,10 @@ pub fn put<S: Alter>(
     id: i64,
     key: &KeyBytes,
     item: &Item,
-) -> Result<(), StoreError> {
+) -> Result<(), StoreError>
+    ensures ran { IsClean S.Store conn.new → Puts S.Store id key.now item.now conn.old conn.new result }
+    ensures clean { WasClean S.Store conn.old conn.new }
+{
     let Ok(text) = item.to_json_text(alloc) else {
         return Err(StoreError::OutOfMemory);
     };
@@ -101,11 +161,10 @@ pub fn put<S: Alter>(
 ///
 /// Returns [`StoreError::Database`] if the database fails, and [`StoreError::OutOfMemory`] if
 /// memory runs out.
-pub fn delete<S: Alter>(
-    conn: &mut Connection<S>,
-    id: i64,
-    key: &KeyBytes,
-) -> Result<(), StoreError> {
+pub fn delete<S: Alter>(conn: &mut Connection<S>, id: i64, key: &KeyBytes) -> Result<(), StoreError>
+    ensures ran { IsClean S.Store conn.new → Deletes S.Store id key.now conn.old conn.new result }
+    ensures clean { WasClean S.Store conn.old conn.new }
+{
     conn.execute(DELETE, params![id, &key.partition, &key.sort])?;
     Ok(())
 }

@@ -3,8 +3,11 @@ ghost use Rattle.std.specs.Fn.{FnOnceReturnsAt};
 ghost use Rattle.table_keys.specs.KeyOf.{ReadsKey, words_of};
 ghost use Rattle.table_keys.specs.Conditions.{holds};
 ghost use Rattle.table_store.specs.Depth.{Checked, IsKept};
-ghost use Rattle.table_store.specs.Content.{FailsToChange, HasKey, HasThisKey, KeepsKey, NeedsKey, schema_of};
+ghost use Rattle.table_store.specs.Content.{FailsToChange, FoundHasKey, HadKeyOf, HasKey, HasThisKey, KeepsKey, NeedsKey, OfKey, schema_of, table_of};
 ghost use Rattle.table_store.specs.Found.{IsFound};
+ghost use Rattle.table_store.specs.Calls.{BeforeOf, DeletesIf, GetsAt, KeyOf, PutsAt, PutsChanged, PutsIf, Ran, Updates};
+ghost use Rattle.table_store.specs.Runs.{WasClean};
+ghost use Rattle.table_keys.specs.declared.condition.Condition.{Condition};
 
 use crate::StoreError;
 use crate::depth::is_kept;
@@ -48,7 +51,8 @@ impl<S: Alter + Drop> TableStore<S> {
     ///
     /// # Errors
     ///
-    /// Returns [`StoreError::OtherSchema`] if there is a table of this name with other keys.
+    /// Returns [`StoreError::OtherSchema`] if there is a table of this name with other keys, and
+    /// [`StoreError::Unreadable`] if its key attributes can't be read.
     ///
     /// Returns [`StoreError::Database`] if the database fails, and [`StoreError::OutOfMemory`] if
     /// memory runs out.
@@ -76,7 +80,8 @@ impl<S: Alter + Drop> TableStore<S> {
     ///
     /// # Errors
     ///
-    /// Returns [`StoreError::NoTable`] if there is none.
+    /// Returns [`StoreError::NoTable`] if there is none, and [`StoreError::Unreadable`] if its key
+    /// attributes can't be read.
     ///
     /// Returns [`StoreError::Database`] if the database fails, and [`StoreError::OutOfMemory`] if
     /// memory runs out.
@@ -148,22 +153,27 @@ impl<S: Alter + Drop> TableStore<S> {
         rows::count(&mut self.conn, self.table.id)
     }
 
-    /// Returns the item under a key, or `None`.
+    /// Returns the item under a key, or `None`. The item has this key.
     ///
     /// # Errors
     ///
-    /// Returns [`StoreError::Unreadable`] if the text of the item can't be read.
+    /// Returns [`StoreError::Unreadable`] if the text of the item can't be read, or if the item has
+    /// another key than its row or none: then no call of `TableStore` wrote the row.
     ///
     /// Returns [`StoreError::Database`] if the database fails, and [`StoreError::OutOfMemory`] if
     /// memory runs out.
     pub fn get(&mut self, key: &Key) -> Result<Option<Item>, StoreError>
         ensures schema { schema_of self.new ≡ schema_of self.old }
+        ensures table { table_of self.new ≡ table_of self.old }
+        ensures key { IfOk result (FoundHasKey (schema_of self.old) key.now) }
+        ensures ran { Ran S.Store (GetsAt S.Store key.now) self.old self.new result }
+        ensures clean { WasClean S.Store self.old.conn self.new.conn }
     {
-        let key = KeyBytes::of(self.alloc, key)?;
-        rows::get(self.alloc, &mut self.conn, self.table.id, &key)
+        let bytes = KeyBytes::of(self.alloc, key)?;
+        rows::get_own(self.alloc, &mut self.conn, &self.table, key, &bytes)
     }
 
-    /// Puts an item under its key, and returns the item that was there.
+    /// Puts an item under its key, and returns the item that was there, which has the same key.
     ///
     /// # Errors
     ///
@@ -174,14 +184,17 @@ impl<S: Alter + Drop> TableStore<S> {
     /// Otherwise returns the error of [`TableStore::get`].
     pub fn put(&mut self, item: &Item) -> Result<Option<Item>, StoreError>
         ensures needs { NeedsKey (schema_of self.old) item.now result }
+        ensures before { IfOk result (HadKeyOf (schema_of self.old) item.now) }
         ensures kept { OnOk result (IsKept item.now) }
         ensures schema { schema_of self.new ≡ schema_of self.old }
+        ensures ran { Ran S.Store (BeforeOf S.Store (PutsIf S.Store Condition.Always item.now))
+            self.old self.new result }
     {
         self.put_if(Condition::Always, item)
     }
 
     /// Puts an item under its key if the condition holds there, and returns the item that was
-    /// there.
+    /// there, which has the same key.
     ///
     /// # Errors
     ///
@@ -190,8 +203,11 @@ impl<S: Alter + Drop> TableStore<S> {
     pub fn put_if(&mut self, condition: Condition, item: &Item) -> Result<Option<Item>, StoreError>
         ensures needs { NeedsKey (schema_of self.old) item.now result }
         ensures condition { IfOk result (λ before. holds condition (is_some before) ≡ true) }
+        ensures before { IfOk result (HadKeyOf (schema_of self.old) item.now) }
         ensures kept { OnOk result (IsKept item.now) }
         ensures schema { schema_of self.new ≡ schema_of self.old }
+        ensures ran { Ran S.Store (BeforeOf S.Store (PutsIf S.Store condition item.now))
+            self.old self.new result }
     {
         let (_, before) = self.put_if_returning_key(condition, item)?;
         Ok(before)
@@ -207,13 +223,15 @@ impl<S: Alter + Drop> TableStore<S> {
         ensures key { IfOk result (λ key. ReadsKey (schema_of self.old) item.now (Ok key)) }
         ensures kept { OnOk result (IsKept item.now) }
         ensures schema { schema_of self.new ≡ schema_of self.old }
+        ensures ran { Ran S.Store (KeyOf S.Store (PutsIf S.Store Condition.Always item.now))
+            self.old self.new result }
     {
         let (key, _) = self.put_if_returning_key(Condition::Always, item)?;
         Ok(key)
     }
 
     /// Puts an item under its key if the condition holds there, and returns the key and the item that
-    /// was there.
+    /// was there, which has the same key.
     ///
     /// # Errors
     ///
@@ -225,13 +243,15 @@ impl<S: Alter + Drop> TableStore<S> {
     ) -> Result<(Key, Option<Item>), StoreError>
         ensures needs { NeedsKey (schema_of self.old) item.now result }
         ensures key { IfOk result (λ done. ReadsKey (schema_of self.old) item.now (Ok done.0)) }
+        ensures before { IfOk result (λ done. FoundHasKey (schema_of self.old) done.0 done.1) }
         ensures condition { IfOk result (λ done. holds condition (is_some done.1) ≡ true) }
         ensures kept { OnOk result (IsKept item.now) }
         ensures schema { schema_of self.new ≡ schema_of self.old }
+        ensures ran { Ran S.Store (PutsIf S.Store condition item.now) self.old self.new result }
     {
         let key = self.table.schema.key_of(item)?;
         let bytes = KeyBytes::of(self.alloc, &key)?;
-        let before = rows::get(self.alloc, &mut self.conn, self.table.id, &bytes)?;
+        let before = rows::get_own(self.alloc, &mut self.conn, &self.table, &key, &bytes)?;
         if !condition.holds(before.is_some()) {
             return Err(StoreError::Key(TableError::ConditionFailed));
         }
@@ -239,18 +259,21 @@ impl<S: Alter + Drop> TableStore<S> {
         Ok((key, before))
     }
 
-    /// Deletes the item under a key, and returns it.
+    /// Deletes the item under a key, and returns it. It has this key.
     ///
     /// # Errors
     ///
     /// Returns the error of [`TableStore::get`].
     pub fn delete(&mut self, key: &Key) -> Result<Option<Item>, StoreError>
+        ensures key { IfOk result (FoundHasKey (schema_of self.old) key.now) }
         ensures schema { schema_of self.new ≡ schema_of self.old }
+        ensures ran { Ran S.Store (DeletesIf S.Store Condition.Always key.now)
+            self.old self.new result }
     {
         self.delete_if(Condition::Always, key)
     }
 
-    /// Deletes the item under a key if the condition holds there, and returns it.
+    /// Deletes the item under a key if the condition holds there, and returns it. It has this key.
     ///
     /// # Errors
     ///
@@ -258,18 +281,20 @@ impl<S: Alter + Drop> TableStore<S> {
     /// returns the error of [`TableStore::get`].
     pub fn delete_if(&mut self, condition: Condition, key: &Key) -> Result<Option<Item>, StoreError>
         ensures condition { IfOk result (λ before. holds condition (is_some before) ≡ true) }
+        ensures key { IfOk result (FoundHasKey (schema_of self.old) key.now) }
         ensures schema { schema_of self.new ≡ schema_of self.old }
+        ensures ran { Ran S.Store (DeletesIf S.Store condition key.now) self.old self.new result }
     {
-        let key = KeyBytes::of(self.alloc, key)?;
-        let before = rows::get(self.alloc, &mut self.conn, self.table.id, &key)?;
+        let bytes = KeyBytes::of(self.alloc, key)?;
+        let before = rows::get_own(self.alloc, &mut self.conn, &self.table, key, &bytes)?;
         if !condition.holds(before.is_some()) {
             return Err(StoreError::Key(TableError::ConditionFailed));
         }
-        rows::delete(&mut self.conn, self.table.id, &key)?;
+        rows::delete(&mut self.conn, self.table.id, &bytes)?;
         Ok(before)
     }
 
-    /// Replaces the item under a key with what `change` makes of it.
+    /// Replaces the item under a key with what `change` makes of it. Both have this key.
     ///
     /// The error can be of any type that a [`StoreError`] converts to, as `anyhow::Error` or a type
     /// of your own.
@@ -292,7 +317,12 @@ impl<S: Alter + Drop> TableStore<S> {
         requires { F.IsAlwaysCallable change }
         ensures changes { OnOk result (KeepsKey (FnOnceReturnsAt F.FnOnce change) (schema_of self.old) key.now) }
         ensures err { IfErr result (FailsToChange E.from_gives (FnOnceReturnsAt F.FnOnce change)) }
+        ensures given { OnOk result (KeepsKey
+            (OfKey (FnOnceReturnsAt F.FnOnce change) (schema_of self.old) key.now)
+            (schema_of self.old) key.now) }
         ensures schema { schema_of self.new ≡ schema_of self.old }
+        ensures ran { Ran S.Store (Updates S.Store E.from_gives (FnOnceReturnsAt F.FnOnce change) key.now)
+            self.old self.new result }
     {
         let Some(item) = self.get(key)? else {
             return Err(E::from(StoreError::Key(TableError::NoItem)));
@@ -306,6 +336,8 @@ impl<S: Alter + Drop> TableStore<S> {
     fn put_changed(&mut self, key: &Key, item: &Item) -> Result<(), StoreError>
         ensures own { OnOk result (HasThisKey (schema_of self.old) key.now item.now) }
         ensures schema { schema_of self.new ≡ schema_of self.old }
+        ensures ran { Ran S.Store (PutsChanged S.Store key.now item.now) self.old self.new result }
+        ensures clean { WasClean S.Store self.old.conn self.new.conn }
     {
         let own_key = self.table.schema.key_of(item)?;
         if own_key.cmp(key).is_ne() {
@@ -320,7 +352,8 @@ impl<S: Alter + Drop> TableStore<S> {
     /// # Errors
     ///
     /// Returns [`StoreError::Unreadable`] if the text of an item can't be read, and
-    /// [`StoreError::Key`] if an item doesn't have its key.
+    /// [`StoreError::Key`] if an item has no key of the table. An item with another key than its row
+    /// is left out if the query doesn't find that key.
     ///
     /// Returns [`StoreError::Database`] if the database fails, and [`StoreError::OutOfMemory`] if
     /// memory runs out.
@@ -344,7 +377,8 @@ impl<S: Alter + Drop> TableStore<S> {
     }
 
     /// Returns a page of all items: those after `start_after` in the order of their keys, at most
-    /// `limit`. The next page starts after the last key of this one.
+    /// `limit`. The next page starts after the last key of this one. It doesn't compare an item's key
+    /// with its row.
     ///
     /// # Errors
     ///
@@ -366,8 +400,10 @@ impl<S: Alter + Drop> TableStore<S> {
     ///
     /// # Errors
     ///
-    /// Returns the error of [`TableStore::put`] for the first item that fails, or
-    /// [`StoreError::Database`] if the database fails.
+    /// Returns the error of [`TableStore::put`] for the first item that fails, but never
+    /// [`StoreError::Unreadable`]: it doesn't read what was there.
+    ///
+    /// Returns [`StoreError::Database`] if the database fails.
     pub fn write_all(&mut self, items: &[Item]) -> Result<(), StoreError>
         ensures keys { OnOk result (All (HasKey (schema_of self.old)) items.now) }
         ensures kept { OnOk result (All IsKept items.now) }
@@ -387,6 +423,8 @@ impl<S: Alter + Drop> TableStore<S> {
     fn put_at(&mut self, key: &KeyBytes, item: &Item) -> Result<(), StoreError>
         ensures kept { OnOk result (IsKept item.now) }
         ensures schema { schema_of self.new ≡ schema_of self.old }
+        ensures ran { Ran S.Store (PutsAt S.Store key.now item.now) self.old self.new result }
+        ensures clean { WasClean S.Store self.old.conn self.new.conn }
     {
         if !is_kept(item) {
             return Err(StoreError::TooDeep);

@@ -259,7 +259,7 @@ impl<T: AsItem + Keyed, S: Alter + Drop> TypedStore<T, S> {
     /// # Errors
     ///
     /// Returns [`TypedStoreError::Store`] with `NoItem` if there is no value under the key, or with
-    /// the error of the database.
+    /// the error of [`TableStore::get`].
     ///
     /// Returns [`TypedStoreError::Value`] if the value can't be read, and then the error of
     /// `change`.

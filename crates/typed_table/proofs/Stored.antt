@@ -9,7 +9,7 @@ use Rattle.dynamo_de.specs.Source.{Source, attribute}
 use Rattle.dynamo_shape.specs.Clear.{Clear}
 use Rattle.dynamo_shape.specs.Conforms.{conforms}
 use Rattle.dynamo_shape.specs.Laws.{ReadsByShape}
-use Rattle.dynamo_types.specs.About.{About}
+use Rattle.dynamo_record.specs.About.{About}
 use Rattle.serde_dynamo.proofs.ItemBack as back
 use Rattle.typed_table.specs.Written.{IsItemOf}
 

@@ -12,7 +12,7 @@ ghost use Rattle.typed_table.specs.Written.{IsItemOf};
 
 use crate::item::{item_of, value_from, value_of};
 use dynamo_place::{LocatedError, Place, from_item_ref_located};
-use dynamo_types::Shaped;
+use dynamo_record::Shaped;
 use dynamo_value::{Error, Item, Result};
 use std::alloc::Global;
 

@@ -15,7 +15,7 @@ ghost use Rattle.typed_table.specs.Written.{IsItemOf};
 
 use crate::AsItem;
 use dynamo_read::{from_item, from_item_ref};
-use dynamo_types::Shaped;
+use dynamo_record::Shaped;
 use dynamo_value::{Item, Result};
 use dynamo_write::to_item;
 use std::alloc::Global;

@@ -12,7 +12,7 @@ ghost use Rattle.typed_table.specs.Stored.{FailsToPut, FailsToReread, table_of};
 ghost use Rattle.typed_table.specs.Written.{IsItemOf};
 
 use crate::{AsItem, Keyed, TypedTable, TypedTableError};
-use dynamo_types::Shaped;
+use dynamo_record::Shaped;
 
 /// Puts a value into a table, and gets the value under its key. If the type promises that its
 /// values read back, there is a value, and it is the same.

@@ -55,6 +55,21 @@ pub fn json_and_back(alloc: Global, value: &AttributeValue) -> Result<(Value, At
     Ok((json, read))
 }
 
+/// Writes an attribute value as a value of a program and reads it back, which gives the same.
+///
+/// # Errors
+///
+/// Returns `OutOfMemory` if memory runs out.
+pub fn and_back(alloc: Global, value: &AttributeValue) -> Result<AttributeValue>
+    ensures back { IfOk result (λ read. av.view read ≡ av.view value.now) }
+    ensures err { IfErr result (λ e. fault_of e ≡ out_of_memory) }
+{
+    laws::attribute_value();
+    value.conforms();
+    let written = to_attribute_value(alloc, value)?;
+    from_attribute_value(alloc, written)
+}
+
 /// Reads a JSON value from what it is written as. Without floats it is the same.
 ///
 /// # Errors
@@ -85,4 +100,20 @@ pub fn item_json_and_back(alloc: Global, item: &Item) -> Result<(Value, Item)>
     let written = to_attribute_value(alloc, item)?;
     let read: Item = from_attribute_value(alloc, written)?;
     Ok((json, read))
+}
+
+/// Writes an item as a value of a program and reads it back, which gives the same.
+///
+/// # Errors
+///
+/// Returns `OutOfMemory` if memory runs out.
+pub fn item_and_back(alloc: Global, item: &Item) -> Result<Item>
+    ensures back { IfOk result (λ read. item_view read ≡ item_view item.now) }
+    ensures err { IfErr result (λ e. fault_of e ≡ out_of_memory) }
+{
+    laws::attribute_value();
+    item.conforms();
+    let written = to_attribute_value(alloc, item)?;
+    let again: Item = from_attribute_value(alloc, written)?;
+    Ok(again)
 }

@@ -43,6 +43,21 @@ enum Adjacent {
 }
 
 #[derive(Drop, Serialize, Deserialize)]
+#[serde(tag = "t")]
+enum Tagged {
+    One { n: u8 },
+}
+
+// Enums of each kind that may name a variant that isn't theirs.
+#[derive(Drop, Serialize, Deserialize)]
+struct Around {
+    a: Option<Tagged>,
+    b: Option<Adjacent>,
+    c: Option<Internal>,
+    d: Option<External>,
+}
+
+#[derive(Drop, Serialize, Deserialize)]
 #[serde(untagged)]
 enum Untagged {
     Nothing,
@@ -85,12 +100,25 @@ fn tags_inside_and_beside(rt: HostRuntime) -> Result<(), Fail> {
         (r#"{"M":{"one":{"N":"1"},"type":{"S":"named"}}}"#, ""),
         (r#"{"M":{"type":{"S":"alien"}}}"#, r#"{"M":{"type":{"S":"unknown"}}}"#),
         (r#"{"M":{"one":{"N":"1"}}}"#, "missing field `type`"),
+        (r#"{"M":{"type":{"B":""}}}"#, "Expected string"),
+    ])?;
+    reads::<Vec<Around>>(&rt, alloc, &[
+        (r#"{"L":[{"M":{"a":{"M":{"t":{"S":"Alien"}}}}}]}"#, "unknown variant `Alien`"),
+        (r#"{"L":[{"M":{"a":{"M":{"n":{"S":"x"},"t":{"S":"Alien"}}},"b":{"S":"Unit"}}}]}"#, "unknown variant `Alien`"),
+        (r#"{"L":[{"M":{"b":{"M":{"c":{"S":"x"},"t":{"S":"Alien"}}}}}]}"#, "unknown variant `Alien`"),
+        (r#"{"L":[{"M":{"b":{"M":{"t":{"S":"Alien"}}}}}]}"#, "unknown variant `Alien`"),
+        (r#"{"L":[{"M":{"b":{"M":{"t":{"S":"Unit"}}}}},{"M":{"d":{"S":"Alien"}}}]}"#, "unknown variant `Alien`"),
+        (
+            r#"{"L":[{"M":{"c":{"M":{"type":{"S":"Alien"}}},"d":{"M":{"Stranger":{"N":"1"}}}}}]}"#,
+            "unknown variant `Stranger`",
+        ),
     ])?;
     reads::<Adjacent>(&rt, alloc, &[
         (r#"{"M":{"t":{"S":"Unit"}}}"#, ""),
         (r#"{"M":{"c":{"S":"a"},"t":{"S":"Newtype"}}}"#, ""),
         (r#"{"M":{"c":{"L":[{"N":"1"},{"N":"2"}]},"t":{"S":"Tuple"}}}"#, ""),
         (r#"{"M":{"c":{"L":[{"N":"1"}]},"t":{"S":"Tuple"}}}"#, "invalid length"),
+        (r#"{"M":{"t":{"B":""}}}"#, "Expected string"),
     ])
 }
 

@@ -13,20 +13,20 @@ returns-in-I8-clause-shown c =
 -- what is shown without a reader is so at these readers
 pub returns-in-Bool-clause-shown : goal.returns-in-Bool-clause-shown
 returns-in-Bool-clause-shown c =
-    let shown = c.boolean.ensures lent_source lent_elements lent_entries lent_chosen in
+    let shown = c.boolean.ensures.shown lent_source lent_elements lent_entries lent_chosen in
     search (rules, c.in-Bool.is)
 
 pub returns-in-Char-clause-shown : goal.returns-in-Char-clause-shown
 returns-in-Char-clause-shown c =
-    let shown = c.character.ensures lent_source lent_elements lent_entries lent_chosen in
+    let shown = c.character.ensures.shown lent_source lent_elements lent_entries lent_chosen in
     search (rules, c.in-Char.is)
 
 pub returns-in-Unit-clause-shown : goal.returns-in-Unit-clause-shown
 returns-in-Unit-clause-shown c =
-    let shown = c.null.ensures lent_source lent_elements lent_entries lent_chosen in
+    let shown = c.null.ensures.shown lent_source lent_elements lent_entries lent_chosen in
     search (rules, c.in-Unit.is)
 
 pub returns-in-UnitStruct-clause-shown : goal.returns-in-UnitStruct-clause-shown
 returns-in-UnitStruct-clause-shown c =
-    let shown = c.null-in-UnitStruct.ensures lent_source lent_elements lent_entries lent_chosen in
+    let shown = c.null-in-UnitStruct.ensures.shown lent_source lent_elements lent_entries lent_chosen in
     search (rules, c.in-UnitStruct.is)

@@ -1,0 +1,6 @@
+mod maps;
+mod numbers;
+mod options;
+mod sequences;
+mod sets;
+mod texts;

@@ -1,0 +1,15 @@
+-- What a call of a table ran, by what its steps ran.
+use Rattle.std.proofs.Common.{◌≡◌, Bool, true, false, true≢false, Result, Ok, Err, IsErrAnd, MatchBool, ap, sym}
+
+-- the error that a `?` returns
+pub is_err : {A E : Type 0} (r : Result A E) (e : E) → IsErrAnd r (λ x. x ≡ e) → r ≡ Err e
+is_err (Ok _) e h = absurd h
+is_err (Err x) e h = ap Err h
+
+pub when : {A : Type 0} (B : Type 0) (b : Bool) → b ≡ true → A → MatchBool b A B
+when B true is a = a
+when B false is a = absurd (true≢false (sym is))
+
+pub unless : {B : Type 0} (A : Type 0) (b : Bool) → b ≡ false → B → MatchBool b A B
+unless A false is x = x
+unless A true is x = absurd (true≢false is)

@@ -1,0 +1,126 @@
+-- What each call runs: one statement on the row of a key after the other, up to the first error.
+use Rattle.std.specs.Prelude.{◌≡◌, ◌⊎◌, ⊤, Option, Some, None, Result, Ok, Err, IsErrAnd, MatchBool, MatchResult, is_some}
+use Rattle.std.specs.Ordering.{is_ne}
+use Rattle.sqlite.specs.Held.{Held}
+use Rattle.sqlite.specs.Store.{Ghosts}
+use Rattle.dynamo_value.specs.declared.item.Item.{Item}
+use Rattle.table_keys.specs.Conditions.{holds}
+use Rattle.table_keys.specs.KeyBytes.{IsKeyBytes}
+use Rattle.table_keys.specs.KeyOf.{ReadsKey}
+use Rattle.table_keys.specs.KeyOrder.{key_cmp}
+use Rattle.table_keys.specs.declared.bytes.KeyBytes.{KeyBytes}
+use Rattle.table_keys.specs.declared.error.TableError.{TableError}
+use Rattle.table_keys.specs.declared.condition.Condition.{Condition}
+use Rattle.table_keys.specs.declared.key.Key.{Key}
+use Rattle.table_keys.specs.declared.schema.KeySchema.{KeySchema}
+use Rattle.table_store.specs.Depth.{is_kept}
+use Rattle.table_store.specs.Errors.{of_table}
+use Rattle.table_store.specs.Runs.{Deletes, Gets, IsClean, Puts, Stops}
+use Rattle.table_store.specs.declared.error.StoreError.{StoreError}
+use Rattle.table_store.specs.declared.rows.definition.Definition.{Definition}
+use Rattle.table_store.specs.declared.store.TableStore.{TableStore}
+
+module _ {S : Type 0} (g : Ghosts S) where
+  -- what a call makes of the connection before it, the one after it and its result
+  abbrev pub Step : Type 0 → Type 1
+  Step A = Held S → Held S → Result A StoreError → Type 0
+
+  -- nothing more is run, and this is returned
+  abbrev pub Returns : {A : Type 0} → A → Step A
+  Returns a old new r = (r ≡ Ok a) × (new ≡ old)
+
+  -- the second runs on what the first leaves; an error of the first is returned
+  abbrev pub After : {A B : Type 0} → Step A → (A → Step B) → Step B
+  After {A} First Next old new r =
+      (mid : Held S) × (first : Result A StoreError) × First old mid first
+      × MatchResult first (λ a. Next a mid new r) (λ e. Stops g e mid new r)
+
+  -- for the key of an item, or the error of its key
+  abbrev pub WithKey : {A : Type 0} → KeySchema → Item → (Key → Step A) → Step A
+  WithKey schema item Next old new r =
+      (key : Result Key TableError) × ReadsKey schema item key
+      × MatchResult key (λ key. Next key old new r) (λ e. Stops g (of_table e) old new r)
+
+  -- for the bytes of a key, unless memory runs out for them
+  abbrev pub WithBytes : {A : Type 0} → Key → (KeyBytes → Step A) → Step A
+  WithBytes key Next old new r =
+      ((bytes : KeyBytes) × IsKeyBytes key bytes × Next bytes old new r)
+      ⊎ Stops g StoreError.OutOfMemory old new r
+
+  -- if the condition holds of what is there
+  abbrev pub OnCondition : {A : Type 0} → Condition → Option Item → Step A → Step A
+  OnCondition condition before Next old new r =
+      MatchBool (holds condition (is_some before)) (Next old new r)
+      (Stops g (StoreError.Key TableError.ConditionFailed) old new r)
+
+  -- if DynamoDB keeps an item that nests so deep
+  abbrev pub IfKept : {A : Type 0} → Item → Step A → Step A
+  IfKept item Next old new r = MatchBool (is_kept item) (Next old new r) (Stops g StoreError.TooDeep old new r)
+
+  -- ---- the calls on a table
+
+  -- the item is put under the bytes of its key
+  abbrev pub PutsAt : KeyBytes → Item → Definition → Step ⊤
+  PutsAt bytes item table = IfKept item (Puts g table.id bytes item)
+
+  -- the item under the key
+  unfoldable pub GetsAt : Key → Definition → Step (Option Item)
+  GetsAt key table = WithBytes key (Gets g table.id)
+
+  -- The item is put under its key where the condition holds of what is there. These two are returned.
+  unfoldable pub PutsIf : Condition → Item → Definition → Step (Key × Option Item)
+  PutsIf condition item table =
+      WithKey table.schema item (λ key. WithBytes key (λ bytes. After (Gets g table.id bytes) (λ before.
+      OnCondition condition before (After (PutsAt bytes item table) (λ _. Returns (key, before))))))
+
+  -- the key alone, or what was there
+  abbrev pub KeyOf : (Definition → Step (Key × Option Item)) → Definition → Step Key
+  KeyOf Puts table old new r =
+      (done : Result (Key × Option Item) StoreError) × Puts table old new done
+      × MatchResult done (λ it. r ≡ Ok it.0) (λ e. r ≡ Err e)
+
+  abbrev pub BeforeOf : (Definition → Step (Key × Option Item)) → Definition → Step (Option Item)
+  BeforeOf Puts table old new r =
+      (done : Result (Key × Option Item) StoreError) × Puts table old new done
+      × MatchResult done (λ it. r ≡ Ok it.1) (λ e. r ≡ Err e)
+
+  -- the item under the key is deleted where the condition holds of it
+  unfoldable pub DeletesIf : Condition → Key → Definition → Step (Option Item)
+  DeletesIf condition key table =
+      WithBytes key (λ bytes. After (Gets g table.id bytes) (λ before.
+      OnCondition condition before (After (Deletes g table.id bytes) (λ _. Returns before))))
+
+  -- a changed item is put under this key, which has to be its own
+  unfoldable pub PutsChanged : Key → Item → Definition → Step ⊤
+  PutsChanged key item table =
+      WithKey table.schema item (λ own. λ old new r. MatchBool (is_ne (key_cmp own key))
+      (Stops g (StoreError.Key TableError.KeyChanged) old new r)
+      (WithBytes key (λ bytes. PutsAt bytes item table) old new r))
+
+  -- an error of the table becomes one of the change
+  abbrev pub Fails : {E : Type 0} → (StoreError → E → Type 0) → StoreError → Held S → Held S → Result ⊤ E → Type 0
+  Fails gives error old new r = IsErrAnd r (gives error) × (new ≡ old)
+
+  module _ {E : Type 0} (gives : StoreError → E → Type 0) (Makes : Item → Result Item E → Type 0) (key : Key) (table : Definition) where
+    -- what the change made is put, or its error is returned
+    abbrev pub PutsMade : Result Item E → Held S → Held S → Result ⊤ E → Type 0
+    PutsMade (Ok changed) old new r =
+        (done : Result ⊤ StoreError) × PutsChanged key changed table old new done
+        × MatchResult done (λ _. r ≡ Ok tt) (λ error. IsErrAnd r (gives error))
+    PutsMade (Err e) old new r = (r ≡ Err e) × (new ≡ old)
+
+    -- the change is given the item that is there
+    abbrev pub UpdatesFound : Option Item → Held S → Held S → Result ⊤ E → Type 0
+    UpdatesFound None old new r = Fails gives (StoreError.Key TableError.NoItem) old new r
+    UpdatesFound (Some item) old new r = (made : Result Item E) × Makes item made × PutsMade made old new r
+
+    -- the item under the key is replaced by what the change makes of it
+    unfoldable pub Updates : Held S → Held S → Result ⊤ E → Type 0
+    Updates old new r =
+        (mid : Held S) × (found : Result (Option Item) StoreError) × GetsAt key table old mid found
+        × MatchResult found (λ found. UpdatesFound found mid new r) (λ e. Fails gives e mid new r)
+
+-- the call does so if its disk is clean when it returns
+abbrev pub Ran : {S A E : Type 0} (g : Ghosts S) → (Definition → Held S → Held S → Result A E → Type 0)
+    → TableStore S → TableStore S → Result A E → Type 0
+Ran g Does old new r = IsClean g new.conn → Does old.table old.conn new.conn r
