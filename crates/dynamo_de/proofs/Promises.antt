@@ -51,7 +51,7 @@ answer_stops seen then next x f (inr is) = inr (stops seen then next (promised x
 
 -- ---- what is told of a refusal
 
--- a fault that stands for another, or for want of memory, keeps its promise
+-- a fault that replaces another, or out of memory, keeps its promise
 pub told : (o : Option Refusal) (f g : Fault) → (g ≡ f) ⊎ (g ≡ out_of_memory) → Refused o f → Refused o g
 told o f g (inl same) h = subst (Refused o) (sym same) h
 told o f g (inr lacks) h = inl lacks
@@ -129,7 +129,7 @@ module _ {A V D : Type 0} (seen : V → A) (f : Source → Reading A) (source : 
   taken_ends all vs [] new t so_far = sym so_far ∙ each_ends seen f vs
   taken_ends all vs (s ∷ ss) new t so_far = absurd t
 
-  -- the fault of an element, or want of memory, is the whole's
+  -- the fault of an element, or out of memory, is the whole's
   pub taken_stops : {W : Type 0} (then : W → List A) (all : Reading (List A)) (vs : List V) (ss new : List Source) (d : D) (e : Fault) → TakesElement source ss new (Some d)
       → EachFrom seen f vs ss ≡ all → (e ≡ out_of_memory) ⊎ Agrees seen (f (source d)) (Err e) → (e ≡ out_of_memory) ⊎ Agrees then all (Err e)
   taken_stops then all vs ss new d e t so_far (inl lacks) = inl lacks

@@ -205,7 +205,7 @@ blob_begins ts h none = none (base64_text h.0) _ h.4
 pub blob_text : (ts new : List Token) (text : List ℕ) → BlobIsNext ts → ts ≡ token.string text ∷ new → BlobsAreNext new
 blob_text ts new text h e = (h.1, h.2, h.3.1, sym (same_text (base64_text h.0) text _ new (sym h.4 ∙ e)).1)
 
--- base64 of bytes is refused only for want of memory
+-- base64 of bytes is refused only if memory runs out
 pub only_memory : (bytes : List ℕ) (text : List ℕ) (f : Fault) → IsBytes bytes → text ≡ base64_text bytes → Refused (refusal_in (bytes_of_base64 text)) f → f ≡ out_of_memory
 only_memory bytes text f h is refused =
     let known = ap bytes_of_base64 is ∙ blob_back bytes h in

@@ -1,4 +1,4 @@
--- What a reader answers that takes no memory: as any reader, but want of memory is no excuse.
+-- What a reader answers that takes no memory: as any reader, but it can't be out of memory.
 use Rattle.std.specs.Prelude.{◌≡◌, ℕ, List, [], Option, Result, Ok, Err}
 use Rattle.dynamo_value.specs.Fault.{Fault}
 use Rattle.dynamo_de.specs.Shown.{Shown}

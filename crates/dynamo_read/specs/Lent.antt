@@ -79,7 +79,7 @@ form_lent (form.Map m) = only_entry (members_view m.now.entries)
 abbrev pub lent_chosen : LentChoice → Result (List ℕ × Option of.Source) Fault
 lent_chosen c = form_lent c.form
 
--- it shows exactly this, or refuses by exactly this fault; want of memory is excused
+-- it shows exactly this, or refuses by exactly this fault, unless memory runs out
 abbrev pub IsLentShown : Shown → Result (Showing LentDeserializer LentElements LentEntries LentChoice) ErrorImpl → Type 0
 IsLentShown shown r = Shows fault_of lent_source lent_elements lent_entries lent_chosen shown r
 

@@ -30,7 +30,7 @@ seen_source (source.PlainText t) = of.plain_text (string_bytes t)
 abbrev pub source_of : Deserializer → of.Source
 source_of d = seen_source d.source
 
--- it shows exactly this, or refuses by exactly this fault; want of memory is excused
+-- it shows exactly this, or refuses by exactly this fault, unless memory runs out
 abbrev pub IsShown : Shown → Result (Showing Deserializer Elements Entries Choice) ErrorImpl → Type 0
 IsShown shown r = Shows fault_of source_of elements_left entries_left chosen_of shown r
 

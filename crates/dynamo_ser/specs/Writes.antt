@@ -9,16 +9,15 @@ use Rattle.dynamo_ser.specs.Datum as datum
 use Rattle.dynamo_ser.specs.Datum.{Datum}
 use Rattle.dynamo_ser.specs.Key.{key_text}
 
--- a refusal for want of memory
+-- a refusal because memory ran out
 abbrev pub LacksMemory : {A E : Type 0} → (E → Fault) → Result A E → Type 0
 LacksMemory fault r = MatchResult r (λ _. ⊥) (λ e. fault e ≡ out_of_memory)
 
--- one of the serializer's answers to the datum; where the value takes memory of its own (`wants`), a refusal for want
--- of it too
+-- one of the serializer's answers to the datum; where the value takes memory of its own (`wants`), out of memory too
 abbrev pub Writes : {A E : Type 0} → (E → Fault) → Type 0 → (Datum → Result A E → Type 0) → Datum → Result A E → Type 0
 Writes fault wants outcome d r = outcome d r ⊎ (wants × LacksMemory fault r)
 
--- the text of a key, its fault, or want of memory
+-- the text of a key, its fault, or out of memory
 abbrev pub WritesKey : Datum → Result (String Global) Error → Type 0
 WritesKey k r = MatchResult r (λ text. key_text k ≡ Ok (string_bytes text)) (λ e. (key_text k ≡ Err (fault_of e)) ⊎ (fault_of e ≡ out_of_memory))
 

@@ -18,7 +18,7 @@ abbrev pub SaysIf : Option Refusal → Fault → Type 0
 SaysIf None f = ⊥
 SaysIf (Some r) f = Says r f
 
--- the faults by which a call may give up: want of memory, and where there is a refusal what it says
+-- the faults by which a call may give up: out of memory, and where there is a refusal what it says
 abbrev pub Refused : Option Refusal → Fault → Type 0
 Refused refusal f = (f ≡ out_of_memory) ⊎ SaysIf refusal f
 

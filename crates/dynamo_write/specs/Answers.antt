@@ -14,7 +14,7 @@ use Rattle.dynamo_ser.specs.Datum.{Datum}
 use Rattle.dynamo_write.specs.Memory.{MayTakeMemory}
 use Rattle.dynamo_write.specs.Written.{written, item_written}
 
--- r is this value or this fault; where `wants`, it may also be a refusal for want of memory
+-- r is this value or this fault; where `wants`, it may also be out of memory
 abbrev pub Answers : {A V : Type 0} → (V → A) → Type 0 → Result A Fault → Result V Error → Type 0
 Answers seen wants x r = MatchResult r (λ v. x ≡ Ok (seen v)) (λ e. (x ≡ Err (fault_of e)) ⊎ (wants × (fault_of e ≡ out_of_memory)))
 
@@ -26,7 +26,7 @@ AnswersDatum d r = Answers view (MayTakeMemory d) (written d) r
 abbrev pub AnswersItem : Type 0 → Datum → Result Item Error → Type 0
 AnswersItem wants d r = Answers (λ item. members_view (map_of item).entries) (wants ⊎ MayTakeMemory d) (item_written d) r
 
--- inside a list or a map, where want of memory may always be answered
+-- inside a list or a map, where out of memory is always possible
 abbrev pub AnswersWithin : Result Av Fault → Result AttributeValue Error → Type 0
 AnswersWithin x r = Answers view (Unit {0}) x r
 

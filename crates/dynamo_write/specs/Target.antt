@@ -35,7 +35,7 @@ pub record AboutTarget (V : Type 0) : Type 1 where
   pub a_field : (name : List ℕ) (d : Datum) (fs : datum.Fields) → fields (datum.field name d fs) ≡ (written d >>= λ a. fields fs >>= λ rest. Ok ((name, a) ∷ rest))
 
 module _ {V : Type 0} (t : AboutTarget V) where
-  -- this value or this fault, or want of memory, which inside a list or a map may always be answered
+  -- this value or this fault, or out of memory, which is always possible inside a list or a map
   abbrev pub AnswersPart : Result t.Seen Fault → Result V Error → Type 0
   AnswersPart x r = Answers t.seen (Unit {0}) x r
 

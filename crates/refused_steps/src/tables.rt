@@ -23,7 +23,7 @@ fn attribute(alloc: Global, name: &str, kind: KeyKind) -> Result<KeyAttribute, A
     })
 }
 
-// Until the row's calls, a table refuses for want of memory alone.
+// Until the row's calls, a table fails only if memory runs out.
 fn made<T: Drop>(answer: Result<T, TableError>) -> Result<T, Stopped> {
     answer.map_err(|_| Stopped::from(AllocError))
 }

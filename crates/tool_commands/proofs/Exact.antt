@@ -1,4 +1,4 @@
--- What `check` prints is determined by the input, want of memory aside.
+-- What `check` prints is determined by the input, unless memory runs out.
 use Rattle.std.proofs.Common.{◌≡◌, ◌⊎◌, ℕ, List, Some, None, Result, Ok, Err, ap, inl, inr, ◌∙◌}
 use Rattle.std.specs.Prelude.{codes}
 use Rattle.serde_json.specs.Data.{Data}
@@ -13,7 +13,7 @@ use Rattle.tool_commands.specs.Printed.{Tells}
 use Rattle.tool_commands.specs.Runs.{Ends}
 use Rattle.tool_commands.specs.Words.{check}
 
--- this text with this status, or want of memory
+-- this text with this status, or out of memory
 abbrev pub PrintsOrLacks : List ℕ → ℕ → List ℕ → ℕ → Type 0
 PrintsOrLacks line code text status = ((text ≡ line) × (status ≡ code)) ⊎ ((text ≡ no_memory_line) × (status ≡ 1))
 

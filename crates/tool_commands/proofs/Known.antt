@@ -11,7 +11,7 @@ use Rattle.tool_commands.specs.Reading.{Reads, Follows, before, calls}
 use Rattle.tool_commands.specs.Runs.{Ends, ReadsFor, Runs}
 use Rattle.tool_commands.specs.Words.{Command, user, check, dynamo, plain}
 
--- all bytes, or want of memory
+-- all bytes, or out of memory
 abbrev AllOr : List ℕ → Result (List ℕ) Failed → Type 0
 AllOr bytes input = (input ≡ Ok bytes) ⊎ (input ≡ Err no_memory)
 

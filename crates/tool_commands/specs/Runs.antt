@@ -10,7 +10,7 @@ use Rattle.tool_commands.specs.Printed.{Prints, Tells}
 use Rattle.tool_commands.specs.Reading.{Reads, calls}
 use Rattle.tool_commands.specs.Words.{Command, user, check, dynamo, plain}
 
--- what `user` answers: the lines of the user's item, or want of memory
+-- what `user` returns: the lines of the user's item, or out of memory
 abbrev pub AnswersUser : List ℕ → List ℕ → ℕ → Result (List ℕ) Failed → Type 0
 AnswersUser id name age answer = MatchResult answer (λ text. text ≡ user_lines id name age) (λ failed. failed ≡ no_memory)
 

@@ -22,7 +22,7 @@ module _ {T : Type 0} (about : About T) (reads : Source → Result T Fault → T
   one_answer : (source : Source) (r q : Result T Fault) → Conforms r → Conforms q → reads source r → reads source q → SameAnswer about.same r q
   one_answer source r q c d h k = one_by_value about.shape about.tells about.same about.told_by_value (read about.shape source) r q c d (by_shape source r h) (by_shape source q k)
 
-  -- two reads from one source, want of memory aside
+  -- two reads from one source, unless memory runs out
   agree : (source : Source) (r q : Result T Error) → Conforms r → Conforms q → Meets fault_of (reads source) r → Meets fault_of (reads source) q → Meets fault_of (λ x. Meets fault_of (SameAnswer about.same x) q) r
   agree source (Ok v) (Ok w) c d h k = one_answer source (Ok v) (Ok w) c d h k
   agree source (Ok v) (Err e) c d h (inl lacks) = inl lacks
