@@ -1,5 +1,5 @@
 //! Tests of the library's public calls, on values from outside: DynamoDB's documents, RFC 4648, the Rust crate's tests, and rows
-//! worked by hand. Each public call is made here once with ample memory, since a proof lets any call answer want of it.
+//! worked by hand. Each public call is made here once with ample memory, since a proof lets any call run out of it.
 //!
 //! - `fixtures`: what the tests are made of: texts of attribute values, visitors, and tables of rows.
 //! - `values`: attribute values, items and errors themselves.
