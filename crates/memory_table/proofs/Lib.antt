@@ -1,3 +1,4 @@
+pub mod Changed
 pub mod Held
 pub mod HeldKeys
 pub mod Lent
