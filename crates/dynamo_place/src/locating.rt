@@ -88,18 +88,20 @@ impl Misfits {
 
     /// Returns those of a list with one more element.
     pub(crate) fn and(self, index: usize, element: Written) -> Misfits {
-        let here = Some(index);
-        let mut misfits = self;
-        if !matches!(element, Written::String) {
-            misfits.strings = misfits.strings.or(here);
+        Misfits {
+            strings: first_misfit(self.strings, index, matches!(element, Written::String)),
+            numbers: first_misfit(self.numbers, index, matches!(element, Written::Number)),
+            blobs: first_misfit(self.blobs, index, matches!(element, Written::Blob)),
         }
-        if !matches!(element, Written::Number) {
-            misfits.numbers = misfits.numbers.or(here);
-        }
-        if !matches!(element, Written::Blob) {
-            misfits.blobs = misfits.blobs.or(here);
-        }
-        misfits
+    }
+}
+
+// The first misfit, given that among the elements before, and whether the element at this index fits.
+fn first_misfit(before: Option<usize>, index: usize, fits: bool) -> Option<usize> {
+    if before.is_none() && !fits {
+        Some(index)
+    } else {
+        before
     }
 }
 

@@ -9,7 +9,7 @@ use crate::fault::no_memory;
 use crate::located_tape::LocatedTape;
 use dynamo_place::{LocatedError, Place};
 use dynamo_value::{AttributeValue, Error, Item, Items};
-use serde::{DeserializeOwned, Deserializer};
+use serde::{DeserializeOwned, Deserializer, Format};
 use std::alloc::Global;
 use std::collections::HashMap;
 
@@ -182,14 +182,24 @@ fn read_laid<T: DeserializeOwned>(
         Err(error) => return Err(at_whole(error)),
     };
     let mut tape = LocatedTape::new(tape);
-    let read = T::deserialize_owned(alloc, &mut Deserializer::new(&[], &mut tape));
-    match read {
+    match read_tape(alloc, &mut tape) {
         Ok(value) => Ok(value),
         Err(error) => {
             let place = tape.place(alloc);
             Err(LocatedError { place, error })
         }
     }
+}
+
+// Reads a value from a tape that keeps its place.
+fn read_tape<T: DeserializeOwned>(alloc: Global, tape: &mut LocatedTape<'_>) -> Result<T, Error> {
+    read_from(alloc, tape)
+}
+
+// Reads a value from any format, so that the proof of a caller with a certain one is short.
+#[inline(always)]
+fn read_from<T: DeserializeOwned, F: Format>(alloc: Global, format: &mut F) -> Result<T, F::Error> {
+    T::deserialize_owned(alloc, &mut Deserializer::new(&[], format))
 }
 
 // An error of the whole.
