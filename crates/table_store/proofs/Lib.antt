@@ -1,5 +1,8 @@
-mod Called
+pub mod Called
+mod Each
 mod Finds
 mod Kept
 mod Keys
+mod Paged
 mod Ran
+pub mod Zipped

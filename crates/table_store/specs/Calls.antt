@@ -1,6 +1,9 @@
--- What each call runs: one statement on the row of a key after the other, up to the first error.
-use Rattle.std.specs.Prelude.{◌≡◌, ◌⊎◌, ⊤, Option, Some, None, Result, Ok, Err, IsErrAnd, MatchBool, MatchResult, is_some}
+-- What each call runs: one statement after the other, up to the first error.
+use Rattle.std.specs.Prelude.{◌≡◌, ◌⊎◌, ⊤, ◌++◌, ◌-◌, ℕ, ℤ, List, [], ◌∷◌, Option, Some, None, Result, Ok, Err, IsErrAnd, MatchBool, MatchResult, is_some, length, ◌==◌}
+use Rattle.std.specs.Borrow.{Bor}
 use Rattle.std.specs.Ordering.{is_ne}
+use Rattle.std.specs.declared.cmp.Ordering.TheVariants.{Less}
+use Rattle.dynamo_value.specs.View.{text_cmp}
 use Rattle.sqlite.specs.Held.{Held}
 use Rattle.sqlite.specs.Store.{Ghosts}
 use Rattle.dynamo_value.specs.declared.item.Item.{Item}
@@ -15,10 +18,17 @@ use Rattle.table_keys.specs.declared.key.Key.{Key}
 use Rattle.table_keys.specs.declared.schema.KeySchema.{KeySchema}
 use Rattle.table_store.specs.Depth.{is_kept}
 use Rattle.table_store.specs.Errors.{of_table}
-use Rattle.table_store.specs.Runs.{Deletes, Gets, IsClean, Puts, Stops}
+use Rattle.table_store.specs.Runs.{Counts, Deletes, Finds, GetsOwn, IsClean, Puts, RunsText, Stops}
+use Rattle.table_store.specs.Statements.{begin_text, commit_text, following_of, following_text, rest_of, rest_text, rollback_text}
 use Rattle.table_store.specs.declared.error.StoreError.{StoreError}
 use Rattle.table_store.specs.declared.rows.definition.Definition.{Definition}
 use Rattle.table_store.specs.declared.store.TableStore.{TableStore}
+
+-- the bytes of the key after which a page starts, or bytes that are less than those of each key
+abbrev pub IsStart : Option (Bor Key) → KeyBytes → Type 0
+IsStart (Some key) start = IsKeyBytes key.now start
+IsStart None start =
+    (key : Key) (bytes : KeyBytes) → IsKeyBytes key bytes → text_cmp start.partition.items bytes.partition.items ≡ Less
 
 module _ {S : Type 0} (g : Ghosts S) where
   -- what a call makes of the connection before it, the one after it and its result
@@ -65,12 +75,12 @@ module _ {S : Type 0} (g : Ghosts S) where
 
   -- the item under the key
   unfoldable pub GetsAt : Key → Definition → Step (Option Item)
-  GetsAt key table = WithBytes key (Gets g table.id)
+  GetsAt key table = WithBytes key (GetsOwn g table key)
 
   -- The item is put under its key where the condition holds of what is there. These two are returned.
   unfoldable pub PutsIf : Condition → Item → Definition → Step (Key × Option Item)
   PutsIf condition item table =
-      WithKey table.schema item (λ key. WithBytes key (λ bytes. After (Gets g table.id bytes) (λ before.
+      WithKey table.schema item (λ key. WithBytes key (λ bytes. After (GetsOwn g table key bytes) (λ before.
       OnCondition condition before (After (PutsAt bytes item table) (λ _. Returns (key, before))))))
 
   -- the key alone, or what was there
@@ -87,7 +97,7 @@ module _ {S : Type 0} (g : Ghosts S) where
   -- the item under the key is deleted where the condition holds of it
   unfoldable pub DeletesIf : Condition → Key → Definition → Step (Option Item)
   DeletesIf condition key table =
-      WithBytes key (λ bytes. After (Gets g table.id bytes) (λ before.
+      WithBytes key (λ bytes. After (GetsOwn g table key bytes) (λ before.
       OnCondition condition before (After (Deletes g table.id bytes) (λ _. Returns before))))
 
   -- a changed item is put under this key, which has to be its own
@@ -96,6 +106,47 @@ module _ {S : Type 0} (g : Ghosts S) where
       WithKey table.schema item (λ own. λ old new r. MatchBool (is_ne (key_cmp own key))
       (Stops g (StoreError.Key TableError.KeyChanged) old new r)
       (WithBytes key (λ bytes. PutsAt bytes item table) old new r))
+
+  -- the number of items
+  abbrev pub CountsAll : Definition → Step ℕ
+  CountsAll table = Counts g table.id
+
+  -- both lists one after the other, unless memory runs out for them
+  abbrev pub Joins : List Item → List Item → Step (List Item)
+  Joins items more old new r = ((r ≡ Ok (items ++ more)) ⊎ (r ≡ Err StoreError.OutOfMemory)) × (new ≡ old)
+
+  -- so many items behind a key: the rest of its partition, and if that has fewer, those that follow
+  unfoldable pub Pages : ℤ → KeyBytes → ℕ → Step (List Item)
+  Pages id start limit =
+      After (Finds g rest_text (rest_of id start limit) limit) (λ items. λ old new r.
+      let left = limit - length items in MatchBool (left == 0) (Returns items old new r)
+      (After (Finds g following_text (following_of id start left) left) (Joins items) old new r))
+
+  -- so many items after a key, or from the first on, unless memory runs out for the bytes of the key
+  unfoldable pub Scans : ℕ → Option (Bor Key) → Definition → Step (List Item)
+  Scans limit after table old new r =
+      ((start : KeyBytes) × IsStart after start × Pages table.id start limit old new r)
+      ⊎ Stops g StoreError.OutOfMemory old new r
+
+  -- the item is put under its key, whatever is there
+  abbrev pub PutsOver : Item → Definition → Step ⊤
+  PutsOver item table = WithKey table.schema item (λ key. WithBytes key (λ bytes. PutsAt bytes item table))
+
+  -- each item is put under its key, up to the first error
+  abbrev pub PutsEach : List Item → Definition → Step ⊤
+  PutsEach [] table = Returns tt
+  PutsEach (item ∷ items) table = After (PutsOver item table) (λ _. PutsEach items table)
+
+  -- the transaction is committed, or after an error rolled back, and the error is returned
+  abbrev pub Ends : Result ⊤ StoreError → Step ⊤
+  Ends (Ok _) old new r = RunsText g commit_text old new r
+  Ends (Err e) old new r = (r ≡ Err e) × (undone : Result ⊤ StoreError) × RunsText g rollback_text old new undone
+
+  -- the items are put in one transaction
+  unfoldable pub WritesAll : List Item → Definition → Step ⊤
+  WritesAll items table =
+      After (RunsText g begin_text) (λ _. λ old new r.
+      (mid : Held S) × (done : Result ⊤ StoreError) × PutsEach items table old mid done × Ends done mid new r)
 
   -- an error of the table becomes one of the change
   abbrev pub Fails : {E : Type 0} → (StoreError → E → Type 0) → StoreError → Held S → Held S → Result ⊤ E → Type 0

@@ -11,6 +11,11 @@ abbrev pub of_table : TableError → StoreError
 of_table TableError.OutOfMemory = StoreError.OutOfMemory
 of_table error = StoreError.Key error
 
+-- an item in a row without its key can't be read; want of memory remains
+abbrev pub of_foreign : TableError → StoreError
+of_foreign TableError.OutOfMemory = StoreError.OutOfMemory
+of_foreign error = StoreError.Unreadable
+
 -- the database's own want of memory as well
 abbrev pub of_database : Error → StoreError
 of_database (Error.SqliteFailure ErrorCode.OutOfMemory) = StoreError.OutOfMemory

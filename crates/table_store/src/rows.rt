@@ -5,7 +5,7 @@ ghost use Rattle.serde_json.specs.Read.{read};
 ghost use Rattle.dynamo_value.specs.Item.{item_view};
 ghost use Rattle.dynamo_json.specs.Json.{item_json};
 ghost use Rattle.table_store.specs.Content.{FoundHasKey, HasThisKey};
-ghost use Rattle.table_store.specs.Runs.{Deletes, Gets, IsClean, IsItemOf, IsUnread, Puts, WasClean};
+ghost use Rattle.table_store.specs.Runs.{Counts, Deletes, Gets, GetsOwn, IfOwn, IsClean, IsItemOf, IsUnread, Puts, RunsText, WasClean};
 
 mod definition;
 mod search;
@@ -92,7 +92,8 @@ pub fn get<S: Alter>(
 // Returns the item if it has this key. Otherwise no call of `TableStore` wrote the row, and it is
 // refused.
 fn of_key(schema: &KeySchema, key: &Key, item: Item) -> Result<Item, StoreError>
-    ensures { MatchResult result (λ own. (own ≡ item) × HasThisKey schema.now key.now own) IsUnread }
+    ensures own { IfOk result (λ own. (own ≡ item) × HasThisKey schema.now key.now own) }
+    ensures exact { IfOwn schema.now key.now item item result }
 {
     let own_key = match schema.key_of(&item) {
         Ok(own_key) => own_key,
@@ -123,7 +124,7 @@ pub fn get_own<S: Alter>(
 ) -> Result<Option<Item>, StoreError>
     ensures key { IfOk result (FoundHasKey table.now.schema key.now) }
     ensures ran { IsClean S.Store conn.new →
-        Gets S.Store table.now.id bytes.now conn.old conn.new result }
+        GetsOwn S.Store table.now key.now bytes.now conn.old conn.new result }
     ensures clean { WasClean S.Store conn.old conn.new }
 {
     match get(alloc, conn, table.id, bytes)? {
@@ -175,8 +176,12 @@ pub fn delete<S: Alter>(conn: &mut Connection<S>, id: i64, key: &KeyBytes) -> Re
 ///
 /// Returns [`StoreError::Database`] if the database fails, and [`StoreError::OutOfMemory`] if
 /// memory runs out.
-pub fn count<S: Alter>(conn: &mut Connection<S>, id: i64) -> Result<u64, StoreError> {
-    Ok(conn.query_row(COUNT, params![id])?.get(0)?)
+pub fn count<S: Alter>(conn: &mut Connection<S>, id: i64) -> Result<u64, StoreError>
+    ensures ran { IsClean S.Store conn.new → Counts S.Store id conn.old conn.new result }
+    ensures clean { WasClean S.Store conn.old conn.new }
+{
+    let row = conn.query_row(COUNT, params![id])?;
+    Ok(row.get(0)?)
 }
 
 /// Runs a statement that begins or ends a transaction.
@@ -185,6 +190,9 @@ pub fn count<S: Alter>(conn: &mut Connection<S>, id: i64) -> Result<u64, StoreEr
 ///
 /// Returns [`StoreError::Database`] if the database fails, and [`StoreError::OutOfMemory`] if
 /// memory runs out.
-pub fn run<S: Alter>(conn: &mut Connection<S>, sql: &str) -> Result<(), StoreError> {
+pub fn run<S: Alter>(conn: &mut Connection<S>, sql: &str) -> Result<(), StoreError>
+    ensures ran { IsClean S.Store conn.new → RunsText S.Store sql.now conn.old conn.new result }
+    ensures clean { WasClean S.Store conn.old conn.new }
+{
     Ok(conn.execute_batch(sql)?)
 }

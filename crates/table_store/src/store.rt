@@ -5,8 +5,8 @@ ghost use Rattle.table_keys.specs.Conditions.{holds};
 ghost use Rattle.table_store.specs.Depth.{Checked, IsKept};
 ghost use Rattle.table_store.specs.Content.{FailsToChange, FoundHasKey, HadKeyOf, HasKey, HasThisKey, KeepsKey, NeedsKey, OfKey, schema_of, table_of};
 ghost use Rattle.table_store.specs.Found.{IsFound};
-ghost use Rattle.table_store.specs.Calls.{BeforeOf, DeletesIf, GetsAt, KeyOf, PutsAt, PutsChanged, PutsIf, Ran, Updates};
-ghost use Rattle.table_store.specs.Runs.{WasClean};
+ghost use Rattle.table_store.specs.Calls.{BeforeOf, CountsAll, DeletesIf, GetsAt, IsStart, KeyOf, PutsAt, PutsChanged, PutsEach, PutsIf, PutsOver, Ran, Scans, Updates, WritesAll};
+ghost use Rattle.table_store.specs.Runs.{WasClean, listed};
 ghost use Rattle.table_keys.specs.declared.condition.Condition.{Condition};
 
 use crate::StoreError;
@@ -14,7 +14,7 @@ use crate::depth::is_kept;
 use crate::rows::{self, Definition, make_tables};
 use dynamo_value::Item;
 use sqlite::{Alter, Connection};
-use std::alloc::Global;
+use std::alloc::{AllocError, Global};
 use table_keys::{Bounds, Condition, Key, KeyBytes, KeySchema, Query, TableError, bytes_of};
 
 /// A DynamoDB table in a SQLite database: items by their keys, in the order of the keys.
@@ -149,6 +149,7 @@ impl<S: Alter + Drop> TableStore<S> {
     /// memory runs out.
     pub fn count(&mut self) -> Result<u64, StoreError>
         ensures schema { schema_of self.new ≡ schema_of self.old }
+        ensures ran { Ran S.Store (CountsAll S.Store) self.old self.new result }
     {
         rows::count(&mut self.conn, self.table.id)
     }
@@ -387,12 +388,14 @@ impl<S: Alter + Drop> TableStore<S> {
     /// Returns [`StoreError::Database`] if the database fails, and [`StoreError::OutOfMemory`] if
     /// memory runs out.
     pub fn scan(&mut self, limit: usize, start_after: Option<&Key>) -> Result<Vec<Item>, StoreError>
+        ensures limit { IfOk result (λ items. length items.items ≤ limit) }
         ensures schema { schema_of self.new ≡ schema_of self.old }
+        ensures table { table_of self.new ≡ table_of self.old }
+        ensures ran { Ran S.Store (Scans S.Store limit start_after.entry)
+            self.old self.new (listed result) }
+        ensures clean { WasClean S.Store self.old.conn self.new.conn }
     {
-        let start = match start_after {
-            Some(key) => KeyBytes::of(self.alloc, key)?,
-            None => KeyBytes::before_all(self.alloc),
-        };
+        let start = start_of(self.alloc, start_after)?;
         rows::page(self.alloc, &mut self.conn, self.table.id, &start, limit)
     }
 
@@ -408,6 +411,7 @@ impl<S: Alter + Drop> TableStore<S> {
         ensures keys { OnOk result (All (HasKey (schema_of self.old)) items.now) }
         ensures kept { OnOk result (All IsKept items.now) }
         ensures schema { schema_of self.new ≡ schema_of self.old }
+        ensures ran { Ran S.Store (WritesAll S.Store items.now) self.old self.new result }
     {
         rows::run(&mut self.conn, "BEGIN")?;
         match self.put_each(items) {
@@ -423,6 +427,7 @@ impl<S: Alter + Drop> TableStore<S> {
     fn put_at(&mut self, key: &KeyBytes, item: &Item) -> Result<(), StoreError>
         ensures kept { OnOk result (IsKept item.now) }
         ensures schema { schema_of self.new ≡ schema_of self.old }
+        ensures table { table_of self.new ≡ table_of self.old }
         ensures ran { Ran S.Store (PutsAt S.Store key.now item.now) self.old self.new result }
         ensures clean { WasClean S.Store self.old.conn self.new.conn }
     {
@@ -432,16 +437,42 @@ impl<S: Alter + Drop> TableStore<S> {
         rows::put(self.alloc, &mut self.conn, self.table.id, key, item)
     }
 
+    // Puts each of these items under its key, up to the first error.
     fn put_each(&mut self, items: &[Item]) -> Result<(), StoreError>
         ensures keys { OnOk result (All (HasKey (schema_of self.old)) items.now) }
         ensures kept { OnOk result (All IsKept items.now) }
         ensures schema { schema_of self.new ≡ schema_of self.old }
+        ensures table { table_of self.new ≡ table_of self.old }
+        ensures ran { Ran S.Store (PutsEach S.Store items.now) self.old self.new result }
+        ensures clean { WasClean S.Store self.old.conn self.new.conn }
     {
         for item in items {
-            let key = self.table.schema.key_of(item)?;
-            let key = KeyBytes::of(self.alloc, &key)?;
-            self.put_at(&key, item)?;
+            self.put_over(item)?;
         }
         Ok(())
+    }
+
+    // Puts an item under its key. What was there isn't read.
+    fn put_over(&mut self, item: &Item) -> Result<(), StoreError>
+        ensures key { OnOk result (HasKey (schema_of self.old) item.now) }
+        ensures kept { OnOk result (IsKept item.now) }
+        ensures schema { schema_of self.new ≡ schema_of self.old }
+        ensures table { table_of self.new ≡ table_of self.old }
+        ensures ran { Ran S.Store (PutsOver S.Store item.now) self.old self.new result }
+        ensures clean { WasClean S.Store self.old.conn self.new.conn }
+    {
+        let key = self.table.schema.key_of(item)?;
+        let bytes = KeyBytes::of(self.alloc, &key)?;
+        self.put_at(&bytes, item)
+    }
+}
+
+// The bytes of the key after which a page starts, or bytes that are less than those of each key.
+fn start_of(alloc: Global, start_after: Option<&Key>) -> Result<KeyBytes, AllocError>
+    ensures { IfOk result (IsStart start_after.entry) }
+{
+    match start_after {
+        Some(key) => KeyBytes::of(alloc, key),
+        None => Ok(KeyBytes::before_all(alloc)),
     }
 }

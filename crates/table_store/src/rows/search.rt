@@ -1,11 +1,16 @@
-ghost use Rattle.std.specs.Prelude.{◌≤◌, All, IfOk, length};
+ghost use Rattle.std.specs.Prelude.{◌≡◌, ◌≤◌, All, IfOk, length};
+ghost use Rattle.std.specs.Result.{result_map_both};
+ghost use Rattle.sqlite.specs.Values.{bound};
+ghost use Rattle.table_store.specs.Calls.{Pages};
 ghost use Rattle.table_store.specs.Found.{IsFound};
+ghost use Rattle.table_store.specs.Runs.{AreRead, Finds, IsClean, WasClean, listed};
+ghost use Rattle.table_store.specs.Statements.{following_of, following_text, limit_of, rest_of, rest_text};
 
 use crate::StoreError;
 use crate::rows::{Definition, read_item};
 use dynamo_value::Item;
 use sqlite::types::ValueRef;
-use sqlite::{Alter, Connection, params};
+use sqlite::{Alter, Connection, Row, params};
 use std::alloc::Global;
 use table_keys::{Bounds, KeyBytes, Query};
 
@@ -83,32 +88,88 @@ pub fn page<S: Alter>(
     id: i64,
     start: &KeyBytes,
     limit: usize,
-) -> Result<Vec<Item>, StoreError> {
-    let params = params![id, &start.partition, &start.sort, count_of(limit)];
-    let mut items = items_of(alloc, conn, REST, params)?;
+) -> Result<Vec<Item>, StoreError>
+    ensures limit { IfOk result (λ items. length items.items ≤ limit) }
+    ensures ran { IsClean S.Store conn.new →
+        Pages S.Store id start.now limit conn.old conn.new (listed result) }
+    ensures clean { WasClean S.Store conn.old conn.new }
+{
+    let mut items = rest(alloc, conn, id, start, limit)?;
     let left = limit.saturating_sub(items.len());
-    if left > 0 {
-        let params = params![id, &start.partition, count_of(left)];
-        items.append(&mut items_of(alloc, conn, FOLLOWING, params)?)?;
+    if left == 0 {
+        return Ok(items);
     }
+    let mut more = following(alloc, conn, id, start, left)?;
+    items.append(&mut more)?;
     Ok(items)
 }
 
-// The items of the rows that a statement finds.
+// The items behind a key in its partition.
+fn rest<S: Alter>(
+    alloc: Global,
+    conn: &mut Connection<S>,
+    id: i64,
+    start: &KeyBytes,
+    limit: usize,
+) -> Result<Vec<Item>, StoreError>
+    ensures limit { IfOk result (λ items. length items.items ≤ limit) }
+    ensures ran { IsClean S.Store conn.new →
+        Finds S.Store rest_text (rest_of id start.now limit) limit conn.old conn.new (listed result) }
+    ensures clean { WasClean S.Store conn.old conn.new }
+{
+    let params = params![id, &start.partition, &start.sort, count_of(limit)];
+    items_of(alloc, conn, REST, params, limit)
+}
+
+// The items of the partitions that follow that of a key.
+fn following<S: Alter>(
+    alloc: Global,
+    conn: &mut Connection<S>,
+    id: i64,
+    start: &KeyBytes,
+    limit: usize,
+) -> Result<Vec<Item>, StoreError>
+    ensures limit { IfOk result (λ items. length items.items ≤ limit) }
+    ensures ran { IsClean S.Store conn.new →
+        Finds S.Store following_text (following_of id start.now limit) limit conn.old conn.new (listed result) }
+    ensures clean { WasClean S.Store conn.old conn.new }
+{
+    let params = params![id, &start.partition, count_of(limit)];
+    items_of(alloc, conn, FOLLOWING, params, limit)
+}
+
+// The items of the rows that a statement finds, and of no more than the limit.
 fn items_of<S: Alter>(
     alloc: Global,
     conn: &mut Connection<S>,
     sql: &str,
     params: &[ValueRef<'_>],
-) -> Result<Vec<Item>, StoreError> {
+    limit: usize,
+) -> Result<Vec<Item>, StoreError>
+    ensures limit { IfOk result (λ items. length items.items ≤ limit) }
+    ensures ran { IsClean S.Store conn.new →
+        Finds S.Store sql.now (bound params.now) limit conn.old conn.new (listed result) }
+    ensures clean { WasClean S.Store conn.old conn.new }
+{
+    let mut rows = conn.query_all(sql, params)?;
+    rows.truncate(limit);
+    read_items(alloc, &rows)
+}
+
+// The items of these rows.
+fn read_items(alloc: Global, rows: &[Row]) -> Result<Vec<Item>, StoreError>
+    ensures { AreRead rows.now (listed result) }
+{
     let mut items = Vec::new(alloc);
-    for row in conn.query_all(sql, params)?.iter() {
+    for row in rows {
         items.push(read_item(alloc, row)?)?;
     }
     Ok(items)
 }
 
 // A limit as SQLite takes it.
-fn count_of(limit: usize) -> i64 {
+fn count_of(limit: usize) -> i64
+    ensures { result ≡ limit_of limit }
+{
     i64::try_from(limit).unwrap_or(i64::MAX)
 }

@@ -1,0 +1,16 @@
+use Rattle.std.proofs.Common.{inl, inr, refl, rules, to_z-of_z, w64, SFits}
+use Rattle.table_store.specs.Calls.{Scans}
+use Rattle.table_store.specs.declared.error.StoreError.{StoreError}
+use Rattle.table_store.proofs.Called.{is_list_err}
+use Rattle.table_store.proofs.store.TableStore.scan.Goals as goal
+
+pub returns-in_err-start-clause-ran : goal.returns-in_err-start-clause-ran
+unfolding Scans
+returns-in_err-start-clause-ran g c clean =
+    inr (is_list_err c.from_residual.result StoreError.OutOfMemory c.from_residual.ensures.1, refl)
+
+pub returns-clause-ran : goal.returns-clause-ran
+unfolding Scans
+returns-clause-ran g c clean =
+    let fits : SFits w64 c.args.self.now.table.id = search rules in
+    inl (c.in_ok-start.start, c.in_ok-start.ensures, rw (to_z-of_z fits) at (c.page.ensures.ran clean))
