@@ -1,2 +1,2 @@
 mod Changed
-mod Zipped
+mod Each

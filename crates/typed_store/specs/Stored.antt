@@ -17,14 +17,18 @@ use Rattle.table_keys.specs.declared.query.Query.{Query}
 use Rattle.table_store.specs.Errors.{of_table}
 use Rattle.table_store.specs.Content as store
 use Rattle.table_store.specs.Found.{IsFound}
+use Rattle.table_store.specs.declared.rows.definition.Definition.{Definition}
 use Rattle.table_store.specs.declared.store.TableStore.{TableStore}
 use Rattle.typed_table.specs.Stored.{IsKeyOf, IsUnwritten}
 use Rattle.typed_store.specs.declared.error.TypedStoreError.{TypedStoreError}
 use Rattle.typed_store.specs.declared.store.TypedStore.{TypedStore}
 
--- the table of the items, and what its keys are
+-- the table of the items, its number and what its keys are
 abbrev pub store_of : {T S : Type 0} → TypedStore T S → TableStore S
 store_of t = t.store
+
+abbrev pub table_of : {T S : Type 0} → TypedStore T S → Definition
+table_of t = store.table_of (store_of t)
 
 abbrev pub schema_of : {T S : Type 0} → TypedStore T S → KeySchema
 schema_of t = store.schema_of (store_of t)
@@ -36,6 +40,11 @@ ReadsAs Reads item value = Reads item (Ok value)
 -- the value is what an item reads as
 abbrev pub WasRead : {T : Type 0} → (Item → Result T Fault → Type 0) → T → Type 0
 WasRead Reads value = (item : Item) × ReadsAs Reads item value
+
+-- the value is what an item of this key reads as
+abbrev pub WasReadAt : {T : Type 0} → (Item → Result T Fault → Type 0) → KeySchema → Key → T → Type 0
+WasReadAt Reads schema key value =
+    (item : Item) × store.HasThisKey schema key item × ReadsAs Reads item value
 
 -- each value is what an item reads as
 abbrev pub WereRead : {T : Type 0} → (Item → Result T Fault → Type 0) → List T → Type 0

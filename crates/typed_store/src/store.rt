@@ -1,10 +1,14 @@
-ghost use Rattle.std.specs.Prelude.{◌≡◌, IfErr, IfOk, IfSome, OnOk, true};
+ghost use Rattle.std.specs.Prelude.{◌≡◌, ◌==◌, IfErr, IfOk, IfSome, OnOk, true};
 ghost use Rattle.std.specs.List.{AllZip};
 ghost use Rattle.table_keys.specs.KeyOf.{words_of};
 ghost use Rattle.table_keys.specs.Conditions.{holds};
 ghost use Rattle.typed_table.specs.Stored.{IsKeyOf};
 ghost use Rattle.typed_store.specs.Stored.{FailsToChange, FailsToKey, KeepsKey, NeedsKey, ReadsAs, SaysKeyOf};
-ghost use Rattle.typed_store.specs.Stored.{WasRead, WereFound, WereRead, schema_of, store_of};
+ghost use Rattle.typed_store.specs.Stored.{WasReadAt, WereFound, WereRead, schema_of, store_of, table_of};
+ghost use Rattle.typed_store.specs.Calls.{CountsValues, DeletesValue, GetsValue, GotAgain, Located, PutsValue, PutsValueIf, ReadsEach, ScansValues, UpdatesValue};
+ghost use Rattle.table_store.specs.Calls.{GetsAt, Ran, Scans};
+ghost use Rattle.table_store.specs.Runs.{IsClean, WasClean, listed};
+ghost use Rattle.table_keys.specs.declared.condition.Condition.{Condition};
 
 use crate::TypedStoreError;
 use crate::change::{Failed, changed};
@@ -102,6 +106,8 @@ impl<T: AsItem + Keyed, S: Alter + Drop> TypedStore<T, S> {
     /// Returns [`TypedStoreError::Store`] with the error of [`TableStore::count`].
     pub fn len(&mut self) -> Result<u64, TypedStoreError>
         ensures schema { schema_of self.new ≡ schema_of self.old }
+        ensures ran { Ran S.Store (CountsValues S.Store (λ count. count))
+            (store_of self.old) (store_of self.new) result }
     {
         Ok(self.store.count()?)
     }
@@ -113,6 +119,8 @@ impl<T: AsItem + Keyed, S: Alter + Drop> TypedStore<T, S> {
     /// Returns [`TypedStoreError::Store`] with the error of [`TableStore::count`].
     pub fn is_empty(&mut self) -> Result<bool, TypedStoreError>
         ensures schema { schema_of self.new ≡ schema_of self.old }
+        ensures ran { Ran S.Store (CountsValues S.Store (λ count. count == 0))
+            (store_of self.old) (store_of self.new) result }
     {
         Ok(self.store.count()? == 0)
     }
@@ -160,6 +168,8 @@ impl<T: AsItem + Keyed, S: Alter + Drop> TypedStore<T, S> {
         ensures key { IfOk result (IsKeyOf T.written (schema_of self.old) value.now) }
         ensures needs { NeedsKey T.written T.unwritten (schema_of self.old) value.now result }
         ensures schema { schema_of self.new ≡ schema_of self.old }
+        ensures ran { Ran S.Store (PutsValue S.Store T.written T.unwritten value.now)
+            (store_of self.old) (store_of self.new) result }
     {
         let item = value.to_item(self.alloc)?;
         Ok(self.store.put_returning_key(&item)?)
@@ -181,6 +191,8 @@ impl<T: AsItem + Keyed, S: Alter + Drop> TypedStore<T, S> {
         ensures key { IfOk result (λ done. IsKeyOf T.written (schema_of self.old) value.now done.0) }
         ensures needs { NeedsKey T.written T.unwritten (schema_of self.old) value.now result }
         ensures schema { schema_of self.new ≡ schema_of self.old }
+        ensures ran { Ran S.Store (PutsValueIf S.Store T.written T.unwritten condition value.now)
+            (store_of self.old) (store_of self.new) result }
     {
         let item = value.to_item(self.alloc)?;
         let (key, before) = self.store.put_if_returning_key(condition, &item)?;
@@ -195,8 +207,13 @@ impl<T: AsItem + Keyed, S: Alter + Drop> TypedStore<T, S> {
     ///
     /// Returns [`TypedStoreError::Store`] with the error of [`TableStore::get`].
     pub fn get(&mut self, key: &Key) -> Result<Option<T>, TypedStoreError>
-        ensures read { IfOk result (λ found. IfSome found (WasRead T.reads_item)) }
+        ensures read { IfOk result (λ found. IfSome found
+            (WasReadAt T.reads_item (schema_of self.old) key.now)) }
         ensures schema { schema_of self.new ≡ schema_of self.old }
+        ensures table { table_of self.new ≡ table_of self.old }
+        ensures ran { Ran S.Store (GetsValue S.Store T.reads_item key.now)
+            (store_of self.old) (store_of self.new) result }
+        ensures clean { WasClean S.Store (store_of self.old).conn (store_of self.new).conn }
     {
         match self.store.get(key)? {
             Some(item) => Ok(Some(T::from_item(self.alloc, item)?)),
@@ -211,16 +228,17 @@ impl<T: AsItem + Keyed, S: Alter + Drop> TypedStore<T, S> {
     ///
     /// Returns the error of [`get`](Self::get), with the place in the item of an error of reading it.
     pub fn get_located(&mut self, key: &Key) -> Result<Option<T>, LocatedError<TypedStoreError>>
-        ensures read { IfOk result (λ found. IfSome found (WasRead T.reads_item)) }
+        ensures read { IfOk result (λ found. IfSome found
+            (WasReadAt T.reads_item (schema_of self.old) key.now)) }
         ensures schema { schema_of self.new ≡ schema_of self.old }
+        ensures ran { Ran S.Store
+            (Located (GetsValue S.Store T.reads_item key.now) (GetsAt S.Store key.now))
+            (store_of self.old) (store_of self.new) result }
     {
         match self.get(key) {
             Ok(found) => Ok(found),
             Err(error) => {
-                let place = match &error {
-                    TypedStoreError::Value(fault) => self.place_at(key, fault),
-                    TypedStoreError::Store(_) => Place::new(),
-                };
+                let place = self.place_at(key, &error);
                 Err(LocatedError { place, error })
             }
         }
@@ -233,6 +251,8 @@ impl<T: AsItem + Keyed, S: Alter + Drop> TypedStore<T, S> {
     /// Returns [`TypedStoreError::Store`] with the error of [`TableStore::delete`].
     pub fn delete(&mut self, key: &Key) -> Result<bool, TypedStoreError>
         ensures schema { schema_of self.new ≡ schema_of self.old }
+        ensures ran { Ran S.Store (DeletesValue S.Store Condition.Always key.now)
+            (store_of self.old) (store_of self.new) result }
     {
         Ok(self.store.delete(key)?.is_some())
     }
@@ -247,6 +267,8 @@ impl<T: AsItem + Keyed, S: Alter + Drop> TypedStore<T, S> {
     pub fn delete_if(&mut self, condition: Condition, key: &Key) -> Result<bool, TypedStoreError>
         ensures condition { IfOk result (λ there. holds condition there ≡ true) }
         ensures schema { schema_of self.new ≡ schema_of self.old }
+        ensures ran { Ran S.Store (DeletesValue S.Store condition key.now)
+            (store_of self.old) (store_of self.new) result }
     {
         Ok(self.store.delete_if(condition, key)?.is_some())
     }
@@ -275,6 +297,9 @@ impl<T: AsItem + Keyed, S: Alter + Drop> TypedStore<T, S> {
         ensures changes { OnOk result (KeepsKey T.written T.reads_item (F.post change) (schema_of self.old) key.now) }
         ensures err { IfErr result (FailsToChange T.reads_item (F.post change) E.from_gives) }
         ensures schema { schema_of self.new ≡ schema_of self.old }
+        ensures ran { Ran S.Store
+            (UpdatesValue S.Store T.written T.unwritten T.reads_item (F.post change) E.from_gives key.now)
+            (store_of self.old) (store_of self.new) result }
     {
         let alloc = self.alloc;
         match self
@@ -344,6 +369,10 @@ impl<T: AsItem + Keyed, S: Alter + Drop> TypedStore<T, S> {
     ) -> Result<Vec<T>, TypedStoreError>
         ensures read { IfOk result (λ values. WereRead T.reads_item values.items) }
         ensures schema { schema_of self.new ≡ schema_of self.old }
+        ensures table { table_of self.new ≡ table_of self.old }
+        ensures ran { Ran S.Store (ScansValues S.Store T.reads_item limit start_after.entry)
+            (store_of self.old) (store_of self.new) (listed result) }
+        ensures clean { WasClean S.Store (store_of self.old).conn (store_of self.new).conn }
     {
         let found = self.store.scan(limit, start_after)?;
         self.values_from(found)
@@ -362,14 +391,15 @@ impl<T: AsItem + Keyed, S: Alter + Drop> TypedStore<T, S> {
     ) -> Result<Vec<T>, LocatedError<TypedStoreError>>
         ensures read { IfOk result (λ values. WereRead T.reads_item values.items) }
         ensures schema { schema_of self.new ≡ schema_of self.old }
+        ensures ran { Ran S.Store
+            (Located (ScansValues S.Store T.reads_item limit start_after.entry)
+            (Scans S.Store limit start_after.entry))
+            (store_of self.old) (store_of self.new) (listed result) }
     {
         match self.scan(limit, start_after) {
             Ok(values) => Ok(values),
             Err(error) => {
-                let place = match &error {
-                    TypedStoreError::Value(fault) => self.place_in_page(limit, start_after, fault),
-                    TypedStoreError::Store(_) => Place::new(),
-                };
+                let place = self.place_in_page(limit, start_after, &error);
                 Err(LocatedError { place, error })
             }
         }
@@ -383,17 +413,27 @@ impl<T: AsItem + Keyed, S: Alter + Drop> TypedStore<T, S> {
     pub fn scan_all(&mut self) -> Result<Vec<T>, TypedStoreError>
         ensures read { IfOk result (λ values. WereRead T.reads_item values.items) }
         ensures schema { schema_of self.new ≡ schema_of self.old }
+        ensures ran { Ran S.Store (ScansValues S.Store T.reads_item usize.MAX None)
+            (store_of self.old) (store_of self.new) (listed result) }
     {
         self.scan(usize::MAX, None)
     }
 
-    // The place in the item under a key where reading it returns this error.
-    fn place_at(&mut self, key: &Key, error: &Error) -> Place
+    // The place in the item under a key where reading it returns this error. An error of the table
+    // has none.
+    fn place_at(&mut self, key: &Key, error: &TypedStoreError) -> Place
         ensures schema { schema_of self.new ≡ schema_of self.old }
+        ensures ran { IsClean S.Store (store_of self.new).conn →
+            GotAgain (GetsAt S.Store key.now) error.now (table_of self.old)
+            (store_of self.old).conn (store_of self.new).conn }
+        ensures clean { WasClean S.Store (store_of self.old).conn (store_of self.new).conn }
     {
+        let TypedStoreError::Value(fault) = error else {
+            return Place::new();
+        };
         match self.store.get(key) {
             Ok(Some(item)) => {
-                place_of_error::<T>(self.alloc, &item, error).unwrap_or(Place::new())
+                place_of_error::<T>(self.alloc, &item, fault).unwrap_or(Place::new())
             }
             _ => Place::new(),
         }
@@ -410,18 +450,31 @@ impl<T: AsItem + Keyed, S: Alter + Drop> TypedStore<T, S> {
     }
 
     // The same among the items of a page of all.
-    fn place_in_page(&mut self, limit: usize, start_after: Option<&Key>, error: &Error) -> Place
+    fn place_in_page(
+        &mut self,
+        limit: usize,
+        start_after: Option<&Key>,
+        error: &TypedStoreError,
+    ) -> Place
         ensures schema { schema_of self.new ≡ schema_of self.old }
+        ensures ran { IsClean S.Store (store_of self.new).conn →
+            GotAgain (Scans S.Store limit start_after.entry) error.now (table_of self.old)
+            (store_of self.old).conn (store_of self.new).conn }
+        ensures clean { WasClean S.Store (store_of self.old).conn (store_of self.new).conn }
     {
+        let TypedStoreError::Value(fault) = error else {
+            return Place::new();
+        };
         match self.store.scan(limit, start_after) {
-            Ok(found) => place_among::<T>(self.alloc, found.as_slice(), error),
+            Ok(found) => place_among::<T>(self.alloc, found.as_slice(), fault),
             Err(_) => Place::new(),
         }
     }
 
     // Reads a value from each of these items, whose parts it moves.
     fn values_from(&self, found: Vec<Item>) -> Result<Vec<T>, TypedStoreError>
-        ensures { IfOk result (λ values. AllZip (ReadsAs T.reads_item) found.items values.items) }
+        ensures read { IfOk result (λ values. AllZip (ReadsAs T.reads_item) found.items values.items) }
+        ensures exact { ReadsEach T.reads_item found.items (listed result) }
     {
         let mut values = Vec::with_capacity(self.alloc, found.len())?;
         for item in found {

@@ -1,5 +1,6 @@
-use Rattle.std.proofs.Common.{inl, inr, rules}
-use Rattle.typed_store.proofs.Changed.{fails, keeps}
+use Rattle.std.proofs.Common.{Err, Ok, inl, inr, rules}
+use Rattle.typed_store.proofs.Changed.{fails, keeps, updates}
+use Rattle.typed_store.specs.Calls.{ChangesItem}
 use Rattle.typed_store.specs.Stored.{schema_of}
 use Rattle.typed_store.specs.declared.error.TypedStoreError.{TypedStoreError}
 use Rattle.typed_store.proofs.store.TypedStore.update.Goals as goal
@@ -16,3 +17,21 @@ returns-in-Err-clause-err g c = elim c.in-Err.ensures.err [
       g.E.From.from_gives own.0 c.in-Err.field-0.0 (search (rules, own.1))
   | inr given ↦ inr (TypedStoreError.Store given.0, given.1)
 ]
+
+pub returns-in-Ok-clause-ran : goal.returns-in-Ok-clause-ran
+returns-in-Ok-clause-ran g c clean =
+    updates g.S.Store _ (λ error e. g.E.From.from_gives (TypedStoreError.Store error) e) _
+    (ChangesItem g.S.Store g.T.AsItem.written g.T.AsItem.unwritten g.T.AsItem.reads_item
+    (goal.F-post g c.args.change) g.E.From.from_gives)
+    (λ error e given. given) (λ item after how. search (rules, how)) (λ item e how. search (rules, how))
+    c.args.key.now c.args.self.now.store.table c.args.self.now.store.conn c.update.new.self.conn
+    (Ok tt) (c.in-Ok.ensures.ran clean)
+
+pub returns-in-Err-clause-ran : goal.returns-in-Err-clause-ran
+returns-in-Err-clause-ran g c clean =
+    updates g.S.Store _ (λ error e. g.E.From.from_gives (TypedStoreError.Store error) e) _
+    (ChangesItem g.S.Store g.T.AsItem.written g.T.AsItem.unwritten g.T.AsItem.reads_item
+    (goal.F-post g c.args.change) g.E.From.from_gives)
+    (λ error e given. given) (λ item after how. search (rules, how)) (λ item e how. search (rules, how))
+    c.args.key.now c.args.self.now.store.table c.args.self.now.store.conn c.update.new.self.conn
+    (Err c.in-Err.field-0) (c.in-Err.ensures.ran clean)
