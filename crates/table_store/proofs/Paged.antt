@@ -1,5 +1,5 @@
 -- A page of two statements: the rest of a partition, and then the partitions that follow.
-use Rattle.std.proofs.Common.{◌≡◌, ◌≢◌, ◌⊎◌, ◌∙◌, ◌++◌, ◌-◌, ℕ, ℤ, List, length, Result, Ok, Err, MatchResult, ap, refl, subst, sym}
+use Rattle.std.proofs.Common.{◌≡◌, ◌≢◌, ◌⊎◌, ◌∙◌, ◌++◌, ◌-◌, ℕ, ℤ, List, length, Result, Ok, Err, MatchResult, refl, subst, sym}
 use Rattle.std.proofs.lemmas.Bool.{eq-eqb, ne_eqb}
 use Rattle.sqlite.specs.Held.{Held}
 use Rattle.sqlite.specs.Store.{Ghosts}

@@ -1,4 +1,4 @@
-use Rattle.std.proofs.Common.{◌≡◌, ◌∙◌, ◌-◌, Err, Ok, ap, inl, inr, length, rules, to_z-of_z}
+use Rattle.std.proofs.Common.{◌≡◌, ◌-◌, Err, Ok, inl, inr, length, rules, to_z-of_z}
 use Rattle.table_store.specs.declared.error.StoreError.{StoreError}
 use Rattle.table_store.proofs.Paged.{fails, full, goes_on}
 use Rattle.table_store.proofs.Called.{is_list_err}

@@ -1,4 +1,4 @@
-use Rattle.std.proofs.Common.{◌∙◌, Err, Ok, ap, refl, rules, subst}
+use Rattle.std.proofs.Common.{◌∙◌, Err, Ok, refl, rules, subst}
 use Rattle.table_store.specs.Calls.{PutsOver}
 use Rattle.table_store.specs.Content.{HasKey, schema_of, table_of}
 use Rattle.table_store.proofs.Each.{ends, one_more, stops}
