@@ -6,17 +6,17 @@ use Rattle.table_keys.specs.ErrorText.{error_text}
 use Rattle.table_keys.specs.declared.error.TableError.{TableError}
 use Rattle.table_store.specs.declared.error.StoreError.{StoreError}
 
--- want of memory is the same fault wherever it comes from
+-- out of memory is the same fault wherever it comes from
 abbrev pub of_table : TableError → StoreError
 of_table TableError.OutOfMemory = StoreError.OutOfMemory
 of_table error = StoreError.Key error
 
--- an item in a row without its key can't be read; want of memory remains
+-- an item in a row without its key can't be read; out of memory stays what it is
 abbrev pub of_foreign : TableError → StoreError
 of_foreign TableError.OutOfMemory = StoreError.OutOfMemory
 of_foreign error = StoreError.Unreadable
 
--- the database's own want of memory as well
+-- the database's own out of memory as well
 abbrev pub of_database : Error → StoreError
 of_database (Error.SqliteFailure ErrorCode.OutOfMemory) = StoreError.OutOfMemory
 of_database error = StoreError.Database error
