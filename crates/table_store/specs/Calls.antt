@@ -1,6 +1,7 @@
 -- What each call runs: one statement after the other, up to the first error.
 use Rattle.std.specs.Prelude.{◌≡◌, ◌⊎◌, ⊤, ◌++◌, ◌-◌, ℕ, ℤ, List, [], ◌∷◌, Option, Some, None, Result, Ok, Err, IsErrAnd, MatchBool, MatchResult, is_some, length, ◌==◌}
 use Rattle.std.specs.Borrow.{Bor}
+use Rattle.std.specs.Option.{option_copied}
 use Rattle.std.specs.Ordering.{is_ne}
 use Rattle.std.specs.declared.cmp.Ordering.TheVariants.{Less}
 use Rattle.dynamo_value.specs.View.{text_cmp}
@@ -18,6 +19,7 @@ use Rattle.table_keys.specs.declared.key.Key.{Key}
 use Rattle.table_keys.specs.declared.schema.KeySchema.{KeySchema}
 use Rattle.table_store.specs.Depth.{is_kept}
 use Rattle.table_store.specs.Errors.{of_table}
+use Rattle.table_store.specs.Order.{IfBehind}
 use Rattle.table_store.specs.Runs.{Counts, Deletes, Finds, GetsOwn, IsClean, Puts, RunsText, Stops}
 use Rattle.table_store.specs.Statements.{begin_text, commit_text, following_of, following_text, rest_of, rest_text, rollback_text}
 use Rattle.table_store.specs.declared.error.StoreError.{StoreError}
@@ -122,10 +124,14 @@ module _ {S : Type 0} (g : Ghosts S) where
       let left = limit - length items in MatchBool (left == 0) (Returns items old new r)
       (After (Finds g following_text (following_of id start left) left) (Joins items) old new r))
 
+  -- the items, if the first comes behind the start, and each other one behind the one before it
+  abbrev pub InOrder : Option (Bor Key) → KeySchema → List Item → Step (List Item)
+  InOrder after schema items old new r = IfBehind schema (option_copied after) items items r × (new ≡ old)
+
   -- so many items after a key, or from the first on, unless memory runs out for the bytes of the key
   unfoldable pub Scans : ℕ → Option (Bor Key) → Definition → Step (List Item)
   Scans limit after table old new r =
-      ((start : KeyBytes) × IsStart after start × Pages table.id start limit old new r)
+      ((start : KeyBytes) × IsStart after start × After (Pages table.id start limit) (InOrder after table.schema) old new r)
       ⊎ Stops g StoreError.OutOfMemory old new r
 
   -- the item is put under its key, whatever is there

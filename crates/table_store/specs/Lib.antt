@@ -3,5 +3,6 @@ pub mod Content
 pub mod Depth
 pub mod Errors
 pub mod Found
+pub mod Order
 pub mod Runs
 pub mod Statements

@@ -8,18 +8,21 @@ ghost use Rattle.table_store.specs.Content.{FoundHasKey, HasThisKey};
 ghost use Rattle.table_store.specs.Runs.{Counts, Deletes, Gets, GetsOwn, IfOwn, IsClean, IsItemOf, IsUnread, Puts, RunsText, WasClean};
 
 mod definition;
+mod order;
 mod search;
 
 use crate::StoreError;
 pub use definition::{Definition, make_tables};
 use dynamo_json::{DynamoJson, TextError};
 use dynamo_value::{ErrorImpl, Item};
+pub use order::in_order;
+use order::own_key;
 pub use search::{find, page};
 use sqlite::types::ValueRef;
 use sqlite::{Alter, Connection, Row, params};
 use std::alloc::Global;
 use std::str;
-use table_keys::{Key, KeyBytes, KeySchema, TableError};
+use table_keys::{Key, KeyBytes, KeySchema};
 
 const GET: &str =
     "SELECT item FROM dynamo_item WHERE table_id = ?1 AND partition_key = ?2 AND sort_key = ?3";
@@ -95,12 +98,7 @@ fn of_key(schema: &KeySchema, key: &Key, item: Item) -> Result<Item, StoreError>
     ensures own { IfOk result (λ own. (own ≡ item) × HasThisKey schema.now key.now own) }
     ensures exact { IfOwn schema.now key.now item item result }
 {
-    let own_key = match schema.key_of(&item) {
-        Ok(own_key) => own_key,
-        Err(TableError::OutOfMemory) => return Err(StoreError::OutOfMemory),
-        Err(_) => return Err(StoreError::Unreadable),
-    };
-    if own_key.cmp(key).is_ne() {
+    if own_key(schema, &item)?.cmp(key).is_ne() {
         return Err(StoreError::Unreadable);
     }
     Ok(item)

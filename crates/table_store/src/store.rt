@@ -1,10 +1,12 @@
 ghost use Rattle.std.specs.Prelude.{◌≡◌, ◌≤◌, All, IfErr, IfOk, Ok, OnOk, is_some, length, true};
 ghost use Rattle.std.specs.Fn.{FnOnceReturnsAt};
+ghost use Rattle.std.specs.Option.{option_copied};
 ghost use Rattle.table_keys.specs.KeyOf.{ReadsKey, words_of};
 ghost use Rattle.table_keys.specs.Conditions.{holds};
 ghost use Rattle.table_store.specs.Depth.{Checked, IsKept};
 ghost use Rattle.table_store.specs.Content.{FailsToChange, FoundHasKey, HadKeyOf, HasKey, HasThisKey, KeepsKey, NeedsKey, OfKey, schema_of, table_of};
 ghost use Rattle.table_store.specs.Found.{IsFound};
+ghost use Rattle.table_store.specs.Order.{AreBehind};
 ghost use Rattle.table_store.specs.Calls.{BeforeOf, CountsAll, DeletesIf, GetsAt, IsStart, KeyOf, PutsAt, PutsChanged, PutsEach, PutsIf, PutsOver, Ran, Scans, Updates, WritesAll};
 ghost use Rattle.table_store.specs.Runs.{WasClean, listed};
 ghost use Rattle.table_keys.specs.declared.condition.Condition.{Condition};
@@ -378,17 +380,20 @@ impl<S: Alter + Drop> TableStore<S> {
     }
 
     /// Returns a page of all items: those after `start_after` in the order of their keys, at most
-    /// `limit`. The next page starts after the last key of this one. It doesn't compare an item's key
-    /// with its row.
+    /// `limit`. The next page starts after the last key of this one.
     ///
     /// # Errors
     ///
-    /// Returns [`StoreError::Unreadable`] if the text of an item can't be read.
+    /// Returns [`StoreError::Unreadable`] if the text of an item can't be read, or if an item of the
+    /// page has no key or one that isn't behind the key before it: then no call of `TableStore`
+    /// wrote one of the rows.
     ///
     /// Returns [`StoreError::Database`] if the database fails, and [`StoreError::OutOfMemory`] if
     /// memory runs out.
     pub fn scan(&mut self, limit: usize, start_after: Option<&Key>) -> Result<Vec<Item>, StoreError>
         ensures limit { IfOk result (λ items. length items.items ≤ limit) }
+        ensures behind { IfOk result (λ items.
+            AreBehind (schema_of self.old) (option_copied start_after.entry) items.items) }
         ensures schema { schema_of self.new ≡ schema_of self.old }
         ensures table { table_of self.new ≡ table_of self.old }
         ensures ran { Ran S.Store (Scans S.Store limit start_after.entry)
@@ -396,7 +401,8 @@ impl<S: Alter + Drop> TableStore<S> {
         ensures clean { WasClean S.Store self.old.conn self.new.conn }
     {
         let start = start_of(self.alloc, start_after)?;
-        rows::page(self.alloc, &mut self.conn, self.table.id, &start, limit)
+        let items = rows::page(self.alloc, &mut self.conn, self.table.id, &start, limit)?;
+        rows::in_order(&self.table.schema, start_after, items)
     }
 
     /// Puts each of these items under its key: all of them, or none if one fails.
