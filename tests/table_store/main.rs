@@ -6,7 +6,8 @@
 //! how many of them were refused, and the first that differs, if any does. Fewer calls follow on tables in a database of pages
 //! in memory, where each change copies the log.
 //!
-//! Three updates by a function with errors of its own follow.
+//! Three updates by a function with errors of its own follow, and four pages of a table of three items in which another program
+//! has written rows.
 //!
 //! Then both kinds of tables are queried for values that lie close to each other, and answer as a plain filter does. Last the
 //! rows are counted that a database reads for a query.
@@ -15,6 +16,7 @@
 mod calls;
 mod counting;
 mod decimal;
+mod foreign;
 mod list;
 mod own_errors;
 mod pools;
@@ -168,6 +170,7 @@ fn main(rt: HostRuntime) -> io::Result<()> {
         Err(error) => println!(rt; "{error}")?,
     }
     own_errors::print_answers(&rt)?;
+    foreign::print_pages(&rt)?;
     queries::print_answers(&rt)?;
     reads::print_reads(&rt)
 }

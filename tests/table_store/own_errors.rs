@@ -24,7 +24,8 @@ impl From<AllocError> for Unmarked {
     }
 }
 
-fn item(alloc: Global, id: &str) -> Result<Item, AllocError> {
+/// An item with this key.
+pub fn item(alloc: Global, id: &str) -> Result<Item, AllocError> {
     let mut item = Item::new(alloc);
     let id = AttributeValue::S(String::from_str(alloc, id)?);
     item.inner_mut().insert(String::from_str(alloc, "id")?, id)?;
