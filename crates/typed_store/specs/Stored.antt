@@ -17,6 +17,7 @@ use Rattle.table_keys.specs.declared.query.Query.{Query}
 use Rattle.table_store.specs.Errors.{of_table}
 use Rattle.table_store.specs.Content as store
 use Rattle.table_store.specs.Found.{IsFound}
+use Rattle.table_store.specs.Order.{AreBehind}
 use Rattle.table_store.specs.declared.rows.definition.Definition.{Definition}
 use Rattle.table_store.specs.declared.store.TableStore.{TableStore}
 use Rattle.typed_table.specs.Stored.{IsKeyOf, IsUnwritten}
@@ -55,6 +56,14 @@ abbrev pub WereFound : {T : Type 0} → (Item → Result T Fault → Type 0) →
     → Type 0
 WereFound Reads schema query values =
     (items : List Item) × All (IsFound schema query) items × (length items ≤ query.limit)
+    × AllZip (ReadsAs Reads) items values
+
+-- each value is what an item reads as whose key comes behind that of the one before it, the first behind the start,
+-- and they are no more than the limit
+abbrev pub WereScanned : {T : Type 0} → (Item → Result T Fault → Type 0) → KeySchema → ℕ → Option Key
+    → List T → Type 0
+WereScanned Reads schema limit before values =
+    (items : List Item) × AreBehind schema before items × (length items ≤ limit)
     × AllZip (ReadsAs Reads) items values
 
 -- the error of an item without a key

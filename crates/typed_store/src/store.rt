@@ -1,10 +1,11 @@
 ghost use Rattle.std.specs.Prelude.{◌≡◌, ◌==◌, IfErr, IfOk, IfSome, OnOk, true};
 ghost use Rattle.std.specs.List.{AllZip};
+ghost use Rattle.std.specs.Option.{option_copied};
 ghost use Rattle.table_keys.specs.KeyOf.{words_of};
 ghost use Rattle.table_keys.specs.Conditions.{holds};
 ghost use Rattle.typed_table.specs.Stored.{IsKeyOf};
 ghost use Rattle.typed_store.specs.Stored.{FailsToChange, FailsToKey, KeepsKey, NeedsKey, ReadsAs, SaysKeyOf};
-ghost use Rattle.typed_store.specs.Stored.{WasReadAt, WereFound, WereRead, schema_of, store_of, table_of};
+ghost use Rattle.typed_store.specs.Stored.{WasReadAt, WereFound, WereRead, WereScanned, schema_of, store_of, table_of};
 ghost use Rattle.typed_store.specs.Calls.{CountsValues, DeletesValue, GetsValue, GotAgain, Located, PutsValue, PutsValueIf, ReadsEach, ScansValues, UpdatesValue};
 ghost use Rattle.table_store.specs.Calls.{GetsAt, Ran, Scans};
 ghost use Rattle.table_store.specs.Runs.{IsClean, WasClean, listed};
@@ -368,6 +369,8 @@ impl<T: AsItem + Keyed, S: Alter + Drop> TypedStore<T, S> {
         start_after: Option<&Key>,
     ) -> Result<Vec<T>, TypedStoreError>
         ensures read { IfOk result (λ values. WereRead T.reads_item values.items) }
+        ensures behind { IfOk result (λ values. WereScanned T.reads_item (schema_of self.old) limit
+            (option_copied start_after.entry) values.items) }
         ensures schema { schema_of self.new ≡ schema_of self.old }
         ensures table { table_of self.new ≡ table_of self.old }
         ensures ran { Ran S.Store (ScansValues S.Store T.reads_item limit start_after.entry)
@@ -390,6 +393,8 @@ impl<T: AsItem + Keyed, S: Alter + Drop> TypedStore<T, S> {
         start_after: Option<&Key>,
     ) -> Result<Vec<T>, LocatedError<TypedStoreError>>
         ensures read { IfOk result (λ values. WereRead T.reads_item values.items) }
+        ensures behind { IfOk result (λ values. WereScanned T.reads_item (schema_of self.old) limit
+            (option_copied start_after.entry) values.items) }
         ensures schema { schema_of self.new ≡ schema_of self.old }
         ensures ran { Ran S.Store
             (Located (ScansValues S.Store T.reads_item limit start_after.entry)
@@ -412,6 +417,8 @@ impl<T: AsItem + Keyed, S: Alter + Drop> TypedStore<T, S> {
     /// Returns the error of [`scan`](Self::scan).
     pub fn scan_all(&mut self) -> Result<Vec<T>, TypedStoreError>
         ensures read { IfOk result (λ values. WereRead T.reads_item values.items) }
+        ensures behind { IfOk result (λ values.
+            WereScanned T.reads_item (schema_of self.old) usize.MAX None values.items) }
         ensures schema { schema_of self.new ≡ schema_of self.old }
         ensures ran { Ran S.Store (ScansValues S.Store T.reads_item usize.MAX None)
             (store_of self.old) (store_of self.new) (listed result) }
