@@ -5,6 +5,7 @@ mod booking;
 mod guest;
 mod in_database;
 mod in_memory;
+mod located;
 mod places;
 mod service;
 mod texts;

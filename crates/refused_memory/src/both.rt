@@ -1,6 +1,6 @@
 //! Values that are read twice, lent and then taken.
 
-use refused_rows::Answer;
+use crate::answer::Answer;
 use serde_dynamo::de::Deserialize;
 use serde_dynamo::{AttributeValue, LentDeserializer, Result, from_attribute_value};
 use std::alloc::Global;

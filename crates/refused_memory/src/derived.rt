@@ -1,7 +1,8 @@
 //! A row of a derived type.
 
+use crate::answer::{Answer, Written};
+use crate::stopped::Stopped;
 use derived_types::Order;
-use refused_rows::{Answer, Stopped, Written};
 use serde_dynamo::Result;
 
 /// An order with a field of each kind, written and read.

@@ -1,6 +1,8 @@
 //! Rows of DynamoDB JSON.
 
-use refused_rows::{Answer, Json, Stopped, Written, values};
+use crate::answer::{Answer, Json, Written};
+use crate::stopped::Stopped;
+use crate::values;
 use serde_dynamo::{AttributeValue, DynamoJson, Error};
 
 // An attribute value of all ten kinds.

@@ -1,6 +1,6 @@
 //! The row of the readers of single texts and byte strings, which take no memory.
 
-use refused_rows::Stopped;
+use crate::stopped::Stopped;
 use serde_dynamo::de::{Reader, Request};
 use serde_dynamo::{DeserializerBytes, DeserializerMapKey, DeserializerNumber, StringDeserializer};
 use std::alloc::{AllocError, Global};

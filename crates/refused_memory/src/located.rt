@@ -1,6 +1,7 @@
 //! Rows of located calls, each of a value with one fault.
 
-use refused_rows::{Stopped, values};
+use crate::stopped::Stopped;
+use crate::values;
 use serde_dynamo::{
     AttributeValue, DynamoJsonLocated, ErrorImpl, LocatedError, StringSet,
     from_attribute_value_located, from_item_ref_located, to_attribute_value_located,

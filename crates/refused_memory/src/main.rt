@@ -1,84 +1,63 @@
-//! Calls of the library, in rows (`refused_rows`): what each answers where one of its requests for memory is refused.
+//! Calls of the library and of tables in memory, in rows: what each returns where one of its requests for memory is refused, and what
+//! is left after it. A row makes its values, then makes its calls, and prints one line of what they returned. The word after the
+//! program's name says which row; without one all rows are printed, each after its name.
+//!
+//! Run with one request for memory refused, a row shows what is returned where there is none: where its values were not made
+//! it prints `making: out of memory`.
 #![tactic(auto)]
 
+mod accesses;
 mod account;
+mod answer;
 mod both;
+mod builders;
+mod calls;
 mod derived;
 mod json;
 mod leaf_readers;
 mod located;
 mod reading;
+mod steps;
+mod stopped;
+mod tables;
+mod values;
 mod without_memory;
 mod writing;
 
-use refused_rows::{Stopped, end_line, word};
-use std::io;
+use std::alloc::AllocError;
+use std::{env, io};
+use stopped::Stopped;
 
-const ROWS: [&str; 27] = [
-    "write",
-    "write_no_key",
-    "custom",
-    "read",
-    "read_too_large",
-    "read_too_short",
-    "texts_read",
-    "ignored_map",
-    "derived",
-    "located_taken",
-    "located_lent",
-    "located_json",
-    "located_written",
-    "located_derived",
-    "json",
-    "json_refused",
-    "leaf_readers",
-    "sequences",
-    "variants",
-    "builders",
-    "items",
-    "questions",
-    "scalars_written",
-    "integers_read",
-    "scalars_read",
-    "ignored",
-    "other_kinds",
-];
-
-fn run(rt: &HostRuntime, row: &str) -> Result<(), Stopped> {
-    match row {
-        "write" => writing::account(rt),
-        "write_no_key" => writing::no_key(rt),
-        "custom" => writing::custom(rt),
-        "read" => reading::account(rt),
-        "read_too_large" => reading::too_large(rt),
-        "read_too_short" => reading::too_short(rt),
-        "texts_read" => reading::texts(rt),
-        "ignored_map" => reading::ignored_map(rt),
-        "derived" => derived::order(rt),
-        "located_taken" => located::taken(rt),
-        "located_lent" => located::lent(rt),
-        "located_json" => located::json(rt),
-        "located_written" => located::written(rt),
-        "located_derived" => located::derived(rt),
-        "json" => json::ten_kinds(rt),
-        "json_refused" => json::refused(rt),
-        "leaf_readers" => leaf_readers::shown(rt),
-        "sequences" => without_memory::sequences(rt),
-        "variants" => without_memory::variants(rt),
-        "builders" => without_memory::builders(rt),
-        "items" => without_memory::items(rt),
-        "questions" => without_memory::questions(rt),
-        "scalars_written" => without_memory::scalars_written(rt),
-        "integers_read" => without_memory::integers_read(rt),
-        "scalars_read" => without_memory::scalars_read(rt),
-        "ignored" => without_memory::ignored(rt),
-        "other_kinds" => without_memory::other_kinds(rt),
-        _ => Ok(println!(rt; "no such row")?),
+// The word after the program's name, where there is one.
+fn word(rt: &HostRuntime) -> Result<Option<String>, Stopped> {
+    match env::args(rt) {
+        Ok(words) => Ok(words.skip(1).next()),
+        Err(error) if error.kind() == io::ErrorKind::OutOfMemory => Err(Stopped::from(AllocError)),
+        Err(error) => Err(Stopped::Printing(error)),
     }
 }
 
-fn print_all(rt: &HostRuntime) -> io::Result<()> {
-    for row in ROWS {
+fn run(rt: &HostRuntime, row: &str) -> Result<(), Stopped> {
+    if let Some(done) = calls::run(rt, row) {
+        return done;
+    }
+    if let Some(done) = steps::run(rt, row) {
+        return done;
+    }
+    Ok(println!(rt; "no such row")?)
+}
+
+// Ends the line of a row: where its values were not made, by that.
+fn end_line(rt: &HostRuntime, row: Result<(), Stopped>) -> io::Result<()> {
+    match row {
+        Ok(()) => Ok(()),
+        Err(Stopped::Making(error)) => println!(rt; "making: {error}"),
+        Err(Stopped::Printing(error)) => Err(error),
+    }
+}
+
+fn print_all(rt: &HostRuntime, rows: &[&str]) -> io::Result<()> {
+    for row in rows {
         print!(rt; "{row}: ")?;
         end_line(rt, run(rt, row))?;
     }
@@ -88,7 +67,10 @@ fn print_all(rt: &HostRuntime) -> io::Result<()> {
 fn main(rt: HostRuntime) -> io::Result<()> {
     match word(&rt) {
         Ok(Some(row)) => end_line(&rt, run(&rt, &row)),
-        Ok(None) => print_all(&rt),
+        Ok(None) => {
+            print_all(&rt, &calls::ROWS)?;
+            print_all(&rt, &steps::ROWS)
+        }
         Err(stopped) => end_line(&rt, Err(stopped)),
     }
 }

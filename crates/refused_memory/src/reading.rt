@@ -1,8 +1,10 @@
 //! Rows that read.
 
 use crate::account::Account;
+use crate::answer::Answer;
 use crate::both::Both;
-use refused_rows::{Answer, Stopped, values};
+use crate::stopped::Stopped;
+use crate::values;
 use serde_dynamo::de::{Deserialize, IgnoredAny};
 use serde_dynamo::{
     ByteBuf, Items, LentDeserializer, Result, from_attribute_value, from_item, from_item_ref,

@@ -2,8 +2,10 @@
 ghost use Rattle.std.specs.Prelude.{codes};
 ghost use Rattle.serde_dynamo.specs.Datum as datum;
 
+use crate::answer::{Answer, Written};
 use crate::both::Both;
-use refused_rows::{Answer, Stopped, Written, values};
+use crate::stopped::Stopped;
+use crate::values;
 use serde_dynamo::de::{Deserialize, EnumAccess, IgnoredAny, SeqAccess, VariantAccess};
 use serde_dynamo::ser::{Serialize, SerializeMap, SerializeSeq, SerializeStruct, Serializer};
 use serde_dynamo::{

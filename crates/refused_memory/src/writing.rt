@@ -1,7 +1,8 @@
 //! Rows that write.
 
 use crate::account::Account;
-use refused_rows::{Answer, Json, Stopped, Written};
+use crate::answer::{Answer, Json, Written};
+use crate::stopped::Stopped;
 use serde_dynamo::ser::Serialize;
 use serde_dynamo::{
     AttributeValue, Error, Item, de, ser, to_attribute_value, to_attribute_value_via_json, to_item,

@@ -1,4 +1,4 @@
-//! Places of errors of reading and writing.
+//! Places of errors of reading and writing values, items and lines.
 
 mod derived_enums;
 mod derived_items;

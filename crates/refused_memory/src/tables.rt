@@ -1,7 +1,8 @@
 //! Rows of a table in memory: where a call wants memory, the table is as before.
 
+use crate::stopped::Stopped;
+use crate::values;
 use memory_table::{Key, KeyAttribute, KeyKind, KeySchema, KeyValue, Query, Table, TableError};
-use refused_rows::{Stopped, values};
 use serde_dynamo::{AttributeValue, Item};
 use std::alloc::{AllocError, Global};
 use std::io;

@@ -1,5 +1,5 @@
 //! Structs, lists, maps and scalars that derive serde's traits, with one fault each.
-use crate::derived_rows::{holds, told};
+use super::derived_rows::{holds, told};
 use dynamo_json::DynamoJson;
 use dynamo_serde::{from_attribute_value_located, from_items_located};
 use dynamo_value::{AttributeValue, Item, Items};

@@ -1,7 +1,8 @@
 //! Rows of what stands in a builder after a call. The builders hold what fills their lists, or nearly so, so that one of the
 //! calls lets the list grow.
 
-use refused_rows::{Answer, Stopped, Written};
+use crate::answer::{Answer, Written};
+use crate::stopped::Stopped;
 use serde_dynamo::ser::{
     SerializeMap, SerializeSeq, SerializeStruct, SerializeStructVariant, SerializeTuple,
     SerializeTupleStruct, SerializeTupleVariant,

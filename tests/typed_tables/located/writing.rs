@@ -1,5 +1,5 @@
 //! Values with one fault each, and the place that is said of it.
-use crate::kinds::{Event, KeyByKey, Lenient, Pair, Refuses, Tupled, UnitKey};
+use super::kinds::{Event, KeyByKey, Lenient, Pair, Refuses, Tupled, UnitKey};
 use dynamo_place::{Place, to_attribute_value_located, to_item_located};
 use dynamo_ser::Serialize;
 use dynamo_value::{Error, ErrorImpl};

@@ -1,5 +1,5 @@
 //! Enums that derive serde's traits, in each of their representations, with one fault each.
-use crate::derived_rows::holds;
+use super::derived_rows::holds;
 use serde::Deserialize;
 use std::collections::BTreeMap;
 use std::test::Fail;

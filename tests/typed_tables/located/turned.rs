@@ -1,6 +1,6 @@
 //! Items of described types, each with one part that is turned into something else: the place that an error says is the
 //! place that was turned.
-use crate::turning::{Turned, first_wrong, none_wrong, order, page, told_place};
+use super::turning::{Turned, first_wrong, none_wrong, order, page, told_place};
 use described_types::{Order, Page};
 use dynamo_place::{from_item_located, from_item_ref_located};
 use serde_dynamo::de::Deserialize;

@@ -1,15 +1,10 @@
-//! Calls of builders, of accesses and of tables, in rows (`refused_rows`): what each answers where one of its requests for memory is
-//! refused, and what stands after it.
-#![tactic(auto)]
+//! The rows of what is left in a builder, an access or a table after a call, one of whose requests for memory is refused.
 
-mod accesses;
-mod builders;
-mod tables;
+use crate::stopped::Stopped;
+use crate::{accesses, builders, tables};
 
-use refused_rows::{Stopped, end_line, word};
-use std::io;
-
-const ROWS: [&str; 24] = [
+/// The names of the rows.
+pub const ROWS: [&str; 24] = [
     "seq",
     "tuple",
     "tuple_struct",
@@ -36,8 +31,9 @@ const ROWS: [&str; 24] = [
     "table_query",
 ];
 
-fn run(rt: &HostRuntime, row: &str) -> Result<(), Stopped> {
-    match row {
+/// Prints the line of the row of this name. It returns nothing where there is no such row.
+pub fn run(rt: &HostRuntime, row: &str) -> Option<Result<(), Stopped>> {
+    let done = match row {
         "seq" => builders::seq(rt),
         "tuple" => builders::tuple(rt),
         "tuple_struct" => builders::tuple_struct(rt),
@@ -62,22 +58,7 @@ fn run(rt: &HostRuntime, row: &str) -> Result<(), Stopped> {
         "table_put_new" => tables::put_new(rt),
         "table_put_again" => tables::put_again(rt),
         "table_query" => tables::query(rt),
-        _ => Ok(println!(rt; "no such row")?),
-    }
-}
-
-fn print_all(rt: &HostRuntime) -> io::Result<()> {
-    for row in ROWS {
-        print!(rt; "{row}: ")?;
-        end_line(rt, run(rt, row))?;
-    }
-    Ok(())
-}
-
-fn main(rt: HostRuntime) -> io::Result<()> {
-    match word(&rt) {
-        Ok(Some(row)) => end_line(&rt, run(&rt, &row)),
-        Ok(None) => print_all(&rt),
-        Err(stopped) => end_line(&rt, Err(stopped)),
-    }
+        _ => return None,
+    };
+    Some(done)
 }

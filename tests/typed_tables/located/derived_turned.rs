@@ -1,6 +1,6 @@
 //! Items of derived types, each with one part that is turned into something else: the place that an error says is the place
 //! that was turned.
-use crate::turning::{Done, Turned, Turning, first_wrong, none_wrong, order, page, told_place};
+use super::turning::{Done, Turned, Turning, first_wrong, none_wrong, order, page, told_place};
 use dynamo_serde::{from_item_located, from_items_located, read_item_located};
 use dynamo_value::Items;
 use serde::{Deserialize, DeserializeOwned};

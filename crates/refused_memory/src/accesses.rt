@@ -1,6 +1,8 @@
 //! Rows of what stands in an access after a call. What is read in a box takes memory; what is read without takes none.
 
-use refused_rows::{Answer, Stopped, Written, values};
+use crate::answer::{Answer, Written};
+use crate::stopped::Stopped;
+use crate::values;
 use serde_dynamo::de::{
     Deserialize, MapAccess, Reader, ReaderMapAccess, ReaderSeqAccess, Request, SeqAccess, TypeSeed,
     elements_of, entries_of,
