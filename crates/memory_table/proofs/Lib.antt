@@ -1,4 +1,3 @@
-pub mod Changed
 pub mod Held
 pub mod HeldKeys
 pub mod Lent

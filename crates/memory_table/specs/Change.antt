@@ -108,20 +108,3 @@ abbrev pub UpdatesItem : {E : Type 0} → (TableError → E → Type 0) → (Ite
     → Key → Table → Table → Result (Unit {0}) E → Type 0
 UpdatesItem gives Makes key old new r =
     ChangesItem gives Makes (schema_of old) key (items_of old) (items_of new) r
-
--- The item has the key, and is the answer. Or it has no key or another, which is the error.
-abbrev pub AnswersUnder : {E : Type 0} → (TableError → E → Type 0) → KeySchema → Key
-    → Result Item E → Item → Type 0
-AnswersUnder gives schema key r item =
-    (own : Result Key TableError) × ReadsKey schema item own
-    × MatchResult own
-    (λ k. MatchBool (is_ne (key_cmp k key)) (IsErrAnd r (gives TableError.KeyChanged)) (r ≡ Ok item))
-    (λ error. IsErrAnd r (gives error))
-
--- The answer is what the change makes of an item, which has the key. Or the change fails with an
--- error of its own, or what it makes has no key or another.
-abbrev pub MakesUnder : {E : Type 0} → (TableError → E → Type 0) → (Item → Result Item E → Type 0)
-    → KeySchema → Key → Item → Result Item E → Type 0
-MakesUnder gives Makes schema key item r =
-    (made : Result Item _) × Makes item made
-    × MatchResult made (AnswersUnder gives schema key r) (λ error. IsErrAnd r (λ e. e ≡ error))

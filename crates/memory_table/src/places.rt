@@ -3,7 +3,7 @@ ghost use Rattle.std.specs.BTreeMap.{IsOrdered, get, insert_entry, keys};
 ghost use Rattle.std.specs.Bool.{OnTrue};
 ghost use Rattle.std.specs.Prelude.{◌≡◌, ◌↔◌, IfOk, IsTrue, MatchOption, None, OnErr, OnOk, if◌then◌else◌};
 ghost use Rattle.std.specs.Fn.{FnOnceReturnsAt};
-ghost use Rattle.memory_table.specs.Change.{ChangesItem, MakesUnder};
+ghost use Rattle.memory_table.specs.Change.{ChangesItem};
 ghost use Rattle.memory_table.specs.Places.{IsPut, Stays, TakesPlace};
 ghost use Rattle.table_keys.specs.KeyOrder.{key_cmp};
 
@@ -62,25 +62,11 @@ pub(crate) fn change<E: From<TableError>, F: FnOnce(&Item) -> Result<Item, E>>(
     let Some(place) = items.get_mut(key) else {
         return Err(E::from(TableError::NoItem));
     };
-    let item = changed(schema, key, place, change)?;
-    *place = item;
-    Ok(())
-}
-
-// Returns what `change` makes of the item under a key, where that has the same key.
-fn changed<E: From<TableError>, F: FnOnce(&Item) -> Result<Item, E>>(
-    schema: &KeySchema,
-    key: &Key,
-    item: &Item,
-    change: F,
-) -> Result<Item, E>
-    requires { F.IsAlwaysCallable change }
-    ensures { MakesUnder E.from_gives (FnOnceReturnsAt F.FnOnce change) schema.now key.now item.now result }
-{
-    let made = change(item)?;
-    let own_key = schema.key_of(&made)?;
+    let item = change(place)?;
+    let own_key = schema.key_of(&item)?;
     if own_key.cmp(key).is_ne() {
         return Err(E::from(TableError::KeyChanged));
     }
-    Ok(made)
+    *place = item;
+    Ok(())
 }

@@ -16,7 +16,6 @@ pub mod Partitions
 pub mod PlaceBytes
 pub mod PrefixEnds
 pub mod PrefixLists
-pub mod Prefixed
 pub mod Scaled
 pub mod Sizes
 pub mod TextOrder

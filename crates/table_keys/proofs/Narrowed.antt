@@ -1,16 +1,14 @@
 -- A range that is narrowed by the key after which a query starts.
-use Rattle.std.proofs.Common.{◌≡◌, ◌∙◌, Bool, true, false, not, Ordering, Equal, Some, None}
-use Rattle.std.proofs.Common.{Result, Ok, Err, arith}
+use Rattle.std.proofs.Common.{◌≡◌, ◌∙◌, Bool, true, false, not, Ordering, Equal, Some, None, arith}
 use Rattle.std.proofs.lemmas.Cmp.{on_total, then_total, upto}
 use Rattle.std.specs.Cmp.{IsTotalOrder, bool_cmp_total}
 use Rattle.std.specs.Ordering.{is_le, is_lt, ord_max, ord_min, ordering_reverse}
-use Rattle.std.specs.Prelude.{◌&&◌, ◌||◌, IfOk, Option}
-use Rattle.std.specs.declared.alloc.AllocError.{AllocError}
+use Rattle.std.specs.Prelude.{◌&&◌, ◌||◌, MatchOption, Option}
 use Rattle.table_keys.specs.KeyLaws.{key_total}
 use Rattle.table_keys.specs.KeyOrder.{key_cmp}
 use Rattle.table_keys.specs.declared.key.Key.{Key}
 use Rattle.table_keys.specs.Places.{is_from_place, place_cmp}
-use Rattle.table_keys.specs.Ranges.{HasKeys}
+use Rattle.table_keys.specs.Ranges.{lies_between}
 use Rattle.table_keys.specs.declared.key_range.KeyRange.{KeyRange}
 use Rattle.table_keys.specs.declared.place.Place.{Place}
 
@@ -70,11 +68,10 @@ neither x y o = grind arith
 
 -- a range is that of a test where it is that of one which is alike
 pub alike : (found between : Key → Bool) → ((key : Key) → found key ≡ between key)
-    → (range : Option KeyRange) → HasKeys between range → HasKeys found range
+    → (range : Option KeyRange)
+    → MatchOption range ((key : Key) → between key ≡ false)
+    (λ r. (key : Key) → between key ≡ lies_between r key)
+    → MatchOption range ((key : Key) → found key ≡ false)
+    (λ r. (key : Key) → found key ≡ lies_between r key)
 alike found between same None none = λ key. same key ∙ none key
 alike found between same (Some r) is = λ key. same key ∙ is key
-
-pub both_alike : (found between : Key → Bool) → ((key : Key) → found key ≡ between key)
-    → (r : Result (Option KeyRange) AllocError) → IfOk r (HasKeys between) → IfOk r (HasKeys found)
-both_alike found between same (Ok range) is = alike found between same range is
-both_alike found between same (Err error) h = tt

@@ -11,7 +11,7 @@ use Rattle.table_keys.proofs.NextValues.{empty_first, zero_added}
 use Rattle.table_keys.specs.Ranges.{FindsBetween}
 use Rattle.table_keys.specs.declared.key_range.KeyRange.{KeyRange}
 use Rattle.table_keys.specs.declared.query.Query.{Query}
-use Rattle.table_keys.specs.Between.{AreBounds, HasBounds, IsPlaceBytes}
+use Rattle.table_keys.specs.Between.{AreBounds, IsPlaceBytes}
 use Rattle.table_keys.specs.declared.bounds.Bounds.{Bounds}
 use Rattle.table_keys.specs.KeyBytes.{IsSortBytes}
 use Rattle.table_keys.proofs.KeyBytesInOrder.{sorts}
@@ -46,6 +46,8 @@ module _ (partition : KeyValue) (place : Place) where
 
 -- the bytes of both ends of a query's range are its bounds
 pub bounded : (query : Query) (range : KeyRange) (bounds : Bounds) → FindsBetween query range
-    → HasBounds query.partition.now range bounds → AreBounds query bounds
-bounded query range bounds finds_them ends key bytes held here is =
-    finds_them key held ∙ rw (ends.0 key bytes here is, ends.1 key bytes here is) refl
+    → IsPlaceBytes query.partition.now range.low bounds.low.items
+    → IsPlaceBytes query.partition.now range.high bounds.high.items
+    → AreBounds query bounds
+bounded query range bounds finds_them low high key bytes held here is =
+    finds_them key held ∙ rw (low key bytes here is, high key bytes here is) refl

@@ -9,7 +9,6 @@ use Rattle.table_keys.specs.declared.key.Key.{Key}
 use Rattle.table_keys.specs.declared.key.KeyValue.{KeyValue}
 use Rattle.table_keys.specs.Places.{is_from_place}
 use Rattle.table_keys.specs.Queries.{finds}
-use Rattle.table_keys.specs.declared.key_range.KeyRange.{KeyRange}
 use Rattle.table_keys.specs.declared.place.Place.{Place}
 use Rattle.table_keys.specs.declared.query.Query.{Query}
 use Rattle.table_keys.specs.KeyBytes.{IsSortBytes}
@@ -24,11 +23,6 @@ abbrev pub IsPlaceBytes : KeyValue → Place → List ℕ → Type 0
 IsPlaceBytes partition place start = (key : Key) (bytes : List ℕ)
     → value_cmp key.partition partition ≡ Equal → IsSortBytes key.sort bytes
     → is_from_place place key ≡ is_le (text_cmp start bytes)
-
--- the bounds are the bytes of both ends of the range in the partition
-abbrev pub HasBounds : KeyValue → KeyRange → Bounds → Type 0
-HasBounds partition range bounds = IsPlaceBytes partition range.low bounds.low.items
-    × IsPlaceBytes partition range.high bounds.high.items
 
 -- The query finds a key of its partition exactly where the bytes of its sort key lie within the bounds.
 abbrev pub AreBounds : Query → Bounds → Type 0

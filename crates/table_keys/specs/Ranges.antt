@@ -1,9 +1,9 @@
 -- The keys that a query finds, as those between two places of the keys' order.
-use Rattle.std.specs.Prelude.{◌≡◌, Bool, true, false, not, ◌&&◌, Option, Some, None, MatchOption}
+use Rattle.std.specs.Prelude.{◌≡◌, Bool, false, not, ◌&&◌, Option, Some, None}
 use Rattle.std.specs.Option.{IfSome, option_cmp}
 use Rattle.std.specs.Ordering.{is_le, is_lt, nat_cmp}
 use Rattle.table_keys.specs.Held.{IsHeld, IsHeldKey}
-use Rattle.table_keys.specs.KeyOrder.{key_cmp, kind_rank, value_cmp}
+use Rattle.table_keys.specs.KeyOrder.{kind_rank, value_cmp}
 use Rattle.table_keys.specs.declared.key.Key.{Key}
 use Rattle.table_keys.specs.declared.key.KeyValue.{KeyValue}
 use Rattle.table_keys.specs.Places.{is_from, is_from_place}
@@ -48,14 +48,10 @@ MeetsBetween condition range = (sort : Option KeyValue) → IfSome sort IsHeld
 abbrev pub MeetsNone : SortCondition → Type 0
 MeetsNone condition = (sort : Option KeyValue) → meets_sort condition sort ≡ false
 
--- the sort key comes from the place on that is just before the value, or just behind it
-abbrev pub is_from_value : Bool → KeyValue → Option KeyValue → Bool
-is_from_value behind value sort = is_from (option_cmp value_cmp) behind (Some value) sort
-
 -- the place is just before the value, or just behind it
 abbrev pub IsPlaceAt : Bool → KeyValue → SortPlace → Type 0
 IsPlaceAt behind value place = (sort : Option KeyValue)
-    → is_from_sort place sort ≡ is_from_value behind value sort
+    → is_from_sort place sort ≡ is_from (option_cmp value_cmp) behind (Some value) sort
 
 -- the sort key is a value of this kind or of one that comes behind it
 abbrev pub is_from_kind : KeyValue → Option KeyValue → Bool
@@ -76,28 +72,6 @@ IsKindStart value place = (sort : Option KeyValue) → IfSome sort IsHeld
 abbrev pub IsKindEnd : KeyValue → Option SortPlace → Type 0
 IsKindEnd value place = (sort : Option KeyValue) → IfSome sort IsHeld
     → is_from_end place sort ≡ is_past_kind value sort
-
--- the sort key lies from one value up to another, both included
-abbrev pub lies_from_to : KeyValue → KeyValue → Option KeyValue → Bool
-lies_from_to low high sort = is_from_value false low sort && not (is_from_value true high sort)
-
--- the sort key is of the value's kind, and lies before a place at the value
-abbrev pub lies_up_to : Bool → KeyValue → Option KeyValue → Bool
-lies_up_to behind value sort = is_from_kind value sort && not (is_from_value behind value sort)
-
--- the sort key is of the value's kind, and lies behind a place at the value
-abbrev pub lies_onward : Bool → KeyValue → Option KeyValue → Bool
-lies_onward behind value sort = is_from_value behind value sort && not (is_past_kind value sort)
-
--- the sort key lies from one value on and before another
-abbrev pub lies_before : KeyValue → KeyValue → Option KeyValue → Bool
-lies_before value end sort = is_from_value false value sort && not (is_from_value false end sort)
-
--- the range is there, and has the sort keys that pass the test
-abbrev pub IsRangeOf : (Option KeyValue → Bool) → Option SortRange → Type 0
-IsRangeOf passes range = MatchOption range ⊥
-    (λ r. (sort : Option KeyValue) → IfSome sort IsHeld
-    → passes sort ≡ (is_from_sort r.low sort && not (is_from_end r.high sort)))
 
 -- no value lies between this one and the next
 abbrev pub IsNextValue : KeyValue → KeyValue → Type 0
@@ -120,18 +94,3 @@ IsEndIn partition None place = IsNextValue partition place.key.partition
 abbrev pub is_found_between : Query → Place → Place → Key → Bool
 is_found_between query low high key = is_from_place low key && not (is_from_place high key)
     && is_behind query.backward query.start_after key
-
--- the range has the keys that pass the test, or there is none where no key does
-abbrev pub HasKeys : (Key → Bool) → Option KeyRange → Type 0
-HasKeys passes range = MatchOption range ((key : Key) → passes key ≡ false)
-    (λ r. (key : Key) → passes key ≡ lies_between r key)
-
--- what lies from the low place up to the high one, and before a key
-abbrev pub lies_before_key : Place → Place → Key → Key → Bool
-lies_before_key low high end key = is_from_place low key && not (is_from_place high key)
-    && is_lt (key_cmp key end)
-
--- what lies from the low place up to the high one, and behind a key
-abbrev pub lies_behind_key : Place → Place → Key → Key → Bool
-lies_behind_key low high start key = is_from_place low key && not (is_from_place high key)
-    && is_lt (key_cmp start key)

@@ -1,8 +1,8 @@
 ghost use Rattle.std.specs.Prelude.{IfOk, MatchOption};
-ghost use Rattle.table_keys.specs.Between.{AreBounds, HasBounds, IsPlaceBytes};
+ghost use Rattle.table_keys.specs.Between.{AreBounds, IsPlaceBytes};
 ghost use Rattle.table_keys.specs.Ranges.{FindsNone};
 
-use crate::{KeyRange, KeyValue, Place, Query, sort_bytes};
+use crate::{KeyValue, Place, Query, sort_bytes};
 use std::alloc::{AllocError, Global};
 use std::cmp::Ordering;
 
@@ -41,20 +41,13 @@ impl Bounds {
     pub fn of_query(alloc: Global, query: &Query<'_>) -> Result<Option<Bounds>, AllocError>
         ensures { IfOk result (λ bounds. MatchOption bounds (FindsNone query.now) (AreBounds query.now)) }
     {
-        match query.key_range(alloc)? {
-            Some(range) => Ok(Some(Bounds::of_range(alloc, query.partition, &range)?)),
-            None => Ok(None),
-        }
-    }
-
-    // Returns the bounds of the sort keys of a partition that lie in a range.
-    fn of_range(alloc: Global, partition: &KeyValue, range: &KeyRange) -> Result<Bounds, AllocError>
-        ensures { IfOk result (HasBounds partition.now range.now) }
-    {
-        Ok(Bounds {
-            low: place_bytes(alloc, partition, &range.low)?,
-            high: place_bytes(alloc, partition, &range.high)?,
-        })
+        let Some(range) = query.key_range(alloc)? else {
+            return Ok(None);
+        };
+        Ok(Some(Bounds {
+            low: place_bytes(alloc, query.partition, &range.low)?,
+            high: place_bytes(alloc, query.partition, &range.high)?,
+        }))
     }
 }
 

@@ -1,4 +1,4 @@
-ghost use Rattle.std.specs.Prelude.{◌≡◌, ◌∷◌, IfOk};
+ghost use Rattle.std.specs.Prelude.{◌≡◌, IfOk};
 ghost use Rattle.std.specs.declared.cmp.Ordering.TheVariants.{Less};
 ghost use Rattle.dynamo_value.specs.View.{text_cmp};
 ghost use Rattle.table_keys.specs.declared.key.Key.{Key};
@@ -81,19 +81,12 @@ pub fn sort_bytes(alloc: Global, sort: &Option<KeyValue>) -> Result<Vec<u8>, All
 pub fn bytes_of(alloc: Global, value: &KeyValue) -> Result<Vec<u8>, AllocError>
     ensures { IfOk result (λ bytes. IsValueBytes value.now bytes.items) }
 {
-    match value {
-        KeyValue::S(text) => joined(alloc, value.rank(), text.as_bytes()),
-        KeyValue::N(number) => joined(alloc, value.rank(), &number.to_bytes()),
-        KeyValue::B(content) => joined(alloc, value.rank(), content.as_slice()),
-    }
-}
-
-// Returns a byte and those behind it.
-fn joined(alloc: Global, first: u8, others: &[u8]) -> Result<Vec<u8>, AllocError>
-    ensures { IfOk result (λ bytes. bytes.items ≡ first ∷ others.now) }
-{
     let mut bytes = Vec::new(alloc);
-    bytes.push(first)?;
-    bytes.extend_from_slice(others)?;
+    bytes.push(value.rank())?;
+    match value {
+        KeyValue::S(text) => bytes.extend_from_slice(text.as_bytes())?,
+        KeyValue::N(number) => bytes.extend_from_slice(&number.to_bytes())?,
+        KeyValue::B(content) => bytes.extend_from_slice(content.as_slice())?,
+    }
     Ok(bytes)
 }

@@ -5,8 +5,7 @@ ghost use Rattle.std.specs.Range.Bound.{IsForward, bound_map};
 ghost use Rattle.table_keys.specs.KeyOrder.{key_cmp};
 ghost use Rattle.table_keys.specs.declared.key.Key.{Key};
 ghost use Rattle.table_keys.specs.Places.{is_from_place};
-ghost use Rattle.table_keys.specs.Ranges.{FindsBetween, FindsNone, HasKeys, IsEndIn, IsNextValue, IsPlaceIn};
-ghost use Rattle.table_keys.specs.Ranges.{is_found_between, lies_before_key, lies_behind_key, lies_between};
+ghost use Rattle.table_keys.specs.Ranges.{FindsBetween, FindsNone, IsEndIn, IsNextValue, IsPlaceIn, is_found_between, lies_between};
 
 use crate::key_range::KeyRange;
 use crate::place::Place;
@@ -69,11 +68,15 @@ impl Query<'_> {
 
     // Returns the range between two places, narrowed by the key after which the query starts.
     fn narrowed(&self, low: Place, high: Place) -> Result<Option<KeyRange>, AllocError>
-        ensures { IfOk result (HasKeys (is_found_between self.now low high)) }
+        ensures { IfOk result (λ range. MatchOption range
+            ((key : Key) → is_found_between self.now low high key ≡ false)
+            (λ r. (key : Key) → is_found_between self.now low high key ≡ lies_between r key)) }
     {
         match self.start_after {
-            Some(start) if self.backward => KeyRange::until(low, high, start),
-            Some(start) => KeyRange::behind(low, high, start),
+            Some(start) if self.backward => {
+                Ok(KeyRange::between(low, high.min(Place::at(start, false)?)))
+            }
+            Some(start) => Ok(KeyRange::between(low.max(Place::at(start, true)?), high)),
             None => Ok(KeyRange::between(low, high)),
         }
     }
@@ -92,22 +95,6 @@ impl KeyRange {
         } else {
             None
         }
-    }
-
-    // Returns the range of the keys between two places that come before a key.
-    fn until(low: Place, high: Place, end: &Key) -> Result<Option<KeyRange>, AllocError>
-        ensures { IfOk result (HasKeys (lies_before_key low high end.now)) }
-    {
-        let place = Place::at(end, false)?;
-        Ok(KeyRange::between(low, high.min(place)))
-    }
-
-    // Returns the range of the keys between two places that come behind a key.
-    fn behind(low: Place, high: Place, start: &Key) -> Result<Option<KeyRange>, AllocError>
-        ensures { IfOk result (HasKeys (lies_behind_key low high start.now)) }
-    {
-        let place = Place::at(start, true)?;
-        Ok(KeyRange::between(low.max(place), high))
     }
 
     /// Returns the range as the bounds that `BTreeMap::range` takes.

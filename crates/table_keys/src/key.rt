@@ -105,14 +105,13 @@ impl Clone for KeyValue {
     ghost is_clone = { λ value copy. value_cmp copy value ≡ Equal };
 
     fn clone(&self) -> Result<KeyValue, AllocError> {
-        match self {
-            KeyValue::S(text) => Ok(KeyValue::S(text.clone()?)),
-            KeyValue::N(number) => Ok(KeyValue::N(number.clone()?)),
+        Ok(match self {
+            KeyValue::S(text) => KeyValue::S(text.clone()?),
+            KeyValue::N(number) => KeyValue::N(number.clone()?),
             KeyValue::B(bytes) => {
-                let copy = Vec::from_slice(*bytes.allocator(), bytes.as_slice())?;
-                Ok(KeyValue::B(copy))
+                KeyValue::B(Vec::from_slice(*bytes.allocator(), bytes.as_slice())?)
             }
-        }
+        })
     }
 }
 

@@ -1,9 +1,8 @@
-ghost use Rattle.std.specs.Ordering.{is_ge, is_le, is_some_and};
-ghost use Rattle.std.specs.Prelude.{◌≡◌, ◌==◌, ◌&&◌, false};
-ghost use Rattle.table_keys.specs.KeyOrder.{kind_rank};
+ghost use Rattle.std.specs.Prelude.{◌≡◌, false};
 ghost use Rattle.table_keys.specs.Queries.{begins_with, compared, finds, is_behind, meets, meets_sort};
 
 use crate::{Key, KeyValue};
+use std::cmp::Ordering;
 
 /// A condition on the sort key, as DynamoDB's `KeyConditionExpression` has it. Only values of the
 /// condition's kind meet it.
@@ -129,36 +128,31 @@ impl SortCondition<'_> {
     {
         match self {
             SortCondition::Any => true,
-            SortCondition::Equal(bound) => same_kind(value, bound) && value.cmp(bound).is_eq(),
-            SortCondition::Less(bound) => same_kind(value, bound) && value.cmp(bound).is_lt(),
-            SortCondition::LessOrEqual(bound) => {
-                same_kind(value, bound) && value.cmp(bound).is_le()
-            }
-            SortCondition::Greater(bound) => same_kind(value, bound) && value.cmp(bound).is_gt(),
+            SortCondition::Equal(bound) => compared(value, bound).is_some_and(|o| o.is_eq()),
+            SortCondition::Less(bound) => compared(value, bound).is_some_and(|o| o.is_lt()),
+            SortCondition::LessOrEqual(bound) => compared(value, bound).is_some_and(|o| o.is_le()),
+            SortCondition::Greater(bound) => compared(value, bound).is_some_and(|o| o.is_gt()),
             SortCondition::GreaterOrEqual(bound) => {
-                same_kind(value, bound) && value.cmp(bound).is_ge()
+                compared(value, bound).is_some_and(|o| o.is_ge())
             }
-            SortCondition::Between(low, high) => is_between(value, low, high),
+            SortCondition::Between(low, high) => {
+                compared(value, low).is_some_and(|o| o.is_ge())
+                    && compared(value, high).is_some_and(|o| o.is_le())
+            }
             SortCondition::BeginsWith(prefix) => begins_with(value, prefix),
         }
     }
 }
 
-// Whether a value lies from one bound up to another, both of its kind.
-fn is_between(value: &KeyValue, low: &KeyValue, high: &KeyValue) -> bool
-    ensures { result ≡ (is_some_and is_ge (compared value.now low.now) && is_some_and is_le (compared value.now high.now)) }
+// How two values of one kind compare.
+fn compared(value: &KeyValue, other: &KeyValue) -> Option<Ordering>
+    ensures { result ≡ compared value.now other.now }
 {
-    same_kind(value, low)
-        && value.cmp(low).is_ge()
-        && same_kind(value, high)
-        && value.cmp(high).is_le()
-}
-
-// Whether two values are of one kind.
-fn same_kind(value: &KeyValue, other: &KeyValue) -> bool
-    ensures { result ≡ (kind_rank value.now == kind_rank other.now) }
-{
-    value.rank() == other.rank()
+    if value.rank() == other.rank() {
+        Some(value.cmp(other))
+    } else {
+        None
+    }
 }
 
 // Whether a text or a byte string begins with another.

@@ -2,8 +2,7 @@
 ghost use Rattle.std.specs.Prelude.{◌≡◌, IfOk, MatchOption, Option, Some, false, true};
 ghost use Rattle.table_keys.specs.declared.key.KeyValue.{KeyValue};
 ghost use Rattle.table_keys.specs.declared.query.SortCondition.{SortCondition};
-ghost use Rattle.table_keys.specs.Ranges.{IsKindEnd, IsKindStart, IsPlaceAt, IsRangeOf, MeetsBetween, MeetsNone, is_from_sort};
-ghost use Rattle.table_keys.specs.Ranges.{lies_before, lies_from_to, lies_onward, lies_up_to};
+ghost use Rattle.table_keys.specs.Ranges.{IsKindEnd, IsKindStart, IsPlaceAt, MeetsBetween, MeetsNone, is_from_sort};
 
 use crate::prefix::{bytes_past, text_past};
 use crate::{KeyValue, Number, SortCondition};
@@ -39,69 +38,33 @@ impl SortCondition<'_> {
                 low: SortPlace::first(),
                 high: None,
             })),
-            SortCondition::Equal(value) => SortRange::between(value, value),
-            SortCondition::Less(value) => SortRange::up_to(alloc, value, false),
-            SortCondition::LessOrEqual(value) => SortRange::up_to(alloc, value, true),
-            SortCondition::Greater(value) => SortRange::onward(alloc, value, true),
-            SortCondition::GreaterOrEqual(value) => SortRange::onward(alloc, value, false),
-            SortCondition::Between(low, high) if low.rank() == high.rank() => {
-                SortRange::between(low, high)
-            }
+            SortCondition::Equal(value) => Ok(Some(SortRange {
+                low: SortPlace::at(value, false)?,
+                high: Some(SortPlace::at(value, true)?),
+            })),
+            SortCondition::Less(value) => Ok(Some(SortRange {
+                low: SortPlace::of_kind(alloc, value),
+                high: Some(SortPlace::at(value, false)?),
+            })),
+            SortCondition::LessOrEqual(value) => Ok(Some(SortRange {
+                low: SortPlace::of_kind(alloc, value),
+                high: Some(SortPlace::at(value, true)?),
+            })),
+            SortCondition::Greater(value) => Ok(Some(SortRange {
+                low: SortPlace::at(value, true)?,
+                high: SortPlace::past_kind(alloc, value),
+            })),
+            SortCondition::GreaterOrEqual(value) => Ok(Some(SortRange {
+                low: SortPlace::at(value, false)?,
+                high: SortPlace::past_kind(alloc, value),
+            })),
+            SortCondition::Between(low, high) if low.rank() == high.rank() => Ok(Some(SortRange {
+                low: SortPlace::at(low, false)?,
+                high: Some(SortPlace::at(high, true)?),
+            })),
             SortCondition::Between(..) => Ok(None),
             SortCondition::BeginsWith(prefix) => prefixed(alloc, prefix),
         }
-    }
-}
-
-impl SortRange {
-    // Returns the range of the sort keys from one value up to another, both included.
-    fn between(low: &KeyValue, high: &KeyValue) -> Result<Option<SortRange>, AllocError>
-        ensures { IfOk result (IsRangeOf (lies_from_to low.now high.now)) }
-    {
-        Ok(Some(SortRange {
-            low: SortPlace::at(low, false)?,
-            high: Some(SortPlace::at(high, true)?),
-        }))
-    }
-
-    // Returns the range of the values of the value's kind up to the place just before the value, or
-    // just behind it.
-    fn up_to(
-        alloc: Global,
-        value: &KeyValue,
-        is_behind: bool,
-    ) -> Result<Option<SortRange>, AllocError>
-        ensures { IfOk result (IsRangeOf (lies_up_to is_behind value.now)) }
-    {
-        Ok(Some(SortRange {
-            low: SortPlace::of_kind(alloc, value),
-            high: Some(SortPlace::at(value, is_behind)?),
-        }))
-    }
-
-    // Returns the range of the values of the value's kind from the place just before the value, or
-    // just behind it.
-    fn onward(
-        alloc: Global,
-        value: &KeyValue,
-        is_behind: bool,
-    ) -> Result<Option<SortRange>, AllocError>
-        ensures { IfOk result (IsRangeOf (lies_onward is_behind value.now)) }
-    {
-        Ok(Some(SortRange {
-            low: SortPlace::at(value, is_behind)?,
-            high: SortPlace::past_kind(alloc, value),
-        }))
-    }
-
-    // Returns the range of the sort keys from one value on and before another.
-    fn until(value: &KeyValue, end: KeyValue) -> Result<Option<SortRange>, AllocError>
-        ensures { IfOk result (IsRangeOf (lies_before value.now end)) }
-    {
-        Ok(Some(SortRange {
-            low: SortPlace::at(value, false)?,
-            high: Some(SortPlace::first_at(end)),
-        }))
     }
 }
 
@@ -110,15 +73,28 @@ fn prefixed(alloc: Global, prefix: &KeyValue) -> Result<Option<SortRange>, Alloc
     ensures { IfOk result (λ range. MatchOption range (MeetsNone (SortCondition.BeginsWith prefix.entry))
         (MeetsBetween (SortCondition.BeginsWith prefix.entry))) }
 {
+    let low = SortPlace::at(prefix, false)?;
     match prefix {
         KeyValue::S(text) => match text_past(text)? {
-            Some(past) => SortRange::until(prefix, KeyValue::S(past)),
-            None => SortRange::onward(alloc, prefix, false),
+            Some(past) => Ok(Some(SortRange {
+                low,
+                high: Some(SortPlace::first_at(KeyValue::S(past))),
+            })),
+            None => Ok(Some(SortRange {
+                low,
+                high: SortPlace::past_kind(alloc, prefix),
+            })),
         },
         KeyValue::N(_) => Ok(None),
         KeyValue::B(bytes) => match bytes_past(bytes)? {
-            Some(past) => SortRange::until(prefix, KeyValue::B(past)),
-            None => SortRange::onward(alloc, prefix, false),
+            Some(past) => Ok(Some(SortRange {
+                low,
+                high: Some(SortPlace::first_at(KeyValue::B(past))),
+            })),
+            None => Ok(Some(SortRange {
+                low,
+                high: SortPlace::past_kind(alloc, prefix),
+            })),
         },
     }
 }

@@ -1,39 +1,31 @@
-use Rattle.std.proofs.Common.{false}
-use Rattle.table_keys.specs.Ranges.{lies_before, lies_onward}
+use Rattle.std.proofs.Common.{arith, string_bytes, refl, None, Some}
+use Rattle.std.proofs.lemmas.Str.{IsUtf8-string_bytes}
 use Rattle.table_keys.specs.declared.key.KeyValue.{KeyValue}
-use Rattle.table_keys.specs.declared.query.SortCondition.{SortCondition}
-use Rattle.table_keys.proofs.Meets.{tested}
-use Rattle.table_keys.proofs.Prefixed.{bytes_before, bytes_onward, text_before, text_onward}
 use Rattle.table_keys.proofs.sort_range.prefixed.Goals as goal
 
 pub returns-in-Some : goal.returns-in-Some
-returns-in-Some c =
-    let prefix = c.args.prefix in
-    let past = c.in-Some.past in
+returns-in-Some c None held = rw (c.in_ok-low.ensures None) refl
+returns-in-Some c (Some (KeyValue.S w)) held =
     let up_to = rw c.in-Some.is at c.in_ok-past-in-S.ensures in
-    tested (SortCondition.BeginsWith prefix) (lies_before prefix.now (KeyValue.S past))
-    (text_before prefix c.in-S.text c.in-S.is past up_to) c.until.result c.until.ensures
+    rw (
+      c.in-S.is,
+      c.in_ok-low.ensures (Some (KeyValue.S w)),
+      c.first_at.ensures.0,
+      c.first_at.ensures.1,
+    )
+    (grind (arith, up_to (string_bytes w) (IsUtf8-string_bytes w)))
+returns-in-Some c (Some w) held =
+    rw (c.in_ok-low.ensures (Some w), c.first_at.ensures.0, c.first_at.ensures.1, c.in-S.is) refl
 
 pub returns-in-None : goal.returns-in-None
-returns-in-None c =
-    let prefix = c.args.prefix in
-    let all = rw c.in-None.is at c.in_ok-past-in-S.ensures in
-    tested (SortCondition.BeginsWith prefix) (lies_onward false prefix.now)
-    (text_onward prefix c.in-S.text c.in-S.is all) c.onward.result c.onward.ensures
-
-pub returns-in-Some-2 : goal.returns-in-Some-2
-returns-in-Some-2 c =
-    let prefix = c.args.prefix in
-    let past = c.in-Some-2.past in
-    let up_to = rw c.in-Some-2.is at c.in_ok-past-in-B.ensures in
-    tested (SortCondition.BeginsWith prefix) (lies_before prefix.now (KeyValue.B past))
-    (bytes_before prefix c.in-B.bytes c.in-B.is past up_to)
-    c.until-in-Some-2.result c.until-in-Some-2.ensures
-
-pub returns-in-None-2 : goal.returns-in-None-2
-returns-in-None-2 c =
-    let prefix = c.args.prefix in
-    let all = rw c.in-None-2.is at c.in_ok-past-in-B.ensures in
-    tested (SortCondition.BeginsWith prefix) (lies_onward false prefix.now)
-    (bytes_onward prefix c.in-B.bytes c.in-B.is all)
-    c.onward-in-None-2.result c.onward-in-None-2.ensures
+returns-in-None c None held = rw (c.in_ok-low.ensures None) refl
+returns-in-None c (Some (KeyValue.S w)) held =
+    let up_to = rw c.in-None.is at c.in_ok-past-in-S.ensures in
+    rw (
+      c.in-S.is,
+      c.in_ok-low.ensures (Some (KeyValue.S w)),
+      c.past_kind.ensures (Some (KeyValue.S w)) held,
+    )
+    (grind (arith, up_to (string_bytes w) (IsUtf8-string_bytes w)))
+returns-in-None c (Some w) held =
+    rw (c.in_ok-low.ensures (Some w), c.past_kind.ensures (Some w) held, c.in-S.is) refl

@@ -3,10 +3,9 @@ use Rattle.table_keys.specs.Ranges.{FindsBetween, FindsNone}
 use Rattle.table_keys.proofs.PlaceBytes.{bounded}
 use Rattle.table_keys.proofs.bounds.Bounds.of_query.Goals as goal
 
-pub returns-in_ok-of_range-in-Some : goal.returns-in_ok-of_range-in-Some
-returns-in_ok-of_range-in-Some c =
+pub returns : goal.returns
+returns c =
     let query = c.args.query.now in
     let between : FindsBetween query c.in-Some.range =
     subst (λ o. MatchOption o (FindsNone query) (FindsBetween query)) c.in-Some.is c.in_ok-range.ensures in
-    let bounds = c.in_ok-of_range-in-Some in
-    bounded query c.in-Some.range bounds.field-0 between bounds.ensures
+    bounded query c.in-Some.range (record { low = c.in_ok-place_bytes.field-0; high = c.in_ok-place_bytes-2.field-0 }) between c.in_ok-place_bytes.ensures c.in_ok-place_bytes-2.ensures

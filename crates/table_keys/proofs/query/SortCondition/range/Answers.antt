@@ -1,47 +1,44 @@
-use Rattle.std.proofs.Common.{◌≡◌, true, false, arith}
+use Rattle.std.proofs.Common.{◌≡◌, arith}
 use Rattle.table_keys.specs.KeyOrder.{kind_rank}
-use Rattle.table_keys.specs.Ranges.{lies_from_to, lies_onward, lies_up_to}
-use Rattle.table_keys.specs.declared.query.SortCondition.{SortCondition}
-use Rattle.table_keys.proofs.Meets.{one_bound, tested, two_bounds}
+use Rattle.table_keys.proofs.Meets.{one_bound, two_bounds}
 use Rattle.table_keys.proofs.query.SortCondition.range.Goals as goal
 
-pub returns-in-Equal : goal.returns-in-Equal
-returns-in-Equal c =
-    let b = c.in-Equal.value in
-    rw c.in-Equal.is (tested (SortCondition.Equal b) (lies_from_to b.now b.now)
-    (λ sort held. (one_bound b sort).0) c.between.result c.between.ensures)
+pub returns-in_ok-at-in-Equal-2 : goal.returns-in_ok-at-in-Equal-2
+returns-in_ok-at-in-Equal-2 c = λ sort held.
+    rw (c.in-Equal.is, c.in_ok-at-in-Equal.ensures sort, c.in_ok-at-in-Equal-2.ensures sort)
+    (one_bound c.in-Equal.value sort).0
 
-pub returns-in-Less : goal.returns-in-Less
-returns-in-Less c =
-    let b = c.in-Less.value in
-    rw c.in-Less.is (tested (SortCondition.Less b) (lies_up_to false b.now)
-    (λ sort held. (one_bound b sort).1) c.up_to.result c.up_to.ensures)
+pub returns-in_ok-at-in-Less : goal.returns-in_ok-at-in-Less
+returns-in_ok-at-in-Less c = λ sort held.
+    rw (c.in-Less.is, c.of_kind.ensures sort held, c.in_ok-at-in-Less.ensures sort)
+    (one_bound c.in-Less.value sort).1
 
-pub returns-in-LessOrEqual : goal.returns-in-LessOrEqual
-returns-in-LessOrEqual c =
-    let b = c.in-LessOrEqual.value in
-    let call = c.up_to-in-LessOrEqual in
-    rw c.in-LessOrEqual.is (tested (SortCondition.LessOrEqual b) (lies_up_to true b.now)
-    (λ sort held. (one_bound b sort).2) call.result call.ensures)
+pub returns-in_ok-at-in-LessOrEqual : goal.returns-in_ok-at-in-LessOrEqual
+returns-in_ok-at-in-LessOrEqual c = λ sort held.
+    rw (
+      c.in-LessOrEqual.is,
+      c.of_kind-in-LessOrEqual.ensures sort held,
+      c.in_ok-at-in-LessOrEqual.ensures sort,
+    )
+    (one_bound c.in-LessOrEqual.value sort).2
 
-pub returns-in-Greater : goal.returns-in-Greater
-returns-in-Greater c =
-    let b = c.in-Greater.value in
-    rw c.in-Greater.is (tested (SortCondition.Greater b) (lies_onward true b.now)
-    (λ sort held. (one_bound b sort).3) c.onward.result c.onward.ensures)
+pub returns-in_ok-at-in-Greater : goal.returns-in_ok-at-in-Greater
+returns-in_ok-at-in-Greater c = λ sort held.
+    rw (c.in-Greater.is, c.in_ok-at-in-Greater.ensures sort, c.past_kind.ensures sort held)
+    (one_bound c.in-Greater.value sort).3
 
-pub returns-in-GreaterOrEqual : goal.returns-in-GreaterOrEqual
-returns-in-GreaterOrEqual c =
-    let b = c.in-GreaterOrEqual.value in
-    let call = c.onward-in-GreaterOrEqual in
-    rw c.in-GreaterOrEqual.is (tested (SortCondition.GreaterOrEqual b) (lies_onward false b.now)
-    (λ sort held. (one_bound b sort).4) call.result call.ensures)
+pub returns-in_ok-at-in-GreaterOrEqual : goal.returns-in_ok-at-in-GreaterOrEqual
+returns-in_ok-at-in-GreaterOrEqual c = λ sort held.
+    rw (
+      c.in-GreaterOrEqual.is,
+      c.in_ok-at-in-GreaterOrEqual.ensures sort,
+      c.past_kind-in-GreaterOrEqual.ensures sort held,
+    )
+    (one_bound c.in-GreaterOrEqual.value sort).4
 
-pub returns-in-Between : goal.returns-in-Between
-returns-in-Between c =
-    let low = c.in-Between.low in
-    let high = c.in-Between.high in
-    let same : kind_rank low.now ≡ kind_rank high.now = omega arith in
-    let call = c.between-in-Between in
-    rw c.in-Between.is (tested (SortCondition.Between low high) (lies_from_to low.now high.now)
-    (λ sort held. two_bounds low high sort same) call.result call.ensures)
+pub returns-in_ok-at-in-Between-2 : goal.returns-in_ok-at-in-Between-2
+returns-in_ok-at-in-Between-2 c = λ sort held.
+    let bounds = c.in-Between in
+    let same : kind_rank bounds.low.now ≡ kind_rank bounds.high.now = omega arith in
+    rw (bounds.is, c.in_ok-at-in-Between.ensures sort, c.in_ok-at-in-Between-2.ensures sort)
+    (two_bounds bounds.low bounds.high sort same)
