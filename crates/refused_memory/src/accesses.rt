@@ -1,6 +1,6 @@
 //! Rows of what stands in an access after a call. What is read in a box takes memory; what is read without takes none.
 
-use crate::answer::{Answer, Written};
+use crate::answer::{Written, say};
 use crate::stopped::Stopped;
 use crate::values;
 use serde_dynamo::de::{
@@ -18,16 +18,18 @@ const TWO_ENTRIES: &str = r#"{"1":{"N":"10"},"2":{"N":"20"}}"#;
 
 fn print_key<A: MapAccess<Error = Error>>(rt: &HostRuntime, mut map: A) -> Result<(), Stopped> {
     let alloc = rt.alloc();
-    let key = map.next_key_seed(TypeSeed::<Box<u8>>::new(alloc));
-    let left = map.size_hint();
-    let value = map.next_value_seed(TypeSeed::<u8>::new(alloc));
-    let next = map.next_key_seed(TypeSeed::<u8>::new(alloc));
-    println!(rt;
-        "key: {} | left: {left:?} | value: {} | key: {}",
-        Answer(&key),
-        Answer(&value),
-        Answer(&next)
+    say(
+        rt,
+        "key",
+        map.next_key_seed(TypeSeed::<Box<u8>>::new(alloc)),
     )?;
+    print!(rt; " | left: {:?}", map.size_hint())?;
+    say(
+        rt,
+        " | value",
+        map.next_value_seed(TypeSeed::<u8>::new(alloc)),
+    )?;
+    say(rt, " | key", map.next_key_seed(TypeSeed::<u8>::new(alloc)))?;
     Ok(())
 }
 
@@ -51,18 +53,19 @@ pub fn next_lent_key(rt: &HostRuntime) -> Result<(), Stopped> {
 
 fn print_value<A: MapAccess<Error = Error>>(rt: &HostRuntime, mut map: A) -> Result<(), Stopped> {
     let alloc = rt.alloc();
-    let key = map.next_key_seed(TypeSeed::<u8>::new(alloc));
-    let value = map.next_value_seed(TypeSeed::<Box<u8>>::new(alloc));
-    let again = map.next_value_seed(TypeSeed::<u8>::new(alloc));
-    let left = map.size_hint();
-    let next: Result<Option<(u8, u8)>> = map.next_entry(alloc);
-    println!(rt;
-        "key: {} | value: {} | value: {} | left: {left:?} | entry: {}",
-        Answer(&key),
-        Answer(&value),
-        Answer(&again),
-        Answer(&next)
+    say(rt, "key", map.next_key_seed(TypeSeed::<u8>::new(alloc)))?;
+    say(
+        rt,
+        " | value",
+        map.next_value_seed(TypeSeed::<Box<u8>>::new(alloc)),
     )?;
+    say(
+        rt,
+        " | value",
+        map.next_value_seed(TypeSeed::<u8>::new(alloc)),
+    )?;
+    print!(rt; " | left: {:?}", map.size_hint())?;
+    say(rt, " | entry", map.next_entry::<u8, u8>(alloc))?;
     Ok(())
 }
 
@@ -85,25 +88,31 @@ pub fn next_lent_value(rt: &HostRuntime) -> Result<(), Stopped> {
 }
 
 // Prints an element that is read in a box, and then the next one and that there is no third.
-fn print_elements<T: Deserialize + Debug, A: SeqAccess<Error = Error>>(
+fn print_elements<T: Deserialize + Debug + Drop, A: SeqAccess<Error = Error>>(
     rt: &HostRuntime,
     mut seq: A,
 ) -> Result<(), Stopped> {
     let alloc = rt.alloc();
-    let first = seq.next_element_seed(TypeSeed::<Box<T>>::new(alloc));
-    let second = seq.next_element_seed(TypeSeed::<T>::new(alloc));
-    let third = seq.next_element_seed(TypeSeed::<T>::new(alloc));
-    println!(rt;
-        "first: {} | second: {} | third: {}",
-        Answer(&first),
-        Answer(&second),
-        Answer(&third)
+    say(
+        rt,
+        "first",
+        seq.next_element_seed(TypeSeed::<Box<T>>::new(alloc)),
+    )?;
+    say(
+        rt,
+        " | second",
+        seq.next_element_seed(TypeSeed::<T>::new(alloc)),
+    )?;
+    say(
+        rt,
+        " | third",
+        seq.next_element_seed(TypeSeed::<T>::new(alloc)),
     )?;
     Ok(())
 }
 
 // The same of the elements that a reader gives.
-fn print_elements_read<T: Deserialize + Debug, R: Reader<Error = Error>>(
+fn print_elements_read<T: Deserialize + Debug + Drop, R: Reader<Error = Error>>(
     rt: &HostRuntime,
     reader: R,
 ) -> Result<(), Stopped> {
@@ -112,7 +121,7 @@ fn print_elements_read<T: Deserialize + Debug, R: Reader<Error = Error>>(
 }
 
 // The same of a value that is lent.
-fn print_lent<T: Deserialize + Debug>(
+fn print_lent<T: Deserialize + Debug + Drop>(
     rt: &HostRuntime,
     value: &AttributeValue,
 ) -> Result<(), Stopped> {
@@ -188,11 +197,12 @@ pub fn entries(rt: &HostRuntime) -> Result<(), Stopped> {
     let mut item = Item::from(values::map(alloc, TWO_ENTRIES)?);
     let clone = item.clone()?;
     let entries = DeserializerMap::from_item(alloc, item.inner_mut());
+    let left = entries.map(|entries| entries.size_hint());
     let same = item == clone;
-    println!(rt;
-        "from_item: {} | left: {:?} | as before: {same}",
-        Answer(&entries.map(|entries| entries.size_hint())),
+    say(rt, "from_item", left)?;
+    print!(rt;
+        " | left: {:?}",
         Written(AttributeValue::M(item.into_inner()))
     )?;
-    Ok(())
+    Ok(print!(rt; " | as before: {same}")?)
 }

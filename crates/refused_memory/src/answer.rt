@@ -1,11 +1,18 @@
-//! What is printed of answers. Printing takes no memory.
+//! What is printed of what a call returned. Printing takes no memory.
 
 use serde_dynamo::{AttributeValue, ErrorImpl, Result};
 use serde_json::Value;
 use std::collections::HashMap;
 use std::fmt::{self, Debug, Formatter, Write};
+use std::io;
 
-/// An answer: the value, or the kind of the fault.
+/// Prints a label, and behind it what a call returned: the value, or the kind of the error. The returned value is dropped before
+/// the next call, so that few values are alive in a row.
+pub fn say<T: Debug + Drop>(rt: &HostRuntime, label: &str, returned: Result<T>) -> io::Result<()> {
+    print!(rt; "{label}: {}", Answer(&returned))
+}
+
+/// What a call returned: the value, or the kind of the error.
 #[derive(Drop)]
 pub struct Answer<'a, T>(pub &'a Result<T>);
 

@@ -1,30 +1,20 @@
 //! Values that are read twice, lent and then taken.
 
-use crate::answer::Answer;
+use crate::answer::say;
+use crate::stopped::Stopped;
 use serde_dynamo::de::Deserialize;
-use serde_dynamo::{AttributeValue, LentDeserializer, Result, from_attribute_value};
-use std::alloc::Global;
-use std::fmt::{self, Debug, Formatter, Write};
+use serde_dynamo::{AttributeValue, LentDeserializer, from_attribute_value};
+use std::fmt::Debug;
 
-/// What a value reads as where it is taken, and where it is lent. It is printed as two answers, the other behind ` | lent: `.
-#[derive(Drop)]
-pub struct Both<T> {
-    taken: Result<T>,
-    lent: Result<T>,
-}
-
-impl<T: Deserialize> Both<T> {
-    /// Reads the value twice.
-    pub fn of(alloc: Global, value: AttributeValue) -> Both<T> {
-        let lent = LentDeserializer::from_attribute_value(alloc, &value);
-        let lent = T::deserialize(alloc, lent);
-        let taken = from_attribute_value(alloc, value);
-        Both { taken, lent }
-    }
-}
-
-impl<T: Debug> fmt::Display for Both<T> {
-    fn fmt<W: Write>(&self, f: &mut Formatter<W>) -> fmt::Result {
-        write!(f, "{} | lent: {}", Answer(&self.taken), Answer(&self.lent))
-    }
+/// Prints what a value reads as where it is taken, behind the label, and where it is lent, behind ` | lent`. It is read lent first.
+pub fn say_both<T: Deserialize + Debug + Drop>(
+    rt: &HostRuntime,
+    label: &str,
+    value: AttributeValue,
+) -> Result<(), Stopped> {
+    let alloc = rt.alloc();
+    let lent = LentDeserializer::from_attribute_value(alloc, &value);
+    let lent = T::deserialize(alloc, lent);
+    say(rt, label, from_attribute_value::<T>(alloc, value))?;
+    Ok(say(rt, " | lent", lent)?)
 }

@@ -1,7 +1,7 @@
 //! Rows of what stands in a builder after a call. The builders hold what fills their lists, or nearly so, so that one of the
 //! calls lets the list grow.
 
-use crate::answer::{Answer, Written};
+use crate::answer::{Written, say};
 use crate::stopped::Stopped;
 use serde_dynamo::ser::{
     SerializeMap, SerializeSeq, SerializeStruct, SerializeStructVariant, SerializeTuple,
@@ -12,22 +12,6 @@ use serde_dynamo::{
     SerializerStructVariant, SerializerTupleVariant, Text,
 };
 
-// Prints what the fourth call, the fifth and the end answer.
-fn print_answers(
-    rt: &HostRuntime,
-    fourth: &Result<()>,
-    fifth: &Result<()>,
-    end: Result<AttributeValue>,
-) -> Result<(), Stopped> {
-    println!(rt;
-        "fourth: {} | fifth: {} | end: {}",
-        Answer(fourth),
-        Answer(fifth),
-        Answer(&end.map(Written))
-    )?;
-    Ok(())
-}
-
 // Gives a builder of a list five elements, and prints what the last two calls and the end answer.
 macro_rules! elements {
     ($rt:expr, $builder:expr, $Trait:ident, $call:ident) => {{
@@ -35,9 +19,9 @@ macro_rules! elements {
         for n in 0..3_u8 {
             $Trait::$call(&mut builder, &n)?;
         }
-        let fourth = $Trait::$call(&mut builder, &3_u8);
-        let fifth = $Trait::$call(&mut builder, &4_u8);
-        print_answers($rt, &fourth, &fifth, $Trait::end(builder))
+        say($rt, "fourth", $Trait::$call(&mut builder, &3_u8))?;
+        say($rt, " | fifth", $Trait::$call(&mut builder, &4_u8))?;
+        Ok(say($rt, " | end", $Trait::end(builder).map(Written))?)
     }};
 }
 
@@ -48,9 +32,9 @@ macro_rules! fields {
         for (name, n) in [("a", 0_u8), ("b", 1), ("c", 2)] {
             $Trait::serialize_field(&mut builder, name, &n)?;
         }
-        let fourth = $Trait::serialize_field(&mut builder, "d", &3_u8);
-        let fifth = $Trait::serialize_field(&mut builder, "e", &4_u8);
-        print_answers($rt, &fourth, &fifth, $Trait::end(builder))
+        say($rt, "fourth", $Trait::serialize_field(&mut builder, "d", &3_u8))?;
+        say($rt, " | fifth", $Trait::serialize_field(&mut builder, "e", &4_u8))?;
+        Ok(say($rt, " | end", $Trait::end(builder).map(Written))?)
     }};
 }
 
@@ -102,32 +86,17 @@ fn four_entries(rt: &HostRuntime) -> Result<SerializerMap, Stopped> {
 /// A key of a map, its value, and a value too much.
 pub fn key_and_value(rt: &HostRuntime) -> Result<(), Stopped> {
     let mut map = four_entries(rt)?;
-    let key = map.serialize_key(&Text::new("key"));
-    let value = map.serialize_value(&5_u8);
-    let another = map.serialize_value(&6_u8);
-    let end = map.end();
-    println!(rt;
-        "key: {} | value: {} | value: {} | end: {}",
-        Answer(&key),
-        Answer(&value),
-        Answer(&another),
-        Answer(&end.map(Written))
-    )?;
-    Ok(())
+    say(rt, "key", map.serialize_key(&Text::new("key")))?;
+    say(rt, " | value", map.serialize_value(&5_u8))?;
+    say(rt, " | value", map.serialize_value(&6_u8))?;
+    Ok(say(rt, " | end", map.end().map(Written))?)
 }
 
 /// An entry of a map while a key waits, and then the value of that key.
 pub fn entry(rt: &HostRuntime) -> Result<(), Stopped> {
     let mut map = four_entries(rt)?;
     map.serialize_key(&Text::new("key"))?;
-    let entry = map.serialize_entry(&Text::new("entry"), &5_u8);
-    let value = map.serialize_value(&6_u8);
-    let end = map.end();
-    println!(rt;
-        "entry: {} | value: {} | end: {}",
-        Answer(&entry),
-        Answer(&value),
-        Answer(&end.map(Written))
-    )?;
-    Ok(())
+    say(rt, "entry", map.serialize_entry(&Text::new("entry"), &5_u8))?;
+    say(rt, " | value", map.serialize_value(&6_u8))?;
+    Ok(say(rt, " | end", map.end().map(Written))?)
 }

@@ -1,6 +1,6 @@
 //! A row of a derived type.
 
-use crate::answer::{Answer, Written};
+use crate::answer::{Written, say};
 use crate::stopped::Stopped;
 use derived_types::Order;
 use serde_dynamo::Result;
@@ -11,11 +11,12 @@ pub fn order(rt: &HostRuntime) -> Result<(), Stopped> {
     let order = Order::new(alloc)?;
     let value = dynamo_serde::to_attribute_value(alloc, &order)?;
     let written = dynamo_serde::to_attribute_value(alloc, &order);
+    say(rt, "to_attribute_value", written.map(Written))?;
     let read: Result<Order> = dynamo_serde::from_attribute_value(alloc, value);
-    println!(rt;
-        "to_attribute_value: {} | from_attribute_value: {}",
-        Answer(&written.map(Written)),
-        Answer(&read.map(|order| (order.item_count, order.tags.len(), order.stock.len())))
-    )?;
+    say(rt, " | from_attribute_value", read.map(sizes))?;
     Ok(())
+}
+
+fn sizes(order: Order) -> (u32, usize, usize) {
+    (order.item_count, order.tags.len(), order.stock.len())
 }

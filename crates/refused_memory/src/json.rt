@@ -1,6 +1,6 @@
 //! Rows of DynamoDB JSON.
 
-use crate::answer::{Answer, Json, Written};
+use crate::answer::{Json, Written, say};
 use crate::stopped::Stopped;
 use crate::values;
 use serde_dynamo::{AttributeValue, DynamoJson, Error};
@@ -26,14 +26,16 @@ pub fn ten_kinds(rt: &HostRuntime) -> Result<(), Stopped> {
     let alloc = rt.alloc();
     let json = values::json(alloc, TEN_KINDS)?;
     let value = values::value(alloc, TEN_KINDS)?;
-    let written = value.to_json(alloc);
-    let read = AttributeValue::from_json(alloc, &json);
-    let cloned = value.clone().map_err(Error::from);
-    println!(rt;
-        "to_json: {} | from_json: {} | clone: {}",
-        Answer(&written.map(Json)),
-        Answer(&read.map(Written)),
-        Answer(&cloned.map(Written))
+    say(rt, "to_json", value.to_json(alloc).map(Json))?;
+    say(
+        rt,
+        " | from_json",
+        AttributeValue::from_json(alloc, &json).map(Written),
+    )?;
+    say(
+        rt,
+        " | clone",
+        value.clone().map_err(Error::from).map(Written),
     )?;
     Ok(())
 }
@@ -47,11 +49,11 @@ pub fn refused(rt: &HostRuntime) -> Result<(), Stopped> {
     }
     for (i, (text, json)) in refused.iter().enumerate() {
         print!(rt; "{}", if i == 0 { "" } else { " | " })?;
-        print!(rt;
-            "{text}: {}",
-            Answer(&AttributeValue::from_json(alloc, json).map(Written))
+        say(
+            rt,
+            text,
+            AttributeValue::from_json(alloc, json).map(Written),
         )?;
     }
-    println!(rt; "")?;
     Ok(())
 }

@@ -37,24 +37,21 @@ const TEXT: &str = r#"{"a":{"L":[{"N":"1"},{"S":"x"}]}}"#;
 pub fn taken(rt: &HostRuntime) -> Result<(), Stopped> {
     let value = AttributeValue::M(values::map(rt.alloc(), TEXT)?);
     let read = from_attribute_value_located::<Lists>(rt.alloc(), value);
-    println!(rt; "read: {}", At(&read))?;
-    Ok(())
+    Ok(print!(rt; "read: {}", At(&read))?)
 }
 
 /// The same, by the reader of what is lent.
 pub fn lent(rt: &HostRuntime) -> Result<(), Stopped> {
     let item = values::item(rt.alloc(), TEXT)?;
     let read = from_item_ref_located::<Lists>(rt.alloc(), &item);
-    println!(rt; "read: {}", At(&read))?;
-    Ok(())
+    Ok(print!(rt; "read: {}", At(&read))?)
 }
 
 /// JSON with a key that is no data type descriptor.
 pub fn json(rt: &HostRuntime) -> Result<(), Stopped> {
     let json = values::json(rt.alloc(), r#"{"M":{"a":{"L":[{"N":"1"},{"X":"x"}]}}}"#)?;
     let read = AttributeValue::from_json_located(rt.alloc(), &json);
-    println!(rt; "from_json: {}", At(&read.map(|_| "a value")))?;
-    Ok(())
+    Ok(print!(rt; "from_json: {}", At(&read.map(|_| "a value")))?)
 }
 
 /// A number in a set of strings, written.
@@ -62,14 +59,12 @@ pub fn written(rt: &HostRuntime) -> Result<(), Stopped> {
     let numbers = vec![in rt.alloc(); 1u8]?;
     let value = (true, StringSet(&numbers));
     let written = to_attribute_value_located(rt.alloc(), &value);
-    println!(rt; "write: {}", At(&written.map(|_| "a value")))?;
-    Ok(())
+    Ok(print!(rt; "write: {}", At(&written.map(|_| "a value")))?)
 }
 
 /// A string in a list of numbers, by `dynamo_serde`.
 pub fn derived(rt: &HostRuntime) -> Result<(), Stopped> {
     let item = values::item(rt.alloc(), TEXT)?;
     let read = dynamo_serde::read_item_located::<Lists>(rt.alloc(), &item);
-    println!(rt; "read: {}", At(&read))?;
-    Ok(())
+    Ok(print!(rt; "read: {}", At(&read))?)
 }

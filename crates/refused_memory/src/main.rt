@@ -44,13 +44,13 @@ fn run(rt: &HostRuntime, row: &str) -> Result<(), Stopped> {
     if let Some(done) = steps::run(rt, row) {
         return done;
     }
-    Ok(println!(rt; "no such row")?)
+    Ok(print!(rt; "no such row")?)
 }
 
 // Ends the line of a row: where its values were not made, by that.
 fn end_line(rt: &HostRuntime, row: Result<(), Stopped>) -> io::Result<()> {
     match row {
-        Ok(()) => Ok(()),
+        Ok(()) => println!(rt; ""),
         Err(Stopped::Making(error)) => println!(rt; "making: {error}"),
         Err(Stopped::Printing(error)) => Err(error),
     }

@@ -1,8 +1,8 @@
 //! Rows that read.
 
 use crate::account::Account;
-use crate::answer::Answer;
-use crate::both::Both;
+use crate::answer::say;
+use crate::both::say_both;
 use crate::stopped::Stopped;
 use crate::values;
 use serde_dynamo::de::{Deserialize, IgnoredAny};
@@ -21,20 +21,37 @@ pub fn account(rt: &HostRuntime) -> Result<(), Stopped> {
     let item = to_item(alloc, &account)?;
     let items = two_items(alloc, &account)?;
     let lent = LentDeserializer::from_attribute_value(alloc, &value);
-    let of_lent: Result<Account> = Account::deserialize(alloc, lent);
-    let of_value: Result<Account> = from_attribute_value(alloc, value);
-    let of_lent_item: Result<Account> = from_item_ref(alloc, &item);
-    let of_item: Result<Account> = from_item(alloc, item);
-    let of_items: Result<Vec<Account>> = from_items(alloc, items);
-    println!(rt;
-        "lent: {} | from_attribute_value: {} | from_item_ref: {} | from_item: {} | from_items: {}",
-        Answer(&of_lent.map(|read| told(read == account))),
-        Answer(&of_value.map(|read| told(read == account))),
-        Answer(&of_lent_item.map(|read| told(read == account))),
-        Answer(&of_item.map(|read| told(read == account))),
-        Answer(&of_items.map(|read| told(are_two(&read, &account))))
+    say_read(rt, "lent", Account::deserialize(alloc, lent), &account)?;
+    say_read(
+        rt,
+        " | from_attribute_value",
+        from_attribute_value(alloc, value),
+        &account,
+    )?;
+    say_read(
+        rt,
+        " | from_item_ref",
+        from_item_ref(alloc, &item),
+        &account,
+    )?;
+    say_read(rt, " | from_item", from_item(alloc, item), &account)?;
+    let read: Result<Vec<Account>> = from_items(alloc, items);
+    say(
+        rt,
+        " | from_items",
+        read.map(|read| told(are_two(&read, &account))),
     )?;
     Ok(())
+}
+
+// Whether what was read is the account.
+fn say_read(
+    rt: &HostRuntime,
+    label: &str,
+    read: Result<Account>,
+    account: &Account,
+) -> Result<(), Stopped> {
+    Ok(say(rt, label, read.map(|read| told(read == *account)))?)
 }
 
 fn two_items(alloc: Global, account: &Account) -> Result<Items> {
@@ -67,13 +84,9 @@ pub fn too_short(rt: &HostRuntime) -> Result<(), Stopped> {
     print_read::<(u8, u8)>(rt, r#"{"L":[{"N":"1"}]}"#)
 }
 
-fn print_read<T: Deserialize + Debug>(rt: &HostRuntime, text: &str) -> Result<(), Stopped> {
+fn print_read<T: Deserialize + Debug + Drop>(rt: &HostRuntime, text: &str) -> Result<(), Stopped> {
     let value = values::value(rt.alloc(), text)?;
-    println!(rt;
-        "from_attribute_value: {}",
-        Both::<T>::of(rt.alloc(), value)
-    )?;
-    Ok(())
+    say_both::<T>(rt, "from_attribute_value", value)
 }
 
 /// A text and a byte string, which are copied where they are lent.
@@ -81,12 +94,8 @@ pub fn texts(rt: &HostRuntime) -> Result<(), Stopped> {
     let alloc = rt.alloc();
     let text = values::value(alloc, r#"{"S":"text"}"#)?;
     let bytes = values::value(alloc, r#"{"B":"AQI="}"#)?;
-    println!(rt;
-        "text: {} | bytes: {}",
-        Both::<String>::of(alloc, text),
-        Both::<ByteBuf>::of(alloc, bytes)
-    )?;
-    Ok(())
+    say_both::<String>(rt, "text", text)?;
+    say_both::<ByteBuf>(rt, " | bytes", bytes)
 }
 
 /// A map of two texts, ignored: what takes memory is the list of its entries.

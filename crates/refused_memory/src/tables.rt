@@ -64,7 +64,7 @@ fn print_left(rt: &HostRuntime, table: &Table, keys: &[Key]) -> io::Result<()> {
             print!(rt; " {}", note(item))?;
         }
     }
-    println!(rt; "")
+    Ok(())
 }
 
 // An item put in the table of three.

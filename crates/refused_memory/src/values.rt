@@ -18,6 +18,15 @@ pub fn value(alloc: Global, text: &str) -> Result<AttributeValue> {
     AttributeValue::from_json(alloc, &json(alloc, text)?)
 }
 
+/// The attribute values of these texts of DynamoDB JSON.
+pub fn each(alloc: Global, texts: &[&str]) -> Result<Vec<AttributeValue>> {
+    let mut values = Vec::with_capacity(alloc, texts.len())?;
+    for text in texts {
+        values.push(value(alloc, text)?)?;
+    }
+    Ok(values)
+}
+
 /// The item of this DynamoDB JSON.
 pub fn item(alloc: Global, text: &str) -> Result<Item> {
     Item::from_json(alloc, &json(alloc, text)?)

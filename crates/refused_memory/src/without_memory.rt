@@ -2,8 +2,8 @@
 ghost use Rattle.std.specs.Prelude.{codes};
 ghost use Rattle.serde_dynamo.specs.Datum as datum;
 
-use crate::answer::{Answer, Written};
-use crate::both::Both;
+use crate::answer::{Written, say};
+use crate::both::say_both;
 use crate::stopped::Stopped;
 use crate::values;
 use serde_dynamo::de::{Deserialize, EnumAccess, IgnoredAny, SeqAccess, VariantAccess};
@@ -14,8 +14,9 @@ use serde_dynamo::{
     Items, Result, SerializerMap, SerializerSeq, SerializerStruct, SerializerStructVariant,
     SerializerTupleVariant, is_float_text, to_attribute_value,
 };
-use std::alloc::Global;
 use std::collections::HashMap;
+use std::fmt::Debug;
+use std::vec::IntoIter;
 
 /// The accesses to the three kinds of sets and to a list, each made and asked for an element.
 pub fn sequences(rt: &HostRuntime) -> Result<(), Stopped> {
@@ -24,19 +25,27 @@ pub fn sequences(rt: &HostRuntime) -> Result<(), Stopped> {
     let numbers = vec![in alloc; String::from_str(alloc, "1")?]?;
     let byte_strings = vec![in alloc; vec![in alloc; 1, 2]?]?;
     let list = vec![in alloc; AttributeValue::Bool(true)]?;
-    let string = DeserializerSeqStrings::from_vec(alloc, strings).next_element::<String>(alloc);
-    let number = DeserializerSeqNumbers::from_vec(alloc, numbers).next_element::<u8>(alloc);
-    let mut byte_strings = DeserializerSeqBytes::from_vec(alloc, byte_strings);
-    let byte_string = byte_strings.next_element::<ByteBuf>(alloc);
-    let element = DeserializerSeq::from_vec(alloc, list).next_element::<bool>(alloc);
-    println!(rt;
-        "strings: {} | numbers: {} | byte strings: {} | list: {}",
-        Answer(&string),
-        Answer(&number),
-        Answer(&byte_string),
-        Answer(&element)
+    say_first::<String, _>(
+        rt,
+        "strings",
+        DeserializerSeqStrings::from_vec(alloc, strings),
     )?;
-    Ok(())
+    say_first::<u8, _>(
+        rt,
+        " | numbers",
+        DeserializerSeqNumbers::from_vec(alloc, numbers),
+    )?;
+    let byte_strings = DeserializerSeqBytes::from_vec(alloc, byte_strings);
+    say_first::<ByteBuf, _>(rt, " | byte strings", byte_strings)?;
+    say_first::<bool, _>(rt, " | list", DeserializerSeq::from_vec(alloc, list))
+}
+
+fn say_first<T: Deserialize + Debug + Drop, A: SeqAccess<Error = Error>>(
+    rt: &HostRuntime,
+    label: &str,
+    mut seq: A,
+) -> Result<(), Stopped> {
+    Ok(say(rt, label, seq.next_element::<T>(rt.alloc()))?)
 }
 
 /// A reader of an attribute value, of a variant and of a variant's content, each made and read.
@@ -46,16 +55,11 @@ pub fn variants(rt: &HostRuntime) -> Result<(), Stopped> {
     let item = values::map(alloc, r#"{"Newtype":{"N":"2"}}"#)?;
     let content = values::value(alloc, r#"{"N":"3"}"#)?;
     let read = u8::deserialize(alloc, Deserializer::from_attribute_value(alloc, value));
+    say(rt, "value", read)?;
     let named = DeserializerEnum::from_item(alloc, item).variant::<String>(alloc);
-    let named = named.map(|(name, _)| name);
+    say(rt, " | variant", named.map(|(name, _)| name))?;
     let content = DeserializerVariant::from_attribute_value(alloc, content);
-    let content = content.newtype_variant::<u8>(alloc);
-    println!(rt;
-        "value: {} | variant: {} | content: {}",
-        Answer(&read),
-        Answer(&named),
-        Answer(&content)
-    )?;
+    say(rt, " | content", content.newtype_variant::<u8>(alloc))?;
     Ok(())
 }
 
@@ -63,17 +67,20 @@ pub fn variants(rt: &HostRuntime) -> Result<(), Stopped> {
 pub fn builders(rt: &HostRuntime) -> Result<(), Stopped> {
     let alloc = rt.alloc();
     let seq = SerializeSeq::end(SerializerSeq::new(alloc, Some(9)));
-    let map = SerializerMap::new(alloc, Some(9)).end();
-    let fields = SerializerStruct::new(alloc, 9).end();
+    say(rt, "seq", seq.map(Written))?;
+    say(
+        rt,
+        " | map",
+        SerializerMap::new(alloc, Some(9)).end().map(Written),
+    )?;
+    say(
+        rt,
+        " | struct",
+        SerializerStruct::new(alloc, 9).end().map(Written),
+    )?;
     drop(SerializerTupleVariant::new(alloc, "Variant", 9));
     drop(SerializerStructVariant::new(alloc, "Variant", 9));
-    println!(rt;
-        "seq: {} | map: {} | struct: {} | variants: made",
-        Answer(&seq.map(Written)),
-        Answer(&map.map(Written)),
-        Answer(&fields.map(Written))
-    )?;
-    Ok(())
+    Ok(print!(rt; " | variants: made")?)
 }
 
 /// What is asked of an item, its conversions and those of a list of items.
@@ -88,12 +95,12 @@ pub fn items(rt: &HostRuntime) -> Result<(), Stopped> {
     let map: HashMap<String, AttributeValue> = HashMap::from(item);
     let map = Item::from(map).into_inner();
     let maps: Vec<HashMap<String, AttributeValue>> = Vec::from(Items::from(maps));
-    println!(rt;
-        "new: {none} | removed: {removed} | left: {left} | got: {got} | item: {:?} | items: {}",
+    print!(rt; "new: {none} | removed: {removed} | left: {left} | got: {got}")?;
+    Ok(print!(rt;
+        " | item: {:?} | items: {}",
         Written(AttributeValue::M(map)),
         maps.len()
-    )?;
-    Ok(())
+    )?)
 }
 
 /// The kind of a fault, and whether a text is a float's.
@@ -102,8 +109,7 @@ pub fn questions(rt: &HostRuntime) -> Result<(), Stopped> {
     let kind = error.kind();
     let float = is_float_text("-1.5e9");
     let word = is_float_text("one");
-    println!(rt; "kind: {kind:?} | float: {float} | word: {word}")?;
-    Ok(())
+    Ok(print!(rt; "kind: {kind:?} | float: {float} | word: {word}")?)
 }
 
 // A struct without fields.
@@ -121,37 +127,40 @@ impl Serialize for Nothing {
 pub fn scalars_written(rt: &HostRuntime) -> Result<(), Stopped> {
     let alloc = rt.alloc();
     let none: Option<bool> = None;
-    println!(rt;
-        "bool: {} | none: {} | unit: {} | unit struct: {}",
-        Answer(&to_attribute_value(alloc, true).map(Written)),
-        Answer(&to_attribute_value(alloc, none).map(Written)),
-        Answer(&to_attribute_value(alloc, ()).map(Written)),
-        Answer(&to_attribute_value(alloc, &Nothing).map(Written))
+    say(rt, "bool", to_attribute_value(alloc, true).map(Written))?;
+    say(rt, " | none", to_attribute_value(alloc, none).map(Written))?;
+    say(rt, " | unit", to_attribute_value(alloc, ()).map(Written))?;
+    say(
+        rt,
+        " | unit struct",
+        to_attribute_value(alloc, &Nothing).map(Written),
     )?;
     Ok(())
 }
 
-fn seven(alloc: Global) -> Result<AttributeValue> {
-    values::value(alloc, r#"{"N":"7"}"#)
+// Reads the next of the values by both readers.
+fn say_next<T: Deserialize + Debug + Drop>(
+    rt: &HostRuntime,
+    label: &str,
+    values: &mut IntoIter<AttributeValue>,
+) -> Result<(), Stopped> {
+    match values.next() {
+        Some(value) => say_both::<T>(rt, label, value),
+        None => Ok(print!(rt; "{label}: no value")?),
+    }
 }
 
 /// The integers to 64 bits, read out of a number.
 pub fn integers_read(rt: &HostRuntime) -> Result<(), Stopped> {
-    let alloc = rt.alloc();
-    let (a, b, c, d) = (seven(alloc)?, seven(alloc)?, seven(alloc)?, seven(alloc)?);
-    let (e, f, g, h) = (seven(alloc)?, seven(alloc)?, seven(alloc)?, seven(alloc)?);
-    println!(rt;
-        "i8: {} | i16: {} | i32: {} | i64: {} | u8: {} | u16: {} | u32: {} | u64: {}",
-        Both::<i8>::of(alloc, a),
-        Both::<i16>::of(alloc, b),
-        Both::<i32>::of(alloc, c),
-        Both::<i64>::of(alloc, d),
-        Both::<u8>::of(alloc, e),
-        Both::<u16>::of(alloc, f),
-        Both::<u32>::of(alloc, g),
-        Both::<u64>::of(alloc, h)
-    )?;
-    Ok(())
+    let mut sevens = values::each(rt.alloc(), &[r#"{"N":"7"}"#; 8])?.into_iter();
+    say_next::<i8>(rt, "i8", &mut sevens)?;
+    say_next::<i16>(rt, " | i16", &mut sevens)?;
+    say_next::<i32>(rt, " | i32", &mut sevens)?;
+    say_next::<i64>(rt, " | i64", &mut sevens)?;
+    say_next::<u8>(rt, " | u8", &mut sevens)?;
+    say_next::<u16>(rt, " | u16", &mut sevens)?;
+    say_next::<u32>(rt, " | u32", &mut sevens)?;
+    say_next::<u64>(rt, " | u64", &mut sevens)
 }
 
 /// What else is read without memory, each out of a value that holds one.
@@ -159,14 +168,10 @@ pub fn scalars_read(rt: &HostRuntime) -> Result<(), Stopped> {
     let alloc = rt.alloc();
     let letter = values::value(alloc, r#"{"S":"a"}"#)?;
     let pair = values::value(alloc, r#"{"NS":["1","2"]}"#)?;
-    println!(rt;
-        "bool: {} | char: {} | unit: {} | pair: {}",
-        Both::<bool>::of(alloc, AttributeValue::Bool(true)),
-        Both::<char>::of(alloc, letter),
-        Both::<()>::of(alloc, AttributeValue::Null(true)),
-        Both::<(u8, u8)>::of(alloc, pair)
-    )?;
-    Ok(())
+    say_both::<bool>(rt, "bool", AttributeValue::Bool(true))?;
+    say_both::<char>(rt, " | char", letter)?;
+    say_both::<()>(rt, " | unit", AttributeValue::Null(true))?;
+    say_both::<(u8, u8)>(rt, " | pair", pair)
 }
 
 /// A list of leaves and sets of all kinds, ignored.
@@ -176,25 +181,22 @@ pub fn ignored(rt: &HostRuntime) -> Result<(), Stopped> {
         r#"{"L":[{"N":"1"},{"N":"1.5"},{"S":"text"},{"BOOL":true},{"B":"AQI="},{"NULL":true},
         {"SS":["a","b"]},{"NS":["1","1e9"]},{"BS":["AQI=","Ag=="]},{"L":[{"L":[]}]}]}"#;
     let leaves = values::value(alloc, leaves)?;
-    println!(rt; "leaves: {}", Both::<IgnoredAny>::of(alloc, leaves))?;
-    Ok(())
+    say_both::<IgnoredAny>(rt, "leaves", leaves)
 }
 
 /// What is refused since it is of another kind.
 pub fn other_kinds(rt: &HostRuntime) -> Result<(), Stopped> {
-    let alloc = rt.alloc();
-    let bytes = values::value(alloc, r#"{"B":"AQIDBAUGBwg="}"#)?;
-    let text = values::value(alloc, r#"{"S":"text"}"#)?;
-    let number = values::value(alloc, r#"{"N":"1.5"}"#)?;
-    let texts = values::value(alloc, r#"{"SS":["a","b"]}"#)?;
-    let map = values::value(alloc, r#"{"M":{"a":{"S":"text"}}}"#)?;
-    println!(rt;
-        "bytes: {} | text: {} | number: {} | texts: {} | map: {}",
-        Both::<bool>::of(alloc, bytes),
-        Both::<u8>::of(alloc, text),
-        Both::<String>::of(alloc, number),
-        Both::<Option<char>>::of(alloc, texts),
-        Both::<(u8, u8)>::of(alloc, map)
-    )?;
-    Ok(())
+    let texts = [
+        r#"{"B":"AQIDBAUGBwg="}"#,
+        r#"{"S":"text"}"#,
+        r#"{"N":"1.5"}"#,
+        r#"{"SS":["a","b"]}"#,
+        r#"{"M":{"a":{"S":"text"}}}"#,
+    ];
+    let mut values = values::each(rt.alloc(), &texts)?.into_iter();
+    say_next::<bool>(rt, "bytes", &mut values)?;
+    say_next::<u8>(rt, " | text", &mut values)?;
+    say_next::<String>(rt, " | number", &mut values)?;
+    say_next::<Option<char>>(rt, " | texts", &mut values)?;
+    say_next::<(u8, u8)>(rt, " | map", &mut values)
 }

@@ -1,7 +1,7 @@
 //! Rows that write.
 
 use crate::account::Account;
-use crate::answer::{Answer, Json, Written};
+use crate::answer::{Json, Written, say};
 use crate::stopped::Stopped;
 use serde_dynamo::ser::Serialize;
 use serde_dynamo::{
@@ -28,17 +28,19 @@ pub fn no_key(rt: &HostRuntime) -> Result<(), Stopped> {
 
 fn print_written<T: Serialize>(rt: &HostRuntime, value: &T) -> Result<(), Stopped> {
     let alloc = rt.alloc();
-    let item = to_item(alloc, value);
-    let written = to_attribute_value(alloc, value);
-    let json = to_json_value(alloc, value);
-    let by_json = to_attribute_value_via_json(alloc, value);
-    println!(rt;
-        "to_item: {} | to_attribute_value: {} | to_json_value: {} | to_attribute_value_via_json: {}",
-        Answer(&item.map(as_value)),
-        Answer(&written.map(Written)),
-        Answer(&json.map(Json)),
-        Answer(&by_json.map(Written))
+    say(rt, "to_item", to_item(alloc, value).map(as_value))?;
+    say(
+        rt,
+        " | to_attribute_value",
+        to_attribute_value(alloc, value).map(Written),
     )?;
+    say(
+        rt,
+        " | to_json_value",
+        to_json_value(alloc, value).map(Json),
+    )?;
+    let by_json = to_attribute_value_via_json(alloc, value);
+    say(rt, " | to_attribute_value_via_json", by_json.map(Written))?;
     Ok(())
 }
 
@@ -50,11 +52,8 @@ fn as_value(item: Item) -> Written {
 pub fn custom(rt: &HostRuntime) -> Result<(), Stopped> {
     let text = "a text of forty bytes, and not one more.";
     let writing: Result<(), Error> = Err(ser::Error::custom(rt.alloc(), text));
+    say(rt, "ser::Error::custom", writing)?;
     let reading: Result<(), Error> = Err(de::Error::custom(rt.alloc(), text));
-    println!(rt;
-        "ser::Error::custom: {} | de::Error::custom: {}",
-        Answer(&writing),
-        Answer(&reading)
-    )?;
+    say(rt, " | de::Error::custom", reading)?;
     Ok(())
 }
