@@ -1,7 +1,7 @@
 //! Rows of what stands in a builder after a call. The builders hold what fills their lists, or nearly so, so that one of the
 //! calls lets the list grow.
 
-use crate::answer::{Written, say};
+use crate::answer::{Answer, Written, say};
 use crate::stopped::Stopped;
 use serde_dynamo::ser::{
     SerializeMap, SerializeSeq, SerializeStruct, SerializeStructVariant, SerializeTuple,
@@ -12,16 +12,28 @@ use serde_dynamo::{
     SerializerStructVariant, SerializerTupleVariant, Text,
 };
 
-// Gives a builder of a list five elements, and prints what the last two calls and the end answer.
+// Prints what the calls of a builder returned, and what its end did.
+fn say_end(
+    rt: &HostRuntime,
+    calls: &[(&str, Result<()>)],
+    end: Result<AttributeValue>,
+) -> Result<(), Stopped> {
+    for (label, done) in calls {
+        print!(rt; "{label}: {} | ", Answer(done))?;
+    }
+    Ok(say(rt, "end", end.map(Written))?)
+}
+
+// Gives a builder of a list five elements, and prints what the last two calls and the end return.
 macro_rules! elements {
     ($rt:expr, $builder:expr, $Trait:ident, $call:ident) => {{
         let mut builder = $builder;
         for n in 0..3_u8 {
             $Trait::$call(&mut builder, &n)?;
         }
-        say($rt, "fourth", $Trait::$call(&mut builder, &3_u8))?;
-        say($rt, " | fifth", $Trait::$call(&mut builder, &4_u8))?;
-        Ok(say($rt, " | end", $Trait::end(builder).map(Written))?)
+        let fourth = $Trait::$call(&mut builder, &3_u8);
+        let fifth = $Trait::$call(&mut builder, &4_u8);
+        say_end($rt, &[("fourth", fourth), ("fifth", fifth)], $Trait::end(builder))
     }};
 }
 
@@ -32,9 +44,9 @@ macro_rules! fields {
         for (name, n) in [("a", 0_u8), ("b", 1), ("c", 2)] {
             $Trait::serialize_field(&mut builder, name, &n)?;
         }
-        say($rt, "fourth", $Trait::serialize_field(&mut builder, "d", &3_u8))?;
-        say($rt, " | fifth", $Trait::serialize_field(&mut builder, "e", &4_u8))?;
-        Ok(say($rt, " | end", $Trait::end(builder).map(Written))?)
+        let fourth = $Trait::serialize_field(&mut builder, "d", &3_u8);
+        let fifth = $Trait::serialize_field(&mut builder, "e", &4_u8);
+        say_end($rt, &[("fourth", fourth), ("fifth", fifth)], $Trait::end(builder))
     }};
 }
 
@@ -74,29 +86,39 @@ pub fn struct_variant(rt: &HostRuntime) -> Result<(), Stopped> {
     fields!(rt, builder, SerializeStructVariant)
 }
 
-// A map with four entries.
-fn four_entries(rt: &HostRuntime) -> Result<SerializerMap, Stopped> {
-    let mut map = SerializerMap::new(rt.alloc(), None);
+// Gives a map four entries.
+fn add_four(map: &mut SerializerMap) -> Result<()> {
     for n in 0..4_u8 {
         map.serialize_entry(&n, &())?;
     }
-    Ok(map)
+    Ok(())
 }
 
 /// A key of a map, its value, and a value too much.
 pub fn key_and_value(rt: &HostRuntime) -> Result<(), Stopped> {
-    let mut map = four_entries(rt)?;
-    say(rt, "key", map.serialize_key(&Text::new("key")))?;
-    say(rt, " | value", map.serialize_value(&5_u8))?;
-    say(rt, " | value", map.serialize_value(&6_u8))?;
-    Ok(say(rt, " | end", map.end().map(Written))?)
+    let mut map = SerializerMap::new(rt.alloc(), None);
+    add_four(&mut map)?;
+    let key = map.serialize_key(&Text::new("key"));
+    let value = map.serialize_value(&5_u8);
+    let another = map.serialize_value(&6_u8);
+    say_end(
+        rt,
+        &[("key", key), ("value", value), ("value", another)],
+        map.end(),
+    )
+}
+
+// Gives a map four entries, and a key that waits.
+fn add_four_and_key(map: &mut SerializerMap) -> Result<()> {
+    add_four(map)?;
+    map.serialize_key(&Text::new("key"))
 }
 
 /// An entry of a map while a key waits, and then the value of that key.
 pub fn entry(rt: &HostRuntime) -> Result<(), Stopped> {
-    let mut map = four_entries(rt)?;
-    map.serialize_key(&Text::new("key"))?;
-    say(rt, "entry", map.serialize_entry(&Text::new("entry"), &5_u8))?;
-    say(rt, " | value", map.serialize_value(&6_u8))?;
-    Ok(say(rt, " | end", map.end().map(Written))?)
+    let mut map = SerializerMap::new(rt.alloc(), None);
+    add_four_and_key(&mut map)?;
+    let entry = map.serialize_entry(&Text::new("entry"), &5_u8);
+    let value = map.serialize_value(&6_u8);
+    say_end(rt, &[("entry", entry), ("value", value)], map.end())
 }

@@ -1,5 +1,5 @@
 -- What a call of a table ran, by what its steps ran.
-use Rattle.std.proofs.Common.{◌≡◌, Bool, true, false, true≢false, Result, Ok, Err, IsErrAnd, MatchBool, ap, sym}
+use Rattle.std.proofs.Common.{◌≡◌, Bool, true, false, true≢false, Result, Ok, Err, IfErr, IsErrAnd, MatchBool, ap, subst, sym}
 use Rattle.std.specs.declared.alloc.Global.{Global}
 use Rattle.std.specs.declared.vec.Vec.{Vec}
 use Rattle.table_store.specs.Runs.{listed}
@@ -8,6 +8,11 @@ use Rattle.table_store.specs.Runs.{listed}
 pub is_err : {A E : Type 0} (r : Result A E) (e : E) → IsErrAnd r (λ x. x ≡ e) → r ≡ Err e
 is_err (Ok _) e h = absurd h
 is_err (Err x) e h = ap Err h
+
+-- what holds of that error
+pub if_err : {A E : Type 0} (P : E → Type 0) (r : Result A E) (e : E) → IsErrAnd r (λ x. x ≡ e) → P e → IfErr r P
+if_err P (Ok _) e h p = absurd h
+if_err P (Err x) e h p = subst P (sym h) p
 
 -- the same of a list
 pub is_list_err : {A E : Type 0} (r : Result (Vec A Global) E) (e : E) → IsErrAnd r (λ x. x ≡ e) → listed r ≡ Err e

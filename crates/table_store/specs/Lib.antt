@@ -2,6 +2,7 @@ pub mod Calls
 pub mod Content
 pub mod Depth
 pub mod Errors
+pub mod Faults
 pub mod Found
 pub mod Order
 pub mod Runs

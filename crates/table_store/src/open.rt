@@ -1,6 +1,7 @@
-ghost use Rattle.std.specs.Prelude.{◌≡◌, IfOk};
+ghost use Rattle.std.specs.Prelude.{◌≡◌, IfErr, IfOk};
 ghost use Rattle.table_keys.specs.KeyOf.{words_of};
 ghost use Rattle.table_store.specs.Content.{schema_of};
+ghost use Rattle.table_store.specs.Faults.{CreateFails, IsOfDatabase, OpenFails};
 
 use crate::{StoreError, TableStore};
 use sqlite::{Connection, File, FileStore, Files, MemStore, Options};
@@ -36,7 +37,8 @@ pub fn create_in_memory_file(
     name: &str,
     schema: KeySchema,
 ) -> Result<TableStore<FileStore<Memory>>, StoreError>
-    ensures { IfOk result (λ store. words_of (schema_of store) ≡ words_of schema) }
+    ensures schema { IfOk result (λ store. words_of (schema_of store) ≡ words_of schema) }
+    ensures errors { IfErr result CreateFails }
 {
     TableStore::create(alloc, connect_in_memory(alloc)?, name, schema)
 }
@@ -53,7 +55,9 @@ const CACHE_PAGES: usize = 200;
 const LOG_PAGES: usize = 100;
 
 // A database over two files in memory, that of its pages and that of its log.
-fn connect_in_memory(alloc: Global) -> Result<Connection<FileStore<Memory>>, StoreError> {
+fn connect_in_memory(alloc: Global) -> Result<Connection<FileStore<Memory>>, StoreError>
+    ensures errors { IfErr result IsOfDatabase }
+{
     let files = Files {
         log: Memory::new(alloc),
         db: Memory::new(alloc),
@@ -82,7 +86,8 @@ pub fn create_in_memory(
     name: &str,
     schema: KeySchema,
 ) -> Result<TableStore<MemStore>, StoreError>
-    ensures { IfOk result (λ store. words_of (schema_of store) ≡ words_of schema) }
+    ensures schema { IfOk result (λ store. words_of (schema_of store) ≡ words_of schema) }
+    ensures errors { IfErr result CreateFails }
 {
     let conn = Connection::open_in_memory(alloc)?;
     TableStore::create(alloc, conn, name, schema)
@@ -104,7 +109,8 @@ pub fn create_at(
     name: &str,
     schema: KeySchema,
 ) -> Result<TableStore<FileStore<File>>, StoreError>
-    ensures { IfOk result (λ store. words_of (schema_of store) ≡ words_of schema) }
+    ensures schema { IfOk result (λ store. words_of (schema_of store) ≡ words_of schema) }
+    ensures errors { IfErr result CreateFails }
 {
     TableStore::create(rt.alloc(), connect(rt, path)?, name, schema)
 }
@@ -122,17 +128,23 @@ pub fn open_at(
     rt: &HostRuntime,
     path: &str,
     name: &str,
-) -> Result<TableStore<FileStore<File>>, StoreError> {
+) -> Result<TableStore<FileStore<File>>, StoreError>
+    ensures errors { IfErr result OpenFails }
+{
     TableStore::open(rt.alloc(), connect(rt, path)?, name)
 }
 
 // The database of a file.
-fn connect(rt: &HostRuntime, path: &str) -> Result<Connection<FileStore<File>>, StoreError> {
+fn connect(rt: &HostRuntime, path: &str) -> Result<Connection<FileStore<File>>, StoreError>
+    ensures errors { IfErr result IsOfDatabase }
+{
     Ok(Connection::open(rt, path)?)
 }
 
 // Copies what was written into the file alone, and closes it.
-fn close_files(conn: Connection<FileStore<File>>) -> Result<(), StoreError> {
+fn close_files(conn: Connection<FileStore<File>>) -> Result<(), StoreError>
+    ensures errors { IfErr result IsOfDatabase }
+{
     match conn.close() {
         Ok(()) => Ok(()),
         Err(error) => Err(StoreError::from(error)),
@@ -146,7 +158,9 @@ impl TableStore<FileStore<File>> {
     /// # Errors
     ///
     /// Returns [`StoreError::Database`] if the file can't be written.
-    pub fn close(self) -> Result<(), StoreError> {
+    pub fn close(self) -> Result<(), StoreError>
+        ensures errors { IfErr result IsOfDatabase }
+    {
         close_files(self.into_connection())
     }
 }

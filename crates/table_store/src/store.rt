@@ -5,6 +5,7 @@ ghost use Rattle.table_keys.specs.KeyOf.{ReadsKey, words_of};
 ghost use Rattle.table_keys.specs.Conditions.{holds};
 ghost use Rattle.table_store.specs.Depth.{Checked, IsKept};
 ghost use Rattle.table_store.specs.Content.{FailsToChange, FoundHasKey, HadKeyOf, HasKey, HasThisKey, KeepsKey, NeedsKey, OfKey, schema_of, table_of};
+ghost use Rattle.table_store.specs.Faults.{CreateFails, OpenFails, QueryFails};
 ghost use Rattle.table_store.specs.Found.{IsFound};
 ghost use Rattle.table_store.specs.Order.{AreBehind};
 ghost use Rattle.table_store.specs.Calls.{BeforeOf, CountsAll, DeletesIf, GetsAt, IsStart, KeyOf, PutsAt, PutsChanged, PutsEach, PutsIf, PutsOver, Ran, Scans, Updates, WritesAll};
@@ -64,7 +65,8 @@ impl<S: Alter + Drop> TableStore<S> {
         name: &str,
         schema: KeySchema,
     ) -> Result<TableStore<S>, StoreError>
-        ensures { IfOk result (λ store. words_of (schema_of store) ≡ words_of schema) }
+        ensures schema { IfOk result (λ store. words_of (schema_of store) ≡ words_of schema) }
+        ensures errors { IfErr result CreateFails }
     {
         make_tables(&mut conn)?;
         if Definition::find(alloc, &mut conn, name)?.is_none() {
@@ -91,7 +93,9 @@ impl<S: Alter + Drop> TableStore<S> {
         alloc: Global,
         mut conn: Connection<S>,
         name: &str,
-    ) -> Result<TableStore<S>, StoreError> {
+    ) -> Result<TableStore<S>, StoreError>
+        ensures errors { IfErr result OpenFails }
+    {
         make_tables(&mut conn)?;
         match Definition::find(alloc, &mut conn, name)? {
             Some(table) => Ok(TableStore { alloc, conn, table }),
@@ -363,6 +367,7 @@ impl<S: Alter + Drop> TableStore<S> {
     pub fn query(&mut self, query: &Query<'_>) -> Result<Vec<Item>, StoreError>
         ensures found { IfOk result (λ items. All (IsFound (schema_of self.old) query.now) items.items) }
         ensures limit { IfOk result (λ items. length items.items ≤ query.now.limit) }
+        ensures errors { IfErr result (QueryFails (schema_of self.old)) }
         ensures schema { schema_of self.new ≡ schema_of self.old }
     {
         let Some(bounds) = Bounds::of_query(self.alloc, query)? else {

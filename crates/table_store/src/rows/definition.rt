@@ -1,3 +1,6 @@
+ghost use Rattle.std.specs.Prelude.{IfErr};
+ghost use Rattle.table_store.specs.Faults.{IsOfDatabase, IsOfRow};
+
 use crate::StoreError;
 use sqlite::{Alter, Connection, Row, params};
 use std::alloc::Global;
@@ -36,7 +39,9 @@ impl Definition {
         alloc: Global,
         conn: &mut Connection<S>,
         name: &str,
-    ) -> Result<Option<Definition>, StoreError> {
+    ) -> Result<Option<Definition>, StoreError>
+        ensures errors { IfErr result IsOfRow }
+    {
         let found = conn.query_all(FIND, params![name])?;
         match found.first() {
             Some(row) => Ok(Some(Definition::read(alloc, row)?)),
@@ -55,7 +60,9 @@ impl Definition {
         conn: &mut Connection<S>,
         name: &str,
         schema: &KeySchema,
-    ) -> Result<(), StoreError> {
+    ) -> Result<(), StoreError>
+        ensures errors { IfErr result IsOfDatabase }
+    {
         let partition = schema.partition.to_word(alloc)?;
         let sort = match &schema.sort {
             Some(sort) => Some(sort.to_word(alloc)?),
@@ -66,7 +73,9 @@ impl Definition {
     }
 
     // The table of a row.
-    fn read(alloc: Global, row: &Row) -> Result<Definition, StoreError> {
+    fn read(alloc: Global, row: &Row) -> Result<Definition, StoreError>
+        ensures errors { IfErr result IsOfRow }
+    {
         let sort: Option<String> = row.get(2)?;
         let schema = KeySchema {
             partition: attribute(alloc, row.get(1)?)?,
@@ -82,7 +91,9 @@ impl Definition {
     }
 }
 
-fn attribute(alloc: Global, word: String) -> Result<KeyAttribute, StoreError> {
+fn attribute(alloc: Global, word: String) -> Result<KeyAttribute, StoreError>
+    ensures errors { IfErr result IsOfRow }
+{
     match KeyAttribute::parse(alloc, word.as_str()) {
         Ok(attribute) => Ok(attribute),
         Err(TableError::OutOfMemory) => Err(StoreError::OutOfMemory),
@@ -97,6 +108,8 @@ fn attribute(alloc: Global, word: String) -> Result<KeyAttribute, StoreError> {
 ///
 /// Returns [`StoreError::Database`] if the database fails, and [`StoreError::OutOfMemory`] if
 /// memory runs out.
-pub fn make_tables<S: Alter>(conn: &mut Connection<S>) -> Result<(), StoreError> {
+pub fn make_tables<S: Alter>(conn: &mut Connection<S>) -> Result<(), StoreError>
+    ensures errors { IfErr result IsOfDatabase }
+{
     Ok(conn.execute_batch(TABLES)?)
 }

@@ -1,7 +1,8 @@
-ghost use Rattle.std.specs.Prelude.{◌≡◌, ◌≤◌, All, IfOk, length};
+ghost use Rattle.std.specs.Prelude.{◌≡◌, ◌≤◌, All, IfErr, IfOk, length};
 ghost use Rattle.std.specs.Result.{result_map_both};
 ghost use Rattle.sqlite.specs.Values.{bound};
 ghost use Rattle.table_store.specs.Calls.{Pages};
+ghost use Rattle.table_store.specs.Faults.{QueryFails};
 ghost use Rattle.table_store.specs.Found.{IsFound};
 ghost use Rattle.table_store.specs.Runs.{AreRead, Finds, IsClean, WasClean, listed};
 ghost use Rattle.table_store.specs.Statements.{following_of, following_text, limit_of, rest_of, rest_text};
@@ -52,6 +53,7 @@ pub fn find<S: Alter>(
 ) -> Result<Vec<Item>, StoreError>
     ensures found { IfOk result (λ items. All (IsFound table.now.schema query.now) items.items) }
     ensures limit { IfOk result (λ items. length items.items ≤ query.now.limit) }
+    ensures errors { IfErr result (QueryFails table.now.schema) }
 {
     let mut found = Vec::new(alloc);
     let sql = if query.backward { BACKWARD } else { FORWARD };
