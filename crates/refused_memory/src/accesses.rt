@@ -1,4 +1,4 @@
-//! Rows of what stands in an access after a call. What is read in a box takes memory; what is read without takes none.
+//! Rows of what an access has after a call. What is read in a box takes memory; what is read without takes none.
 
 use crate::answer::{Written, say};
 use crate::stopped::Stopped;

@@ -1,3 +1,4 @@
 pub mod Calls
 pub mod ErrorText
+pub mod Faults
 pub mod Stored

@@ -7,7 +7,9 @@ ghost use Rattle.typed_table.specs.Stored.{IsKeyOf};
 ghost use Rattle.typed_store.specs.Stored.{FailsToChange, FailsToKey, KeepsKey, NeedsKey, ReadsAs, SaysKeyOf};
 ghost use Rattle.typed_store.specs.Stored.{WasReadAt, WereFound, WereRead, WereScanned, schema_of, store_of, table_of};
 ghost use Rattle.typed_store.specs.Calls.{CountsValues, DeletesValue, GetsValue, GotAgain, Located, PutsValue, PutsValueIf, ReadsEach, ScansValues, UpdatesValue};
+ghost use Rattle.typed_store.specs.Faults.{QueryFails, StoreFails};
 ghost use Rattle.table_store.specs.Calls.{GetsAt, Ran, Scans};
+ghost use Rattle.table_store.specs.Faults.{CreateFails};
 ghost use Rattle.table_store.specs.Runs.{IsClean, WasClean, listed};
 ghost use Rattle.table_keys.specs.declared.condition.Condition.{Condition};
 
@@ -83,7 +85,8 @@ impl<T: AsItem + Keyed, S: Alter + Drop> TypedStore<T, S> {
     ///
     /// Returns [`TypedStoreError::Store`] with the error of [`TableStore::create`].
     pub fn create(alloc: Global, conn: Connection<S>, name: &str) -> Result<Self, TypedStoreError>
-        ensures { IfOk result (λ store. T.keyed_by (words_of (schema_of store))) }
+        ensures key { IfOk result (λ store. T.keyed_by (words_of (schema_of store))) }
+        ensures errors { IfErr result (StoreFails CreateFails) }
     {
         let schema = T::key_schema(alloc)?;
         Ok(TypedStore {
@@ -322,6 +325,7 @@ impl<T: AsItem + Keyed, S: Alter + Drop> TypedStore<T, S> {
     /// Returns [`TypedStoreError::Store`] with the error of [`TableStore::query`].
     pub fn query(&mut self, query: &Query<'_>) -> Result<Vec<T>, TypedStoreError>
         ensures found { IfOk result (λ values. WereFound T.reads_item (schema_of self.old) query.now values.items) }
+        ensures errors { IfErr result (QueryFails T.reads_item (schema_of self.old) query.now) }
         ensures schema { schema_of self.new ≡ schema_of self.old }
     {
         let found = self.store.query(query)?;
@@ -339,6 +343,7 @@ impl<T: AsItem + Keyed, S: Alter + Drop> TypedStore<T, S> {
         query: &Query<'_>,
     ) -> Result<Vec<T>, LocatedError<TypedStoreError>>
         ensures found { IfOk result (λ values. WereFound T.reads_item (schema_of self.old) query.now values.items) }
+        ensures errors { IfErr result (λ e. QueryFails T.reads_item (schema_of self.old) query.now e.error) }
         ensures schema { schema_of self.new ≡ schema_of self.old }
     {
         match self.query(query) {

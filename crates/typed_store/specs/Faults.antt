@@ -1,0 +1,21 @@
+-- Which errors a call may return that opens a table of values or queries one.
+use Rattle.std.specs.Prelude.{◌≡◌, ◌⊎◌, List, Result, Err, All}
+use Rattle.dynamo_value.specs.Fault.{Fault}
+use Rattle.dynamo_value.specs.declared.item.Item.{Item}
+use Rattle.table_keys.specs.declared.query.Query.{Query}
+use Rattle.table_keys.specs.declared.schema.KeySchema.{KeySchema}
+use Rattle.table_store.specs.Faults as items
+use Rattle.table_store.specs.Found.{IsFound}
+use Rattle.table_store.specs.declared.error.StoreError.{StoreError}
+use Rattle.typed_store.specs.Calls.{ReadsEach}
+use Rattle.typed_store.specs.declared.error.TypedStoreError.{TypedStoreError}
+
+-- the table of the items failed like this
+abbrev pub StoreFails : (StoreError → Type 0) → TypedStoreError → Type 0
+StoreFails Fails e = (cause : StoreError) × (e ≡ TypedStoreError.Store cause) × Fails cause
+
+-- the query of the items failed, or the reading of items that it finds
+abbrev pub QueryFails : {T : Type 0} → (Item → Result T Fault → Type 0) → KeySchema → Query → TypedStoreError → Type 0
+QueryFails {T} Reads schema query e =
+    StoreFails (items.QueryFails schema) e
+    ⊎ ((found : List Item) × All (IsFound schema query) found × ReadsEach {T} Reads found (Err e))
