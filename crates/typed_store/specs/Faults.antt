@@ -16,6 +16,6 @@ StoreFails Fails e = (cause : StoreError) × (e ≡ TypedStoreError.Store cause)
 
 -- the query of the items failed, or the reading of items that it finds
 abbrev pub QueryFails : {T : Type 0} → (Item → Result T Fault → Type 0) → KeySchema → Query → TypedStoreError → Type 0
-QueryFails {T} Reads schema query e =
+QueryFails Reads schema query e =
     StoreFails (items.QueryFails schema) e
-    ⊎ ((found : List Item) × All (IsFound schema query) found × ReadsEach {T} Reads found (Err e))
+    ⊎ ((found : List Item) × All (IsFound schema query) found × ReadsEach Reads found (Err e))
