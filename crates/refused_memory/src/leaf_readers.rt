@@ -46,18 +46,9 @@ fn texts(alloc: Global) -> Result<Vec<String>, AllocError> {
     Ok(texts)
 }
 
-// At how many of the requests the readers of these texts show something.
-fn shown_by<R: Reader>(texts: Vec<String>, reader: impl Fn(String) -> R) -> u8 {
-    let mut shown: u8 = 0;
-    for (text, request) in texts.into_iter().zip(REQUESTS) {
-        let one = if reader(text).show(request).is_ok() {
-            1
-        } else {
-            0
-        };
-        shown = shown.saturating_add(one);
-    }
-    shown
+// One more where the reader shows something at the request.
+fn count<R: Reader>(shown: u8, reader: R, request: Request) -> u8 {
+    shown.saturating_add(if reader.show(request).is_ok() { 1 } else { 0 })
 }
 
 /// At how many of the requests each of the readers shows something.
@@ -65,12 +56,27 @@ pub fn shown(rt: &HostRuntime) -> Result<(), Stopped> {
     let alloc = rt.alloc();
     let texts = [texts(alloc)?, texts(alloc)?, texts(alloc)?, texts(alloc)?];
     let [strings, numbers, keys, bytes] = texts;
-    let string = shown_by(strings, |text| StringDeserializer::from_string(alloc, text));
-    let number = shown_by(numbers, |text| DeserializerNumber::from_string(alloc, text));
-    let key = shown_by(keys, |text| DeserializerMapKey::from_string(alloc, text));
-    let byte_string = shown_by(
-        bytes,
-        |text| DeserializerBytes::from_bytes(alloc, text.into_bytes()),
-    );
+    let (mut string, mut number, mut key, mut byte_string) = (0, 0, 0, 0);
+    for (text, request) in strings.into_iter().zip(REQUESTS) {
+        string = count(
+            string,
+            StringDeserializer::from_string(alloc, text),
+            request,
+        );
+    }
+    for (text, request) in numbers.into_iter().zip(REQUESTS) {
+        number = count(
+            number,
+            DeserializerNumber::from_string(alloc, text),
+            request,
+        );
+    }
+    for (text, request) in keys.into_iter().zip(REQUESTS) {
+        key = count(key, DeserializerMapKey::from_string(alloc, text), request);
+    }
+    for (text, request) in bytes.into_iter().zip(REQUESTS) {
+        let reader = DeserializerBytes::from_bytes(alloc, text.into_bytes());
+        byte_string = count(byte_string, reader, request);
+    }
     Ok(print!(rt; "string: {string} | number: {number} | key: {key} | byte string: {byte_string}")?)
 }
