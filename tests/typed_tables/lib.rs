@@ -1,5 +1,6 @@
 //! Typed tables of a type that is described and of one that derives serde's traits, in memory and in a database: each call with ample
-//! memory, and its errors by `?`. `service` is a service of one file.
+//! memory, and its errors by `?`. `service` is a service of one file. `located`
+//! tests the places of errors of reading and writing.
 
 mod booking;
 mod guest;

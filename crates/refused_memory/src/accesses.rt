@@ -1,4 +1,5 @@
-//! Rows of what an access has after a call. What is read in a box takes memory; what is read without takes none.
+//! Rows of what an access has after a call. Reading into a box takes memory.
+//! Reading without one takes none, but for lent strings and byte strings, which are copied.
 
 use crate::answer::{Written, say};
 use crate::stopped::Stopped;

@@ -1,4 +1,4 @@
-//! The rows of calls: what each answers where one of its requests for memory is refused.
+//! Rows of calls: what each returns when a request for memory is refused.
 
 use crate::stopped::Stopped;
 use crate::{derived, json, leaf_readers, located, reading, without_memory, writing};
@@ -34,7 +34,7 @@ pub const ROWS: [&str; 27] = [
     "other_kinds",
 ];
 
-/// Prints the line of the row of this name. It returns nothing where there is no such row.
+/// Prints the line of the row of this name. Returns `None` if there is no such row.
 pub fn run(rt: &HostRuntime, row: &str) -> Option<Result<(), Stopped>> {
     let done = match row {
         "write" => writing::account(rt),

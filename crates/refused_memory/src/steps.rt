@@ -1,4 +1,4 @@
-//! The rows of what is left in a builder, an access or a table after a call, one of whose requests for memory is refused.
+//! Rows that show what a builder, an access or a table still holds after a call was refused memory.
 
 use crate::stopped::Stopped;
 use crate::{accesses, builders, tables};
@@ -31,7 +31,7 @@ pub const ROWS: [&str; 24] = [
     "table_query",
 ];
 
-/// Prints the line of the row of this name. It returns nothing where there is no such row.
+/// Prints the line of the row of this name. Returns `None` if there is no such row.
 pub fn run(rt: &HostRuntime, row: &str) -> Option<Result<(), Stopped>> {
     let done = match row {
         "seq" => builders::seq(rt),

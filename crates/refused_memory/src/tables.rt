@@ -1,4 +1,4 @@
-//! Rows of a table in memory: where a call wants memory, the table is as before.
+//! Rows of a table in memory: a call that runs out of memory leaves the table unchanged.
 
 use crate::stopped::Stopped;
 use crate::values;

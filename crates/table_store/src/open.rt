@@ -20,7 +20,8 @@ use table_keys::KeySchema;
 /// # Errors
 ///
 /// Returns [`StoreError::Database`] if the database can't be opened, and
-/// [`StoreError::OutOfMemory`] if memory runs out.
+/// [`StoreError::OutOfMemory`] if memory runs out. Otherwise returns the error of
+/// [`TableStore::create`].
 ///
 /// # Examples
 ///
@@ -80,7 +81,8 @@ fn connect_in_memory(alloc: Global) -> Result<Connection<FileStore<Memory>>, Sto
 ///
 /// # Errors
 ///
-/// Returns [`StoreError::OutOfMemory`] if memory runs out.
+/// Returns [`StoreError::OutOfMemory`] if memory runs out. Otherwise returns the error of
+/// [`TableStore::create`].
 pub fn create_in_memory(
     alloc: Global,
     name: &str,
@@ -100,6 +102,8 @@ pub fn create_in_memory(
 ///
 /// Returns [`StoreError::OtherSchema`] if there is a table of this name with other keys, and
 /// [`StoreError::Unreadable`] if its key attributes can't be read.
+///
+/// Returns [`StoreError::NoTable`] if the file doesn't show the table that was added.
 ///
 /// Returns [`StoreError::Database`] if the file isn't a database, or can't be opened or written,
 /// and [`StoreError::OutOfMemory`] if memory runs out.
@@ -157,7 +161,8 @@ impl TableStore<FileStore<File>> {
     ///
     /// # Errors
     ///
-    /// Returns [`StoreError::Database`] if the file can't be written.
+    /// Returns [`StoreError::Database`] if the file can't be written, and
+    /// [`StoreError::OutOfMemory`] if memory runs out.
     pub fn close(self) -> Result<(), StoreError>
         ensures errors { IfErr result IsOfDatabase }
     {

@@ -57,6 +57,8 @@ impl<S: Alter + Drop> TableStore<S> {
     /// Returns [`StoreError::OtherSchema`] if there is a table of this name with other keys, and
     /// [`StoreError::Unreadable`] if its key attributes can't be read.
     ///
+    /// Returns [`StoreError::NoTable`] if the database doesn't show the table that was added.
+    ///
     /// Returns [`StoreError::Database`] if the database fails, and [`StoreError::OutOfMemory`] if
     /// memory runs out.
     pub fn create(
