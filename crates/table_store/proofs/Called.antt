@@ -14,7 +14,7 @@ pub if_err : {A E : Type 0} (P : E → Type 0) (r : Result A E) (e : E) → IsEr
 if_err P (Ok _) e h p = absurd h
 if_err P (Err x) e h p = subst P (sym h) p
 
--- the same of a list
+-- the error that a `?` returns, in the place of a list
 pub is_list_err : {A E : Type 0} (r : Result (Vec A Global) E) (e : E) → IsErrAnd r (λ x. x ≡ e) → listed r ≡ Err e
 is_list_err (Ok _) e h = absurd h
 is_list_err (Err x) e h = ap Err h
