@@ -3,8 +3,8 @@ ghost use Rattle.dynamo_value.specs.Fault.{message, out_of_memory};
 ghost use Rattle.dynamo_de.specs.Meets.{Meets};
 ghost use Rattle.dynamo_shape.proofs.FieldsByName.{Slots};
 ghost use Rattle.dynamo_record.specs.Fields.{Defaults, unread, complete, missed_name, read_fields};
-ghost use Rattle.dynamo_record.specs.Listed.{AboutList, about_field, about_both, Shapes, Holds, HoldsField, HoldsBoth, HoldsBehind, FilledBehind, ReadBehind, Counts, Fills, is_filled, Completes, MakesOrFails};
-ghost use Rattle.dynamo_record.specs.Behind.{both_behind, both_filled, both_read, both_counted, field_behind, field_filled, field_read, field_counted};
+ghost use Rattle.dynamo_record.specs.Listed.{AboutList, about_field, about_both, Shapes, Holds, HoldsField, HoldsBoth, Fills, is_filled, Completes, MakesOrFails};
+ghost use Rattle.dynamo_record.specs.Behind.{Behind, both_behind, field_behind};
 ghost use Rattle.dynamo_record.specs.Names.{missing_text};
 
 use crate::names::first_of;
@@ -83,17 +83,8 @@ pub trait FieldList: Sized {
     /// Drops the fields.
     fn discard(self);
 
-    // A slot behind these may be filled.
-    ghost behind: { HoldsBehind about.count holds };
-
-    // A slot behind these is filled if it is among those that follow.
-    ghost filled_behind: { FilledBehind about.count holds };
-
-    // The fields behind these are those that follow.
-    ghost read_behind: { ReadBehind about.count about.shapes };
-
-    // There are so many shapes.
-    ghost counted: { Counts about.count about.shapes };
+    // The fields that follow are found behind these.
+    ghost behind: { Behind about.count holds about.shapes };
 }
 
 /// The error of a map without an entry for the field with this name.
@@ -114,12 +105,6 @@ impl<F: FieldType> FieldList for Field<F> {
     ghost holds = { HoldsField F.about.shape F.about.tells };
 
     ghost behind = { field_behind F.about.shape F.about.tells };
-
-    ghost filled_behind = { field_filled F.about.shape F.about.tells };
-
-    ghost read_behind = { field_read F.about.shape };
-
-    ghost counted = { field_counted F.about.shape };
 
     fn count() -> usize {
         1
@@ -187,13 +172,7 @@ impl<L: FieldList, R: FieldList> FieldList for (L, R) {
 
     ghost holds = { HoldsBoth L.holds R.holds };
 
-    ghost behind = { both_behind L.about.count R.about.count L.holds R.holds L.behind R.behind };
-
-    ghost filled_behind = { both_filled L.about.count R.about.count L.holds R.holds L.filled_behind R.filled_behind };
-
-    ghost read_behind = { both_read L.about.count R.about.count L.about.shapes R.about.shapes L.read_behind R.read_behind };
-
-    ghost counted = { both_counted L.about.count R.about.count L.about.shapes R.about.shapes L.counted R.counted };
+    ghost behind = { both_behind L.behind R.behind };
 
     fn count() -> usize {
         L::count().saturating_add(R::count())

@@ -19,4 +19,4 @@ returns-else-place-first g c = λ inside fits os more h.
     let second : c.args.place - c.count-first.result < r.count = omega arith in
     let fits_too : c.args.place - c.count-first.result + 1 < 2 ^ 64 = omega arith in
     c.is_read-else-place-first.ensures second fits_too h.0 more h.2
-    ∙ sym (g.met.L.FieldList.filled_behind c.args.slots.now.0 os h.0 (c.args.place - c.count-first.result) h.1) ∙ ap (λ i. is_filled i os) at
+    ∙ sym (g.met.L.FieldList.behind.filled c.args.slots.now.0 os h.0 (c.args.place - c.count-first.result) h.1) ∙ ap (λ i. is_filled i os) at

@@ -21,5 +21,5 @@ returns-else-place-first g c = λ inside fits ss os more h.
     let at : l.count + (c.args.place - c.count-first.result) ≡ c.args.place = omega arith in
     let second : c.args.place - c.count-first.result < r.count = omega arith in
     let fits_too : c.args.place - c.count-first.result + 1 < 2 ^ 64 = omega arith in
-    right_filled g.L.FieldList.holds g.R.FieldList.holds os h.0 more (g.D.Reader.source c.args.value) c.args.slots.now.0 read.new.slots l.count g.met.L.FieldList.behind l.shapes g.met.L.FieldList.read_behind (r.shapes ss) g.D.Error.Error.fault
+    right_filled g.L.FieldList.holds g.R.FieldList.holds os h.0 more (g.D.Reader.source c.args.value) c.args.slots.now.0 read.new.slots l.count g.met.L.FieldList.behind.holds_behind l.shapes g.met.L.FieldList.behind.read (r.shapes ss) g.D.Error.Error.fault
     c.args.place (c.args.place - c.count-first.result) read.result at h.1 (read.ensures second fits_too ss h.0 more h.2)
