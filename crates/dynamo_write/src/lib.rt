@@ -9,29 +9,19 @@ ghost use Rattle.dynamo_write.specs.Answers.{AnswersDatum, AnswersItem};
 
 mod builders;
 mod fields;
-mod list_of;
-mod map_of;
 mod serializer;
 mod set;
-mod struct_of;
-mod struct_variant_of;
 mod target;
-mod tuple_variant_of;
 
 pub use builders::{
     SerializerMap, SerializerSeq, SerializerStruct, SerializerStructVariant, SerializerTupleVariant,
 };
 use dynamo_ser::Serialize;
 use dynamo_value::{AttributeValue, Error, ErrorImpl, Item, Result};
-pub use list_of::ListOf;
-pub use map_of::MapOf;
 pub use serializer::Serializer;
 pub use set::SetKind;
 use std::alloc::Global;
-pub use struct_of::StructOf;
-pub use struct_variant_of::StructVariantOf;
-pub use target::Target;
-pub use tuple_variant_of::TupleVariantOf;
+pub use target::{ListOf, MapOf, StructOf, StructVariantOf, Target, TupleVariantOf};
 
 /// Writes a value as an attribute value.
 ///

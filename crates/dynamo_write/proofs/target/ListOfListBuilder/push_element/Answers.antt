@@ -1,6 +1,6 @@
 use Rattle.std.proofs.Common.{Ok, sym, ap, ◌∙◌}
 use Rattle.dynamo_write.proofs.Pushed.{whole_list_pushed}
-use Rattle.dynamo_write.proofs.list_of.ListOfListBuilder.push_element.Goals as goal
+use Rattle.dynamo_write.proofs.target.ListOfListBuilder.push_element.Goals as goal
 
 pub returns : goal.returns
 returns g c = λ d is ds r given.

@@ -1,7 +1,7 @@
 use Rattle.std.proofs.Common.{Ok, sym, ap, ◌∙◌}
 use Rattle.dynamo_write.specs.Target.{one_member}
 use Rattle.dynamo_write.proofs.Pushed.{list_pushed}
-use Rattle.dynamo_write.proofs.tuple_variant_of.TupleVariantOfListBuilder.push_element.Goals as goal
+use Rattle.dynamo_write.proofs.target.TupleVariantOfListBuilder.push_element.Goals as goal
 
 pub returns : goal.returns
 returns g c = λ d is ds r given.

@@ -1,5 +1,5 @@
 use Rattle.dynamo_write.proofs.Pushed.{entry_pushed}
-use Rattle.dynamo_write.proofs.map_of.MapOfSerializeMap.push_entry.Goals as goal
+use Rattle.dynamo_write.proofs.target.MapOfSerializeMap.push_entry.Goals as goal
 
 pub returns-clause-takes : goal.returns-clause-takes
 returns-clause-takes g c = λ k v named is ps r given.

@@ -1,5 +1,5 @@
 use Rattle.dynamo_write.proofs.Pushed.{field_pushed}
-use Rattle.dynamo_write.proofs.struct_of.StructOfStructBuilder.push_field.Goals as goal
+use Rattle.dynamo_write.proofs.target.StructOfStructBuilder.push_field.Goals as goal
 
 pub returns : goal.returns
 returns g c = λ d is fs r given.

@@ -1,6 +1,6 @@
 use Rattle.dynamo_write.specs.Target.{one_member}
 use Rattle.dynamo_write.proofs.Pushed.{field_pushed}
-use Rattle.dynamo_write.proofs.struct_variant_of.StructVariantOfStructBuilder.push_field.Goals as goal
+use Rattle.dynamo_write.proofs.target.StructVariantOfStructBuilder.push_field.Goals as goal
 
 pub returns : goal.returns
 returns g c = λ d is fs r given.
