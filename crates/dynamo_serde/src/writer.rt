@@ -50,6 +50,15 @@ fn after(events: &Events, done: &Result<()>, call: Call<'_>) -> Events
     }
 }
 
+// Makes a call of the builder, and adds its event to those that were sent.
+macro_rules! send {
+    ($writer:ident, $done:expr, $call:expr) => {{
+        let done = $done;
+        $writer.events = after(&$writer.events, &done, $call);
+        done
+    }};
+}
+
 impl Serializer for Writer {
     type Error = Error;
 
@@ -57,149 +66,119 @@ impl Serializer for Writer {
 
     #[inline(always)]
     fn bool(&mut self, v: bool) -> Result<()> {
-        let done = self.builder.bool(v);
-        self.events = after(&self.events, &done, Call::Bool(v));
-        done
+        send!(self, self.builder.bool(v), Call::Bool(v))
     }
 
     #[inline(always)]
     fn i64(&mut self, v: i64) -> Result<()> {
-        let done = self.builder.i64(v);
-        self.events = after(&self.events, &done, Call::Signed(i128::from(v)));
-        done
+        send!(self, self.builder.i64(v), Call::Signed(i128::from(v)))
     }
 
     #[inline(always)]
     fn u64(&mut self, v: u64) -> Result<()> {
-        let done = self.builder.u64(v);
-        self.events = after(&self.events, &done, Call::Unsigned(u128::from(v)));
-        done
+        send!(self, self.builder.u64(v), Call::Unsigned(u128::from(v)))
     }
 
     #[inline(always)]
     fn i128(&mut self, v: i128) -> Result<()> {
-        let done = self.builder.i128(v);
-        self.events = after(&self.events, &done, Call::Signed(v));
-        done
+        send!(self, self.builder.i128(v), Call::Signed(v))
     }
 
     #[inline(always)]
     fn u128(&mut self, v: u128) -> Result<()> {
-        let done = self.builder.u128(v);
-        self.events = after(&self.events, &done, Call::Unsigned(v));
-        done
+        send!(self, self.builder.u128(v), Call::Unsigned(v))
     }
 
     #[inline(always)]
     fn f32(&mut self, v: f32) -> Result<()> {
-        let done = self.builder.f32(v);
-        self.events = after(&self.events, &done, Call::Single(v));
-        done
+        send!(self, self.builder.f32(v), Call::Single(v))
     }
 
     #[inline(always)]
     fn f64(&mut self, v: f64) -> Result<()> {
-        let done = self.builder.f64(v);
-        self.events = after(&self.events, &done, Call::Double(v));
-        done
+        send!(self, self.builder.f64(v), Call::Double(v))
     }
 
     #[inline(always)]
     fn char(&mut self, v: char) -> Result<()> {
-        let done = self.builder.char(v);
-        self.events = after(&self.events, &done, Call::Char(v));
-        done
+        send!(self, self.builder.char(v), Call::Char(v))
     }
 
     #[inline(always)]
     fn str(&mut self, v: &str) -> Result<()> {
-        let done = self.builder.str(v);
-        self.events = after(&self.events, &done, Call::Text(v));
-        done
+        send!(self, self.builder.str(v), Call::Text(v))
     }
 
     #[inline(always)]
     fn bytes(&mut self, v: &[u8]) -> Result<()> {
-        let done = self.builder.bytes(v);
-        self.events = after(&self.events, &done, Call::Bytes(v));
-        done
+        send!(self, self.builder.bytes(v), Call::Bytes(v))
     }
 
     #[inline(always)]
     fn unit(&mut self) -> Result<()> {
-        let done = self.builder.unit();
-        self.events = after(&self.events, &done, Call::Unit);
-        done
+        send!(self, self.builder.unit(), Call::Unit)
     }
 
     #[inline(always)]
     fn str_cased(&mut self, name: &str, case: Case) -> Result<()> {
-        let done = self.builder.str_cased(name, case);
-        self.events = after(&self.events, &done, Call::UnitVariant(name, case));
-        done
+        send!(
+            self,
+            self.builder.str_cased(name, case),
+            Call::UnitVariant(name, case)
+        )
     }
 
     #[inline(always)]
     fn begin_seq(&mut self, len: Option<usize>) -> Result<()> {
-        let done = self.builder.begin_seq(len);
-        self.events = after(&self.events, &done, Call::BeginSeq(len));
-        done
+        send!(self, self.builder.begin_seq(len), Call::BeginSeq(len))
     }
 
     #[inline(always)]
     fn end_seq(&mut self) -> Result<()> {
-        let done = self.builder.end_seq();
-        self.events = after(&self.events, &done, Call::EndSeq);
-        done
+        send!(self, self.builder.end_seq(), Call::EndSeq)
     }
 
     #[inline(always)]
     fn begin_map(&mut self, len: Option<usize>) -> Result<()> {
-        let done = self.builder.begin_map(len);
-        self.events = after(&self.events, &done, Call::BeginMap(len));
-        done
+        send!(self, self.builder.begin_map(len), Call::BeginMap(len))
     }
 
     #[inline(always)]
     fn end_map(&mut self) -> Result<()> {
-        let done = self.builder.end_map();
-        self.events = after(&self.events, &done, Call::EndMap);
-        done
+        send!(self, self.builder.end_map(), Call::EndMap)
     }
 
     #[inline(always)]
     fn key_cased(&mut self, name: &str, case: Case) -> Result<()> {
-        let done = self.builder.key_cased(name, case);
-        self.events = after(&self.events, &done, Call::FieldKey(name, case));
-        done
+        send!(
+            self,
+            self.builder.key_cased(name, case),
+            Call::FieldKey(name, case)
+        )
     }
 
     #[inline(always)]
     fn variant_key(&mut self, name: &str, case: Case) -> Result<()> {
-        let done = self.builder.variant_key(name, case);
-        self.events = after(&self.events, &done, Call::VariantKey(name, case));
-        done
+        send!(
+            self,
+            self.builder.variant_key(name, case),
+            Call::VariantKey(name, case)
+        )
     }
 
     #[inline(always)]
     fn begin_key(&mut self) -> Result<()> {
-        let done = self.builder.begin_key();
-        self.events = after(&self.events, &done, Call::BeginKey);
-        done
+        send!(self, self.builder.begin_key(), Call::BeginKey)
     }
 
     #[inline(always)]
     fn end_key(&mut self) -> Result<()> {
-        let done = self.builder.end_key();
-        self.events = after(&self.events, &done, Call::EndKey);
-        done
+        send!(self, self.builder.end_key(), Call::EndKey)
     }
 
     #[inline(always)]
     fn flatten_next(&mut self) -> Result<()> {
-        let done = self.builder.flatten_next();
-        self.events = after(&self.events, &done, Call::Flatten);
-        done
+        send!(self, self.builder.flatten_next(), Call::Flatten)
     }
 
     fn collect_str<T: Display>(&mut self, value: &T) -> Result<()> {
