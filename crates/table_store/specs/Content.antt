@@ -1,6 +1,7 @@
 -- What the keys of a table in a database are, and which items it refuses.
 use Rattle.std.specs.Prelude.{◌≡◌, ◌⊎◌, ⊤, false, Result, Ok, Err, Option, IfSome, MatchResult}
 use Rattle.std.specs.Ordering.{is_ne}
+use Rattle.sqlite.specs.declared.connection.Connection.{Connection}
 use Rattle.dynamo_value.specs.declared.item.Item.{Item}
 use Rattle.table_keys.specs.KeyOf.{ReadsKey}
 use Rattle.table_keys.specs.KeyOrder.{key_cmp}
@@ -18,6 +19,10 @@ table_of store = store.table
 
 abbrev pub schema_of : {S : Type 0} → TableStore S → KeySchema
 schema_of store = store.table.schema
+
+-- the database that the table is in
+abbrev pub connection_of : {S : Type 0} → TableStore S → Connection S
+connection_of store = store.conn
 
 -- an item without a key of the table is refused by the first error of its key
 abbrev pub NeedsKey : {A : Type 0} → KeySchema → Item → Result A StoreError → Type 0

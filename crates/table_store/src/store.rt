@@ -4,7 +4,7 @@ ghost use Rattle.std.specs.Option.{option_copied};
 ghost use Rattle.table_keys.specs.KeyOf.{ReadsKey, words_of};
 ghost use Rattle.table_keys.specs.Conditions.{holds};
 ghost use Rattle.table_store.specs.Depth.{Checked, IsKept};
-ghost use Rattle.table_store.specs.Content.{FailsToChange, FoundHasKey, HadKeyOf, HasKey, HasThisKey, KeepsKey, NeedsKey, OfKey, schema_of, table_of};
+ghost use Rattle.table_store.specs.Content.{FailsToChange, FoundHasKey, HadKeyOf, HasKey, HasThisKey, KeepsKey, NeedsKey, OfKey, connection_of, schema_of, table_of};
 ghost use Rattle.table_store.specs.Faults.{CreateFails, OpenFails, QueryFails};
 ghost use Rattle.table_store.specs.Found.{IsFound};
 ghost use Rattle.table_store.specs.Order.{AreBehind};
@@ -106,7 +106,9 @@ impl<S: Alter + Drop> TableStore<S> {
     }
 
     /// Returns the connection and consumes the table.
-    pub fn into_connection(self) -> Connection<S> {
+    pub fn into_connection(self) -> Connection<S>
+        ensures { result ≡ connection_of self }
+    {
         let TableStore { conn, .. } = self;
         conn
     }
