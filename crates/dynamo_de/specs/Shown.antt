@@ -3,13 +3,14 @@ use Rattle.std.specs.Prelude.{ℕ, ℤ, true, false, codes, bytes_eq, chars, Lis
 use Rattle.dynamo_value.specs.Av as av
 use Rattle.dynamo_value.specs.Av.{Av}
 use Rattle.dynamo_value.specs.Fault.{Fault, expected_string, expected_map, expected_seq, expected_num, expected_bool, expected_char, expected_unit, expected_unit_struct, expected_enum, expected_bytes, failed_to_parse_int, failed_to_parse_float}
-use Rattle.dynamo_value.specs.Integer.{IntegerKind, i8, i16, i32, i64, i128, u8, u16, u32, u64, u128}
+use Rattle.dynamo_value.specs.Integer.{IntegerKind, i64, u64}
+use Rattle.dynamo_de.specs.Integers.{kind_of}
 use Rattle.dynamo_de.specs.Number.{parse, is_float_text}
 use Rattle.dynamo_de.specs.Sight as sight
 use Rattle.dynamo_de.specs.Sight.{Sight, only_entry}
 use Rattle.dynamo_de.specs.Source.{Source, attribute, key_text, number_text, plain_text, byte_string, entries_of, values_of, each}
 use Rattle.dynamo_de.specs.declared.request.Request.{Request}
-use Rattle.dynamo_de.specs.declared.request.Request.TheVariants.{Any, Bool as AskBool, I8, I16, I32, I64, I128, U8, U16, U32, U64, U128, Char, Str, String, Bytes, ByteBuf, Option, Unit, UnitStruct, NewtypeStruct, Seq, Tuple, TupleStruct, Map, Struct, Enum, Identifier, IgnoredAny}
+use Rattle.dynamo_de.specs.declared.request.Request.TheVariants.{Any, Bool as AskBool, Integer, Char, Str, String, Bytes, ByteBuf, Option, Unit, UnitStruct, NewtypeStruct, Seq, Tuple, TupleStruct, Map, Struct, Enum, Identifier, IgnoredAny}
 
 abbrev pub Shown : Type 0
 Shown = Result Sight Fault
@@ -117,16 +118,7 @@ enum_shown _ = Err expected_enum
 abbrev pub attribute_shown : Request → Av → Shown
 attribute_shown Any a = any_shown a
 attribute_shown AskBool a = bool_shown a
-attribute_shown I8 a = num_shown i8 a
-attribute_shown I16 a = num_shown i16 a
-attribute_shown I32 a = num_shown i32 a
-attribute_shown I64 a = num_shown i64 a
-attribute_shown I128 a = num_shown i128 a
-attribute_shown U8 a = num_shown u8 a
-attribute_shown U16 a = num_shown u16 a
-attribute_shown U32 a = num_shown u32 a
-attribute_shown U64 a = num_shown u64 a
-attribute_shown U128 a = num_shown u128 a
+attribute_shown (Integer k) a = num_shown (kind_of k) a
 attribute_shown Char a = char_shown a
 attribute_shown Str a = text_shown a
 attribute_shown String a = text_shown a
@@ -149,16 +141,7 @@ attribute_shown IgnoredAny a = any_shown a
 
 -- an element of a set of numbers
 abbrev pub number_text_shown : Request → List ℕ → Shown
-number_text_shown I8 t = integer_shown i8 (failed_to_parse_int t) t
-number_text_shown I16 t = integer_shown i16 (failed_to_parse_int t) t
-number_text_shown I32 t = integer_shown i32 (failed_to_parse_int t) t
-number_text_shown I64 t = integer_shown i64 (failed_to_parse_int t) t
-number_text_shown I128 t = integer_shown i128 (failed_to_parse_int t) t
-number_text_shown U8 t = integer_shown u8 (failed_to_parse_int t) t
-number_text_shown U16 t = integer_shown u16 (failed_to_parse_int t) t
-number_text_shown U32 t = integer_shown u32 (failed_to_parse_int t) t
-number_text_shown U64 t = integer_shown u64 (failed_to_parse_int t) t
-number_text_shown U128 t = integer_shown u128 (failed_to_parse_int t) t
+number_text_shown (Integer k) t = integer_shown (kind_of k) (failed_to_parse_int t) t
 number_text_shown _ t = number_shown t
 
 abbrev pub bool_key_shown : List ℕ → Shown
@@ -167,16 +150,7 @@ bool_key_shown t = if bytes_eq t (codes "true") then Ok (sight.boolean true) els
 -- the key of a map
 abbrev pub key_shown : Request → List ℕ → Shown
 key_shown AskBool t = bool_key_shown t
-key_shown I8 t = integer_shown i8 expected_num t
-key_shown I16 t = integer_shown i16 expected_num t
-key_shown I32 t = integer_shown i32 expected_num t
-key_shown I64 t = integer_shown i64 expected_num t
-key_shown I128 t = integer_shown i128 expected_num t
-key_shown U8 t = integer_shown u8 expected_num t
-key_shown U16 t = integer_shown u16 expected_num t
-key_shown U32 t = integer_shown u32 expected_num t
-key_shown U64 t = integer_shown u64 expected_num t
-key_shown U128 t = integer_shown u128 expected_num t
+key_shown (Integer k) t = integer_shown (kind_of k) expected_num t
 key_shown NewtypeStruct t = Ok (sight.newtype (key_text t))
 key_shown Enum t = Ok (named t)
 key_shown _ t = Ok (sight.text t)

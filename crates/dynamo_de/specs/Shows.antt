@@ -1,7 +1,7 @@
 -- What a reader shows, as contracts see it.
-use Rattle.std.specs.Prelude.{◌≡◌, ◌⊎◌, ℕ, pos, List, [], ◌∷◌, Option, Some, None, Result, Ok, Err, string_bytes}
+use Rattle.std.specs.Prelude.{◌≡◌, ◌⊎◌, ℕ, List, [], ◌∷◌, Option, Some, None, Result, Ok, Err, string_bytes}
 use Rattle.dynamo_value.specs.Fault.{Fault, out_of_memory}
-use Rattle.dynamo_value.specs.Integer.{i8, i16, i32, i64, i128, u8, u16, u32, u64, u128}
+use Rattle.dynamo_de.specs.Integers.{integer_sight}
 use Rattle.dynamo_de.specs.Shown.{Shown}
 use Rattle.dynamo_de.specs.Sight as sight
 use Rattle.dynamo_de.specs.Sight.{Sight}
@@ -12,16 +12,7 @@ use Rattle.dynamo_de.specs.declared.showing.Showing.TheVariants as showing
 -- by what the reader tells of the readers inside, of elements, entries and variants
 abbrev pub seen : {D L M C : Type 0} → (D → Source) → (L → List Source) → (M → List Entry) → (C → Result (List ℕ × Option Source) Fault) → Showing D L M C → Sight
 seen source elements entries variants (showing.Bool b) = sight.boolean b
-seen source elements entries variants (showing.I8 n) = sight.integer i8 n
-seen source elements entries variants (showing.I16 n) = sight.integer i16 n
-seen source elements entries variants (showing.I32 n) = sight.integer i32 n
-seen source elements entries variants (showing.I64 n) = sight.integer i64 n
-seen source elements entries variants (showing.I128 n) = sight.integer i128 n
-seen source elements entries variants (showing.U8 n) = sight.integer u8 (pos n)
-seen source elements entries variants (showing.U16 n) = sight.integer u16 (pos n)
-seen source elements entries variants (showing.U32 n) = sight.integer u32 (pos n)
-seen source elements entries variants (showing.U64 n) = sight.integer u64 (pos n)
-seen source elements entries variants (showing.U128 n) = sight.integer u128 (pos n)
+seen source elements entries variants (showing.Integer n) = integer_sight n
 seen source elements entries variants (showing.NumberText t) = sight.number_text (string_bytes t)
 seen source elements entries variants (showing.Char c) = sight.char c
 seen source elements entries variants (showing.FirstChar c) = sight.first_char c

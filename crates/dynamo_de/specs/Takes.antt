@@ -2,13 +2,16 @@
 use Rattle.std.specs.Prelude.{◌≡◌, ◌⊎◌, ℕ, ℤ, Bool, true, false, List, [], ◌∷◌, Result, Ok, Err}
 use Rattle.std.specs.Char.{encode_utf8}
 use Rattle.dynamo_value.specs.Fault.{Fault, expected_char}
-use Rattle.dynamo_value.specs.Integer.{IntegerKind, i8, i16, i32, i64, i128, u8, u16, u32, u64, u128}
+use Rattle.dynamo_value.specs.Integer as integers
+use Rattle.dynamo_value.specs.Integer.{i8, i16, i32, i64, i128, u8, u16, u32, u64, u128}
 use Rattle.dynamo_value.specs.Refusal as refusal
 use Rattle.dynamo_de.specs.Meets.{Fails, IsMessage, Meets}
 use Rattle.dynamo_de.specs.Shown.{Shown, shown}
 use Rattle.dynamo_de.specs.Sight as sight
 use Rattle.dynamo_de.specs.Sight.{Sight}
 use Rattle.dynamo_de.specs.Source.{Source}
+use Rattle.dynamo_de.specs.declared.integer.IntegerKind.{IntegerKind}
+use Rattle.dynamo_de.specs.declared.integer.IntegerKind.TheVariants as types
 use Rattle.dynamo_de.specs.declared.kind.Kind.{Kind}
 use Rattle.dynamo_de.specs.declared.kind.Kind.TheVariants as kind
 use Rattle.dynamo_de.specs.declared.request.Request.{Request}
@@ -26,18 +29,21 @@ Refuses claimed r = Where claimed ⊥ (IsMessage r)
 abbrev pub Way : Type 0
 Way = Kind × Sight
 
+abbrev pub way : IntegerKind → Sight → Way
+way k s = (kind.Integer k, s)
+
 -- A narrow integer is shown as one of 64 bits to a visitor that doesn't claim its kind.
-abbrev pub integer_ways : IntegerKind → ℤ → List Way
-integer_ways i8 z = (kind.I8, sight.integer i8 z) ∷ (kind.I64, sight.integer i64 z) ∷ []
-integer_ways i16 z = (kind.I16, sight.integer i16 z) ∷ (kind.I64, sight.integer i64 z) ∷ []
-integer_ways i32 z = (kind.I32, sight.integer i32 z) ∷ (kind.I64, sight.integer i64 z) ∷ []
-integer_ways i64 z = (kind.I64, sight.integer i64 z) ∷ []
-integer_ways i128 z = (kind.I128, sight.integer i128 z) ∷ []
-integer_ways u8 z = (kind.U8, sight.integer u8 z) ∷ (kind.U64, sight.integer u64 z) ∷ []
-integer_ways u16 z = (kind.U16, sight.integer u16 z) ∷ (kind.U64, sight.integer u64 z) ∷ []
-integer_ways u32 z = (kind.U32, sight.integer u32 z) ∷ (kind.U64, sight.integer u64 z) ∷ []
-integer_ways u64 z = (kind.U64, sight.integer u64 z) ∷ []
-integer_ways u128 z = (kind.U128, sight.integer u128 z) ∷ []
+abbrev pub integer_ways : integers.IntegerKind → ℤ → List Way
+integer_ways i8 z = way types.I8 (sight.integer i8 z) ∷ way types.I64 (sight.integer i64 z) ∷ []
+integer_ways i16 z = way types.I16 (sight.integer i16 z) ∷ way types.I64 (sight.integer i64 z) ∷ []
+integer_ways i32 z = way types.I32 (sight.integer i32 z) ∷ way types.I64 (sight.integer i64 z) ∷ []
+integer_ways i64 z = way types.I64 (sight.integer i64 z) ∷ []
+integer_ways i128 z = way types.I128 (sight.integer i128 z) ∷ []
+integer_ways u8 z = way types.U8 (sight.integer u8 z) ∷ way types.U64 (sight.integer u64 z) ∷ []
+integer_ways u16 z = way types.U16 (sight.integer u16 z) ∷ way types.U64 (sight.integer u64 z) ∷ []
+integer_ways u32 z = way types.U32 (sight.integer u32 z) ∷ way types.U64 (sight.integer u64 z) ∷ []
+integer_ways u64 z = way types.U64 (sight.integer u64 z) ∷ []
+integer_ways u128 z = way types.U128 (sight.integer u128 z) ∷ []
 
 -- A character is shown as its text to a visitor that doesn't claim characters.
 abbrev pub char_ways : ℕ → List Way

@@ -1,11 +1,9 @@
 -- What the types of the library claim, and what they take of what they are shown. What they do not claim they refuse.
-use Rattle.std.specs.Prelude.{ℕ, ℤ, Bool, true, false, chars, List, [], ◌∷◌, Option as Maybe, Some as Just, None as Nothing, Result, Ok, Err, if◌then◌else◌, ⊤}
+use Rattle.std.specs.Prelude.{ℕ, Bool, true, false, chars, List, [], ◌∷◌, Option as Maybe, Some as Just, None as Nothing, Result, Ok, Err, if◌then◌else◌, ⊤}
 use Rattle.std.specs.Str.{is_utf8}
 use Rattle.dynamo_value.specs.Fault.{Fault}
-use Rattle.dynamo_value.specs.Integer.{IntegerKind, i128, u128}
 use Rattle.dynamo_de.specs.Answer as answer
 use Rattle.dynamo_de.specs.Answer.{Answer, value_or}
-use Rattle.dynamo_de.specs.Number.{fits}
 use Rattle.dynamo_de.specs.Sight as sight
 use Rattle.dynamo_de.specs.Sight.{Sight}
 use Rattle.dynamo_de.specs.Source.{Source, Entry}
@@ -19,27 +17,6 @@ claims_bool _ = false
 abbrev pub take_bool : Sight → Answer Bool
 take_bool (sight.boolean b) = answer.value b
 take_bool _ = answer.refused
-
-abbrev pub is_wide : IntegerKind → Bool
-is_wide i128 = true
-is_wide u128 = true
-is_wide _ = false
-
--- integers of 64 bits, and where `wide` those of 128
-abbrev pub claims_integers : Bool → Kind → Bool
-claims_integers wide kind.I64 = true
-claims_integers wide kind.U64 = true
-claims_integers wide kind.I128 = wide
-claims_integers wide kind.U128 = wide
-claims_integers wide _ = false
-
--- the integer where it is in the kind's range
-abbrev pub checked : IntegerKind → ℤ → Maybe ℤ
-checked k z = if fits k z then Just z else Nothing
-
-abbrev pub take_integer : IntegerKind → Sight → Answer ℤ
-take_integer k (sight.integer shown z) = value_or (checked k z) answer.refused
-take_integer k _ = answer.refused
 
 abbrev pub claims_char : Kind → Bool
 claims_char kind.Char = true

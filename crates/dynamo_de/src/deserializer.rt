@@ -1,9 +1,10 @@
 ghost use Rattle.dynamo_de.specs.Shows.{seen};
 ghost use Rattle.dynamo_de.specs.Takes.{Asks, Visits};
+ghost use Rattle.dynamo_de.specs.declared.integer.IntegerKind.TheVariants as types;
 ghost use Rattle.dynamo_de.specs.declared.request.Request.TheVariants as request;
 
 use crate::reader_access::{ReaderEnumAccess, ReaderMapAccess, ReaderSeqAccess};
-use crate::{Reader, Request, Showing, Visitor};
+use crate::{Integer, IntegerKind, Reader, Request, Showing, Visitor};
 
 /// Calls the visitor with what a reader shows.
 fn offer<R: Reader, V: Visitor>(
@@ -14,16 +15,18 @@ fn offer<R: Reader, V: Visitor>(
 {
     match showing {
         Showing::Bool(v) => visitor.visit_bool(v),
-        Showing::I8(v) => visitor.visit_i8(v),
-        Showing::I16(v) => visitor.visit_i16(v),
-        Showing::I32(v) => visitor.visit_i32(v),
-        Showing::I64(v) => visitor.visit_i64(v),
-        Showing::I128(v) => visitor.visit_i128(v),
-        Showing::U8(v) => visitor.visit_u8(v),
-        Showing::U16(v) => visitor.visit_u16(v),
-        Showing::U32(v) => visitor.visit_u32(v),
-        Showing::U64(v) => visitor.visit_u64(v),
-        Showing::U128(v) => visitor.visit_u128(v),
+        Showing::Integer(v) => match v {
+            Integer::I8(v) => visitor.visit_i8(v),
+            Integer::I16(v) => visitor.visit_i16(v),
+            Integer::I32(v) => visitor.visit_i32(v),
+            Integer::I64(v) => visitor.visit_i64(v),
+            Integer::I128(v) => visitor.visit_i128(v),
+            Integer::U8(v) => visitor.visit_u8(v),
+            Integer::U16(v) => visitor.visit_u16(v),
+            Integer::U32(v) => visitor.visit_u32(v),
+            Integer::U64(v) => visitor.visit_u64(v),
+            Integer::U128(v) => visitor.visit_u128(v),
+        },
         Showing::NumberText(v) => visitor.visit_number_text(v.as_str()),
         Showing::Char(v) => visitor.visit_char(v),
         Showing::FirstChar(v) => match visitor.visit_char(v) {
@@ -78,9 +81,9 @@ pub trait Deserializer: Reader {
     /// Returns an error if the source holds other data, if the visitor refuses the data, or if
     /// memory runs out.
     final fn deserialize_i8<V: Visitor>(self, visitor: V) -> Result<V::Value, Self::Error>
-        ensures { Asks Self.Error.fault (V.claimed visitor) (V.takes visitor) request.I8 (Self.source self) result }
+        ensures { Asks Self.Error.fault (V.claimed visitor) (V.takes visitor) (request.Integer types.I8) (Self.source self) result }
     {
-        offer::<Self, V>(self.show(Request::I8)?, visitor)
+        offer::<Self, V>(self.show(Request::Integer(IntegerKind::I8))?, visitor)
     }
 
     /// Asks for an `i16`.
@@ -90,9 +93,9 @@ pub trait Deserializer: Reader {
     /// Returns an error if the source holds other data, if the visitor refuses the data, or if
     /// memory runs out.
     final fn deserialize_i16<V: Visitor>(self, visitor: V) -> Result<V::Value, Self::Error>
-        ensures { Asks Self.Error.fault (V.claimed visitor) (V.takes visitor) request.I16 (Self.source self) result }
+        ensures { Asks Self.Error.fault (V.claimed visitor) (V.takes visitor) (request.Integer types.I16) (Self.source self) result }
     {
-        offer::<Self, V>(self.show(Request::I16)?, visitor)
+        offer::<Self, V>(self.show(Request::Integer(IntegerKind::I16))?, visitor)
     }
 
     /// Asks for an `i32`.
@@ -102,9 +105,9 @@ pub trait Deserializer: Reader {
     /// Returns an error if the source holds other data, if the visitor refuses the data, or if
     /// memory runs out.
     final fn deserialize_i32<V: Visitor>(self, visitor: V) -> Result<V::Value, Self::Error>
-        ensures { Asks Self.Error.fault (V.claimed visitor) (V.takes visitor) request.I32 (Self.source self) result }
+        ensures { Asks Self.Error.fault (V.claimed visitor) (V.takes visitor) (request.Integer types.I32) (Self.source self) result }
     {
-        offer::<Self, V>(self.show(Request::I32)?, visitor)
+        offer::<Self, V>(self.show(Request::Integer(IntegerKind::I32))?, visitor)
     }
 
     /// Asks for an `i64`.
@@ -114,9 +117,9 @@ pub trait Deserializer: Reader {
     /// Returns an error if the source holds other data, if the visitor refuses the data, or if
     /// memory runs out.
     final fn deserialize_i64<V: Visitor>(self, visitor: V) -> Result<V::Value, Self::Error>
-        ensures { Asks Self.Error.fault (V.claimed visitor) (V.takes visitor) request.I64 (Self.source self) result }
+        ensures { Asks Self.Error.fault (V.claimed visitor) (V.takes visitor) (request.Integer types.I64) (Self.source self) result }
     {
-        offer::<Self, V>(self.show(Request::I64)?, visitor)
+        offer::<Self, V>(self.show(Request::Integer(IntegerKind::I64))?, visitor)
     }
 
     /// Asks for an `i128`.
@@ -126,9 +129,9 @@ pub trait Deserializer: Reader {
     /// Returns an error if the source holds other data, if the visitor refuses the data, or if
     /// memory runs out.
     final fn deserialize_i128<V: Visitor>(self, visitor: V) -> Result<V::Value, Self::Error>
-        ensures { Asks Self.Error.fault (V.claimed visitor) (V.takes visitor) request.I128 (Self.source self) result }
+        ensures { Asks Self.Error.fault (V.claimed visitor) (V.takes visitor) (request.Integer types.I128) (Self.source self) result }
     {
-        offer::<Self, V>(self.show(Request::I128)?, visitor)
+        offer::<Self, V>(self.show(Request::Integer(IntegerKind::I128))?, visitor)
     }
 
     /// Asks for a `u8`.
@@ -138,9 +141,9 @@ pub trait Deserializer: Reader {
     /// Returns an error if the source holds other data, if the visitor refuses the data, or if
     /// memory runs out.
     final fn deserialize_u8<V: Visitor>(self, visitor: V) -> Result<V::Value, Self::Error>
-        ensures { Asks Self.Error.fault (V.claimed visitor) (V.takes visitor) request.U8 (Self.source self) result }
+        ensures { Asks Self.Error.fault (V.claimed visitor) (V.takes visitor) (request.Integer types.U8) (Self.source self) result }
     {
-        offer::<Self, V>(self.show(Request::U8)?, visitor)
+        offer::<Self, V>(self.show(Request::Integer(IntegerKind::U8))?, visitor)
     }
 
     /// Asks for a `u16`.
@@ -150,9 +153,9 @@ pub trait Deserializer: Reader {
     /// Returns an error if the source holds other data, if the visitor refuses the data, or if
     /// memory runs out.
     final fn deserialize_u16<V: Visitor>(self, visitor: V) -> Result<V::Value, Self::Error>
-        ensures { Asks Self.Error.fault (V.claimed visitor) (V.takes visitor) request.U16 (Self.source self) result }
+        ensures { Asks Self.Error.fault (V.claimed visitor) (V.takes visitor) (request.Integer types.U16) (Self.source self) result }
     {
-        offer::<Self, V>(self.show(Request::U16)?, visitor)
+        offer::<Self, V>(self.show(Request::Integer(IntegerKind::U16))?, visitor)
     }
 
     /// Asks for a `u32`.
@@ -162,9 +165,9 @@ pub trait Deserializer: Reader {
     /// Returns an error if the source holds other data, if the visitor refuses the data, or if
     /// memory runs out.
     final fn deserialize_u32<V: Visitor>(self, visitor: V) -> Result<V::Value, Self::Error>
-        ensures { Asks Self.Error.fault (V.claimed visitor) (V.takes visitor) request.U32 (Self.source self) result }
+        ensures { Asks Self.Error.fault (V.claimed visitor) (V.takes visitor) (request.Integer types.U32) (Self.source self) result }
     {
-        offer::<Self, V>(self.show(Request::U32)?, visitor)
+        offer::<Self, V>(self.show(Request::Integer(IntegerKind::U32))?, visitor)
     }
 
     /// Asks for a `u64`.
@@ -174,9 +177,9 @@ pub trait Deserializer: Reader {
     /// Returns an error if the source holds other data, if the visitor refuses the data, or if
     /// memory runs out.
     final fn deserialize_u64<V: Visitor>(self, visitor: V) -> Result<V::Value, Self::Error>
-        ensures { Asks Self.Error.fault (V.claimed visitor) (V.takes visitor) request.U64 (Self.source self) result }
+        ensures { Asks Self.Error.fault (V.claimed visitor) (V.takes visitor) (request.Integer types.U64) (Self.source self) result }
     {
-        offer::<Self, V>(self.show(Request::U64)?, visitor)
+        offer::<Self, V>(self.show(Request::Integer(IntegerKind::U64))?, visitor)
     }
 
     /// Asks for a `u128`.
@@ -186,9 +189,9 @@ pub trait Deserializer: Reader {
     /// Returns an error if the source holds other data, if the visitor refuses the data, or if
     /// memory runs out.
     final fn deserialize_u128<V: Visitor>(self, visitor: V) -> Result<V::Value, Self::Error>
-        ensures { Asks Self.Error.fault (V.claimed visitor) (V.takes visitor) request.U128 (Self.source self) result }
+        ensures { Asks Self.Error.fault (V.claimed visitor) (V.takes visitor) (request.Integer types.U128) (Self.source self) result }
     {
-        offer::<Self, V>(self.show(Request::U128)?, visitor)
+        offer::<Self, V>(self.show(Request::Integer(IntegerKind::U128))?, visitor)
     }
 
     /// Asks for a character.

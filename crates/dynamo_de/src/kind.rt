@@ -1,3 +1,5 @@
+use crate::IntegerKind;
+
 /// The kinds of data that a visitor can be called with: one for each `visit_` method of
 /// [`Visitor`](crate::Visitor). An owned string counts as a string, and an owned byte string as a
 /// byte string.
@@ -5,26 +7,8 @@
 pub enum Kind {
     /// A boolean.
     Bool,
-    /// An `i8`.
-    I8,
-    /// An `i16`.
-    I16,
-    /// An `i32`.
-    I32,
-    /// An `i64`.
-    I64,
-    /// An `i128`.
-    I128,
-    /// A `u8`.
-    U8,
-    /// A `u16`.
-    U16,
-    /// A `u32`.
-    U32,
-    /// A `u64`.
-    U64,
-    /// A `u128`.
-    U128,
+    /// An integer of this type.
+    Integer(IntegerKind),
     /// A number that neither an `i64` nor a `u64` holds, as its string.
     NumberText,
     /// A character.
@@ -54,16 +38,7 @@ impl Kind {
     pub(crate) fn name(self) -> &'static str {
         match self {
             Kind::Bool => "boolean",
-            Kind::I8
-            | Kind::I16
-            | Kind::I32
-            | Kind::I64
-            | Kind::I128
-            | Kind::U8
-            | Kind::U16
-            | Kind::U32
-            | Kind::U64
-            | Kind::U128 => "integer",
+            Kind::Integer(_) => "integer",
             Kind::NumberText => "floating point number",
             Kind::Char => "character",
             Kind::Str => "string",

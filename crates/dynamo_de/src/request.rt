@@ -1,3 +1,5 @@
+use crate::IntegerKind;
+
 /// The kinds of data that a reader can be asked for: one for each method of
 /// [`Deserializer`](crate::Deserializer).
 #[derive(Clone, Copy, Debug, PartialEq, Eq)]
@@ -6,26 +8,8 @@ pub enum Request {
     Any,
     /// A boolean.
     Bool,
-    /// An `i8`.
-    I8,
-    /// An `i16`.
-    I16,
-    /// An `i32`.
-    I32,
-    /// An `i64`.
-    I64,
-    /// An `i128`.
-    I128,
-    /// A `u8`.
-    U8,
-    /// A `u16`.
-    U16,
-    /// A `u32`.
-    U32,
-    /// A `u64`.
-    U64,
-    /// A `u128`.
-    U128,
+    /// An integer of this type.
+    Integer(IntegerKind),
     /// A character.
     Char,
     /// A string.

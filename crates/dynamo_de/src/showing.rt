@@ -6,7 +6,7 @@ ghost use Rattle.dynamo_de.specs.Shows.{seen, IsSurface};
 ghost use Rattle.dynamo_de.specs.Source.{Source, Entry};
 
 use crate::taken::invalid_type;
-use crate::{Error, Kind};
+use crate::{Error, Integer, Kind};
 use std::alloc::Global;
 
 /// What a [`Reader`](crate::Reader) finds in its source. `D` reads a content, `L` has the elements
@@ -15,26 +15,8 @@ use std::alloc::Global;
 pub enum Showing<D, L, M, C> {
     /// A boolean.
     Bool(bool),
-    /// An `i8`.
-    I8(i8),
-    /// An `i16`.
-    I16(i16),
-    /// An `i32`.
-    I32(i32),
-    /// An `i64`.
-    I64(i64),
-    /// An `i128`.
-    I128(i128),
-    /// A `u8`.
-    U8(u8),
-    /// A `u16`.
-    U16(u16),
-    /// A `u32`.
-    U32(u32),
-    /// A `u64`.
-    U64(u64),
-    /// A `u128`.
-    U128(u128),
+    /// An integer.
+    Integer(Integer),
     /// A number that neither an `i64` nor a `u64` holds, as its string.
     NumberText(String),
     /// A character.
@@ -94,16 +76,7 @@ impl<D, L, M, C> Showing<D, L, M, C> {
     pub fn kind(&self) -> Kind {
         match self {
             Showing::Bool(_) => Kind::Bool,
-            Showing::I8(_) => Kind::I8,
-            Showing::I16(_) => Kind::I16,
-            Showing::I32(_) => Kind::I32,
-            Showing::I64(_) => Kind::I64,
-            Showing::I128(_) => Kind::I128,
-            Showing::U8(_) => Kind::U8,
-            Showing::U16(_) => Kind::U16,
-            Showing::U32(_) => Kind::U32,
-            Showing::U64(_) => Kind::U64,
-            Showing::U128(_) => Kind::U128,
+            Showing::Integer(v) => Kind::Integer(v.kind()),
             Showing::NumberText(_) => Kind::NumberText,
             Showing::Char(_) | Showing::FirstChar(_) => Kind::Char,
             Showing::Text(_) => Kind::Str,
@@ -129,16 +102,7 @@ impl<D, L, M, C> Showing<D, L, M, C> {
     {
         match self {
             Showing::Bool(v) => Showing::Bool(v),
-            Showing::I8(v) => Showing::I8(v),
-            Showing::I16(v) => Showing::I16(v),
-            Showing::I32(v) => Showing::I32(v),
-            Showing::I64(v) => Showing::I64(v),
-            Showing::I128(v) => Showing::I128(v),
-            Showing::U8(v) => Showing::U8(v),
-            Showing::U16(v) => Showing::U16(v),
-            Showing::U32(v) => Showing::U32(v),
-            Showing::U64(v) => Showing::U64(v),
-            Showing::U128(v) => Showing::U128(v),
+            Showing::Integer(v) => Showing::Integer(v),
             Showing::NumberText(v) => Showing::NumberText(v),
             Showing::Char(v) => Showing::Char(v),
             Showing::FirstChar(v) => Showing::FirstChar(v),

@@ -7,7 +7,7 @@ ghost use Rattle.dynamo_de.specs.Takes.{Visits};
 ghost use Rattle.dynamo_de.specs.declared.kind.Kind.{Kind};
 
 use crate::taken::refuse;
-use crate::{Deserializer, EnumAccess, Error, Kind, MapAccess, SeqAccess};
+use crate::{Deserializer, EnumAccess, Error, IntegerKind, Kind, MapAccess, SeqAccess};
 use std::alloc::Global;
 
 /// Makes a value of the data that a deserializer finds, as serde's `Visitor`.
@@ -62,7 +62,7 @@ pub trait Visitor: Sized + Drop {
     fn visit_i8<E: Error>(self, v: i8) -> Result<Self::Value, E>
         ensures { Visits E.fault (claimed self) (takes self) (sight.integer integers.i8 v) result }
     {
-        if self.claims(Kind::I8) {
+        if self.claims(Kind::Integer(IntegerKind::I8)) {
             return Err(E::out_of_memory());
         }
         self.visit_i64(i64::from(v))
@@ -76,7 +76,7 @@ pub trait Visitor: Sized + Drop {
     fn visit_i16<E: Error>(self, v: i16) -> Result<Self::Value, E>
         ensures { Visits E.fault (claimed self) (takes self) (sight.integer integers.i16 v) result }
     {
-        if self.claims(Kind::I16) {
+        if self.claims(Kind::Integer(IntegerKind::I16)) {
             return Err(E::out_of_memory());
         }
         self.visit_i64(i64::from(v))
@@ -90,7 +90,7 @@ pub trait Visitor: Sized + Drop {
     fn visit_i32<E: Error>(self, v: i32) -> Result<Self::Value, E>
         ensures { Visits E.fault (claimed self) (takes self) (sight.integer integers.i32 v) result }
     {
-        if self.claims(Kind::I32) {
+        if self.claims(Kind::Integer(IntegerKind::I32)) {
             return Err(E::out_of_memory());
         }
         self.visit_i64(i64::from(v))
@@ -106,8 +106,8 @@ pub trait Visitor: Sized + Drop {
     {
         refuse(
             self.alloc(),
-            Kind::I64,
-            self.claims(Kind::I64),
+            Kind::Integer(IntegerKind::I64),
+            self.claims(Kind::Integer(IntegerKind::I64)),
             self.expecting(),
         )
     }
@@ -122,8 +122,8 @@ pub trait Visitor: Sized + Drop {
     {
         refuse(
             self.alloc(),
-            Kind::I128,
-            self.claims(Kind::I128),
+            Kind::Integer(IntegerKind::I128),
+            self.claims(Kind::Integer(IntegerKind::I128)),
             self.expecting(),
         )
     }
@@ -136,7 +136,7 @@ pub trait Visitor: Sized + Drop {
     fn visit_u8<E: Error>(self, v: u8) -> Result<Self::Value, E>
         ensures { Visits E.fault (claimed self) (takes self) (sight.integer integers.u8 (pos v)) result }
     {
-        if self.claims(Kind::U8) {
+        if self.claims(Kind::Integer(IntegerKind::U8)) {
             return Err(E::out_of_memory());
         }
         self.visit_u64(u64::from(v))
@@ -150,7 +150,7 @@ pub trait Visitor: Sized + Drop {
     fn visit_u16<E: Error>(self, v: u16) -> Result<Self::Value, E>
         ensures { Visits E.fault (claimed self) (takes self) (sight.integer integers.u16 (pos v)) result }
     {
-        if self.claims(Kind::U16) {
+        if self.claims(Kind::Integer(IntegerKind::U16)) {
             return Err(E::out_of_memory());
         }
         self.visit_u64(u64::from(v))
@@ -164,7 +164,7 @@ pub trait Visitor: Sized + Drop {
     fn visit_u32<E: Error>(self, v: u32) -> Result<Self::Value, E>
         ensures { Visits E.fault (claimed self) (takes self) (sight.integer integers.u32 (pos v)) result }
     {
-        if self.claims(Kind::U32) {
+        if self.claims(Kind::Integer(IntegerKind::U32)) {
             return Err(E::out_of_memory());
         }
         self.visit_u64(u64::from(v))
@@ -180,8 +180,8 @@ pub trait Visitor: Sized + Drop {
     {
         refuse(
             self.alloc(),
-            Kind::U64,
-            self.claims(Kind::U64),
+            Kind::Integer(IntegerKind::U64),
+            self.claims(Kind::Integer(IntegerKind::U64)),
             self.expecting(),
         )
     }
@@ -196,8 +196,8 @@ pub trait Visitor: Sized + Drop {
     {
         refuse(
             self.alloc(),
-            Kind::U128,
-            self.claims(Kind::U128),
+            Kind::Integer(IntegerKind::U128),
+            self.claims(Kind::Integer(IntegerKind::U128)),
             self.expecting(),
         )
     }

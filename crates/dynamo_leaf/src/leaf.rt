@@ -1,24 +1,28 @@
-ghost use Rattle.std.specs.Prelude.{◌≡◌, ℕ, List, Option, Result, Ok, string_bytes};
-ghost use Rattle.dynamo_value.specs.Fault.{Fault};
+ghost use Rattle.std.specs.Prelude.{◌≡◌, ℕ, List, Ok, option_map, string_bytes};
+ghost use Rattle.std.specs.Result.{result_ok};
 ghost use Rattle.dynamo_value.specs.Kind.{fault_of};
+ghost use Rattle.dynamo_de.specs.Integers.{integer_sight, kind_of};
+ghost use Rattle.dynamo_de.specs.Number.{parse};
 ghost use Rattle.dynamo_de.specs.Shown.{bool_key_shown, key_shown, number_shown, number_text_shown, plain_text_shown};
-ghost use Rattle.dynamo_de.specs.Shows.{seen};
-ghost use Rattle.dynamo_de.specs.Source.{Source, Entry};
-ghost use Rattle.dynamo_leaf.specs.Leaf.{ShowsLeaf, ReadsInteger, asked, leaf_sight, no_number_fault, scalar_sight};
+ghost use Rattle.dynamo_de.specs.Sight as sight;
+ghost use Rattle.dynamo_leaf.specs.Leaf.{ShowsLeaf, leaf_sight, no_number_fault};
 
 use crate::number_text::{
     is_float_text, parse_i8, parse_i16, parse_i32, parse_i64, parse_i128, parse_u8, parse_u16,
     parse_u32, parse_u64, parse_u128,
 };
-use dynamo_de::{Request, Showing};
+use dynamo_de::{Integer, IntegerKind, Request};
 use dynamo_value::{Error, ErrorImpl, Result};
 use std::num::ParseIntError;
 
-/// What a borrowed string holds: a scalar, or the string itself, which the leaf doesn't keep.
+/// What a borrowed string holds: a boolean, an integer, or the string itself, which the leaf doesn't
+/// keep.
 #[derive(Debug, Drop, PartialEq, Eq)]
 pub enum Leaf {
-    /// A boolean or an integer.
-    Scalar(Scalar),
+    /// A boolean.
+    Bool(bool),
+    /// An integer.
+    Integer(Integer),
     /// The string, as a number that neither an `i64` nor a `u64` holds.
     NumberText,
     /// The string.
@@ -27,57 +31,6 @@ pub enum Leaf {
     Name,
     /// A newtype struct, whose content is the same key.
     Newtype,
-}
-
-/// A boolean or an integer that a string holds.
-#[derive(Debug, Drop, PartialEq, Eq)]
-pub enum Scalar {
-    /// A boolean.
-    Bool(bool),
-    /// An `i8`.
-    I8(i8),
-    /// An `i16`.
-    I16(i16),
-    /// An `i32`.
-    I32(i32),
-    /// An `i64`.
-    I64(i64),
-    /// An `i128`.
-    I128(i128),
-    /// A `u8`.
-    U8(u8),
-    /// A `u16`.
-    U16(u16),
-    /// A `u32`.
-    U32(u32),
-    /// A `u64`.
-    U64(u64),
-    /// A `u128`.
-    U128(u128),
-}
-
-impl Scalar {
-    /// Returns what a reader shows for it.
-    #[inline(always)]
-    pub fn shown<D, L, M, C>(self) -> Showing<D, L, M, C>
-        ensures { (source : D → Source) (elements : L → List Source) (entries : M → List Entry)
-            (variants : C → Result (List ℕ × Option Source) Fault)
-            → seen source elements entries variants result ≡ scalar_sight self }
-    {
-        match self {
-            Scalar::Bool(v) => Showing::Bool(v),
-            Scalar::I8(v) => Showing::I8(v),
-            Scalar::I16(v) => Showing::I16(v),
-            Scalar::I32(v) => Showing::I32(v),
-            Scalar::I64(v) => Showing::I64(v),
-            Scalar::I128(v) => Showing::I128(v),
-            Scalar::U8(v) => Showing::U8(v),
-            Scalar::U16(v) => Showing::U16(v),
-            Scalar::U32(v) => Showing::U32(v),
-            Scalar::U64(v) => Showing::U64(v),
-            Scalar::U128(v) => Showing::U128(v),
-        }
-    }
 }
 
 /// Why a borrowed string isn't a number.
@@ -101,22 +54,21 @@ impl NoNumber {
     }
 }
 
-// The integer of a string if an integer is asked for, or why the string isn't one.
-fn read_integer(request: Request, text: &str) -> Option<Result<Scalar, ParseIntError>>
-    ensures { ReadsInteger (asked request) text.now result }
+// The integer of a string, or why the string isn't one of this type.
+fn read_integer(kind: IntegerKind, text: &str) -> Result<Integer, ParseIntError>
+    ensures { option_map integer_sight (result_ok result) ≡ option_map (sight.integer (kind_of kind)) (parse (kind_of kind) text.now) }
 {
-    match request {
-        Request::I8 => Some(parse_i8(text).map(Scalar::I8)),
-        Request::I16 => Some(parse_i16(text).map(Scalar::I16)),
-        Request::I32 => Some(parse_i32(text).map(Scalar::I32)),
-        Request::I64 => Some(parse_i64(text).map(Scalar::I64)),
-        Request::I128 => Some(parse_i128(text).map(Scalar::I128)),
-        Request::U8 => Some(parse_u8(text).map(Scalar::U8)),
-        Request::U16 => Some(parse_u16(text).map(Scalar::U16)),
-        Request::U32 => Some(parse_u32(text).map(Scalar::U32)),
-        Request::U64 => Some(parse_u64(text).map(Scalar::U64)),
-        Request::U128 => Some(parse_u128(text).map(Scalar::U128)),
-        _ => None,
+    match kind {
+        IntegerKind::I8 => parse_i8(text).map(Integer::I8),
+        IntegerKind::I16 => parse_i16(text).map(Integer::I16),
+        IntegerKind::I32 => parse_i32(text).map(Integer::I32),
+        IntegerKind::I64 => parse_i64(text).map(Integer::I64),
+        IntegerKind::I128 => parse_i128(text).map(Integer::I128),
+        IntegerKind::U8 => parse_u8(text).map(Integer::U8),
+        IntegerKind::U16 => parse_u16(text).map(Integer::U16),
+        IntegerKind::U32 => parse_u32(text).map(Integer::U32),
+        IntegerKind::U64 => parse_u64(text).map(Integer::U64),
+        IntegerKind::U128 => parse_u128(text).map(Integer::U128),
     }
 }
 
@@ -125,10 +77,10 @@ fn show_any_number(text: &str) -> Result<Leaf, NoNumber>
     ensures { ShowsLeaf (no_number_fault text.now) text.now (number_shown text.now) result }
 {
     if let Ok(number) = parse_i64(text) {
-        return Ok(Leaf::Scalar(Scalar::I64(number)));
+        return Ok(Leaf::Integer(Integer::I64(number)));
     }
     if let Ok(number) = parse_u64(text) {
-        return Ok(Leaf::Scalar(Scalar::U64(number)));
+        return Ok(Leaf::Integer(Integer::U64(number)));
     }
     if is_float_text(text) {
         Ok(Leaf::NumberText)
@@ -142,8 +94,8 @@ fn show_bool(key: &str) -> Result<Leaf>
     ensures { ShowsLeaf fault_of key.now (bool_key_shown key.now) result }
 {
     match key {
-        "true" => Ok(Leaf::Scalar(Scalar::Bool(true))),
-        "false" => Ok(Leaf::Scalar(Scalar::Bool(false))),
+        "true" => Ok(Leaf::Bool(true)),
+        "false" => Ok(Leaf::Bool(false)),
         _ => Err(Error::from(ErrorImpl::ExpectedString)),
     }
 }
@@ -164,21 +116,24 @@ fn show_bool(key: &str) -> Result<Leaf>
 /// # Examples
 ///
 /// ```rust
-/// use dynamo_leaf::{Leaf, Scalar, show_number};
-/// use serde_dynamo::de::Request;
+/// use dynamo_leaf::{Leaf, show_number};
+/// use serde_dynamo::de::{Integer, IntegerKind, Request};
 ///
-/// assert!(rt; matches!(show_number(Request::U8, "42"), Ok(Leaf::Scalar(Scalar::U8(42)))));
-/// assert!(rt; matches!(show_number(Request::Any, "42"), Ok(Leaf::Scalar(Scalar::I64(42)))));
+/// let asked = Request::Integer(IntegerKind::U8);
+/// assert!(rt; matches!(show_number(asked, "42"), Ok(Leaf::Integer(Integer::U8(42)))));
+/// assert!(rt; matches!(show_number(Request::Any, "42"), Ok(Leaf::Integer(Integer::I64(42)))));
 /// assert!(rt; matches!(show_number(Request::Any, "1.5"), Ok(Leaf::NumberText)));
-/// assert!(rt; show_number(Request::U8, "256").is_err());
+/// assert!(rt; show_number(asked, "256").is_err());
 /// ```
 pub fn show_number(request: Request, text: &str) -> Result<Leaf, NoNumber>
     ensures { ShowsLeaf (no_number_fault text.now) text.now (number_text_shown request text.now) result }
 {
-    match read_integer(request, text) {
-        Some(Ok(number)) => Ok(Leaf::Scalar(number)),
-        Some(Err(cause)) => Err(NoNumber::Integer(cause)),
-        None => show_any_number(text),
+    match request {
+        Request::Integer(kind) => match read_integer(kind, text) {
+            Ok(number) => Ok(Leaf::Integer(number)),
+            Err(cause) => Err(NoNumber::Integer(cause)),
+        },
+        _ => show_any_number(text),
     }
 }
 
@@ -197,14 +152,14 @@ pub fn show_number(request: Request, text: &str) -> Result<Leaf, NoNumber>
 pub fn show_key(request: Request, text: &str) -> Result<Leaf>
     ensures { ShowsLeaf fault_of text.now (key_shown request text.now) result }
 {
-    match read_integer(request, text) {
-        Some(Ok(integer)) => Ok(Leaf::Scalar(integer)),
-        Some(Err(_)) => Err(Error::from(ErrorImpl::ExpectedNum)),
-        None => match request {
-            Request::Bool => show_bool(text),
-            Request::NewtypeStruct => Ok(Leaf::Newtype),
-            _ => Ok(show_plain_text(request)),
+    match request {
+        Request::Integer(kind) => match read_integer(kind, text) {
+            Ok(integer) => Ok(Leaf::Integer(integer)),
+            Err(_) => Err(Error::from(ErrorImpl::ExpectedNum)),
         },
+        Request::Bool => show_bool(text),
+        Request::NewtypeStruct => Ok(Leaf::Newtype),
+        _ => Ok(show_plain_text(request)),
     }
 }
 

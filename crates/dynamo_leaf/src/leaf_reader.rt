@@ -41,7 +41,8 @@ pub fn raise<R: LeafReader, L, M>(
         → seen R.leaf_source elements entries R.leaf_chosen result ≡ leaf_sight (string_bytes text) leaf }
 {
     match leaf {
-        Leaf::Scalar(scalar) => scalar.shown(),
+        Leaf::Bool(v) => Showing::Bool(v),
+        Leaf::Integer(v) => Showing::Integer(v),
         Leaf::NumberText => Showing::NumberText(text),
         Leaf::Text => Showing::Text(text),
         Leaf::Name => Showing::Enum(R::of_name(alloc, text)),

@@ -25,7 +25,7 @@ mod text_kind;
 mod variant_name;
 
 pub use bytes::DeserializerBytes;
-pub use leaf::{Leaf, NoNumber, Scalar, show_key, show_number, show_plain_text};
+pub use leaf::{Leaf, NoNumber, show_key, show_number, show_plain_text};
 pub use leaf_reader::{LeafReader, raise};
 pub use nothing::{NoElements, NoEntries, NoVariant};
 pub use number_text::is_float_text;

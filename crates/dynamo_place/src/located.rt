@@ -58,16 +58,7 @@ fn raise<R: Reader>(alloc: Global, shown: Inner<R>, way: &Way) -> Outer<R>
 {
     match shown {
         Showing::Bool(v) => Showing::Bool(v),
-        Showing::I8(v) => Showing::I8(v),
-        Showing::I16(v) => Showing::I16(v),
-        Showing::I32(v) => Showing::I32(v),
-        Showing::I64(v) => Showing::I64(v),
-        Showing::I128(v) => Showing::I128(v),
-        Showing::U8(v) => Showing::U8(v),
-        Showing::U16(v) => Showing::U16(v),
-        Showing::U32(v) => Showing::U32(v),
-        Showing::U64(v) => Showing::U64(v),
-        Showing::U128(v) => Showing::U128(v),
+        Showing::Integer(v) => Showing::Integer(v),
         Showing::NumberText(v) => Showing::NumberText(v),
         Showing::Char(v) => Showing::Char(v),
         Showing::FirstChar(v) => Showing::FirstChar(v),

@@ -1,21 +1,21 @@
-ghost use Rattle.std.specs.Prelude.{◌≡◌, true, Some, Ok, string_bytes};
+ghost use Rattle.std.specs.Prelude.{◌≡◌, true, Ok, string_bytes};
 ghost use Rattle.dynamo_value.specs.Av as av;
-ghost use Rattle.dynamo_value.specs.Integer.{IntegerKind};
 ghost use Rattle.dynamo_value.specs.Kind.{fault_of};
 ghost use Rattle.dynamo_value.specs.View.{members_view, view};
 ghost use Rattle.dynamo_de.specs.Inside.{ShowsInside};
+ghost use Rattle.dynamo_de.specs.Integers.{kind_of};
 ghost use Rattle.dynamo_de.specs.Shown.{any_shown, attribute_shown, bytes_shown, enum_shown, key_shown, map_shown, num_shown};
 ghost use Rattle.dynamo_de.specs.Shown.{number_shown, number_text_shown, option_shown, plain_text_shown, seq_shown, struct_shown, text_shown};
 ghost use Rattle.dynamo_de.specs.Sight as sight;
 ghost use Rattle.dynamo_de.specs.Source.{attribute};
-ghost use Rattle.dynamo_leaf.specs.Leaf.{asked, leaf_sight};
+ghost use Rattle.dynamo_leaf.specs.Leaf.{leaf_sight};
 ghost use Rattle.dynamo_read.specs.Lent.{IsLentShown, LentCounted, lent_elements, lent_entries};
 ghost use Rattle.dynamo_read.specs.Reader.{asks_elements, IfElements};
 
 use crate::lent_deserializer::LentDeserializer;
 use crate::lent_unread::{LentChoice, LentElements, LentEntries};
 use crate::show::{boolean, character, null};
-use dynamo_de::{Inside, Request, Showing};
+use dynamo_de::{Inside, IntegerKind, Request, Showing};
 use dynamo_leaf::{Leaf, show_key, show_number, show_plain_text};
 use dynamo_value::{AttributeValue, Error, ErrorImpl, Result};
 use std::alloc::Global;
@@ -41,16 +41,7 @@ pub(crate) fn attribute_value<'a>(
     match request {
         Request::Any | Request::IgnoredAny => any(alloc, value),
         Request::Bool => boolean(value),
-        Request::I8
-        | Request::I16
-        | Request::I32
-        | Request::I64
-        | Request::I128
-        | Request::U8
-        | Request::U16
-        | Request::U32
-        | Request::U64
-        | Request::U128 => number(alloc, request, value),
+        Request::Integer(kind) => number(alloc, kind, value),
         Request::Char => character(value),
         Request::Str | Request::String | Request::Identifier => text(value),
         Request::Bytes | Request::ByteBuf => bytes(alloc, value),
@@ -91,7 +82,7 @@ pub(crate) fn map_value<'a>(
         Request::Unit => ErrorImpl::ExpectedUnit,
         Request::UnitStruct => ErrorImpl::ExpectedUnitStruct,
         Request::Seq | Request::Tuple | Request::TupleStruct => ErrorImpl::ExpectedSeq,
-        _integer => ErrorImpl::ExpectedNum,
+        Request::Integer(_) => ErrorImpl::ExpectedNum,
     };
     Err(Error::from(refusal))
 }
@@ -141,11 +132,11 @@ pub(crate) fn inside_number<'a>(
 
 // An integer of the kind that is asked for.
 #[inline(always)]
-fn number<'a>(alloc: Global, request: Request, value: &'a AttributeValue) -> Result<LentShown<'a>>
-    ensures { (kind : IntegerKind) → asked request ≡ Some kind → IsLentShown (num_shown kind (view value.now)) result }
+fn number<'a>(alloc: Global, kind: IntegerKind, value: &'a AttributeValue) -> Result<LentShown<'a>>
+    ensures { IsLentShown (num_shown (kind_of kind) (view value.now)) result }
 {
     match value {
-        AttributeValue::N(number) => number_text(alloc, request, number),
+        AttributeValue::N(number) => number_text(alloc, Request::Integer(kind), number),
         _other => Err(Error::from(ErrorImpl::ExpectedNum)),
     }
 }
@@ -290,7 +281,8 @@ fn of_leaf<'a>(alloc: Global, leaf: Leaf, text: &'a String) -> Result<LentShown<
     ensures { IsLentShown (Ok (leaf_sight (string_bytes text.now) leaf)) result }
 {
     match leaf {
-        Leaf::Scalar(scalar) => Ok(scalar.shown()),
+        Leaf::Bool(v) => Ok(Showing::Bool(v)),
+        Leaf::Integer(v) => Ok(Showing::Integer(v)),
         Leaf::NumberText => Ok(Showing::NumberText(text.clone()?)),
         Leaf::Text => Ok(Showing::Text(text.clone()?)),
         Leaf::Name => Ok(Showing::Enum(LentChoice::name(alloc, text))),

@@ -1,20 +1,20 @@
 ghost use Rattle.std.specs.Prelude.{◌≡◌, ℕ, true, List, Option, Some, Result, string_bytes};
 ghost use Rattle.std.specs.Str.{chars};
 ghost use Rattle.dynamo_value.specs.Fault.{Fault};
-ghost use Rattle.dynamo_value.specs.Integer.{IntegerKind};
 ghost use Rattle.dynamo_value.specs.Kind.{fault_of};
 ghost use Rattle.dynamo_value.specs.View.{view};
+ghost use Rattle.dynamo_de.specs.Integers.{kind_of};
 ghost use Rattle.dynamo_de.specs.Shown.{any_shown, num_shown, bool_shown, char_shown, chars_shown, text_shown, bytes_shown, option_shown, null_shown, seq_shown, map_shown, struct_shown, enum_shown, attribute_shown, number_text_shown, key_shown, plain_text_shown};
 ghost use Rattle.dynamo_de.specs.Shows.{Shows, seen};
 ghost use Rattle.dynamo_de.specs.Source.{Source, Entry, attribute};
-ghost use Rattle.dynamo_leaf.specs.Leaf.{leaf_sight, asked};
+ghost use Rattle.dynamo_leaf.specs.Leaf.{leaf_sight};
 ghost use Rattle.dynamo_read.specs.Outright.{RefusesOutright, OutrightButEntries};
 ghost use Rattle.dynamo_read.specs.Reader.{source_of, IsShown, asks_elements, Counted, IfElements};
 ghost use Rattle.dynamo_read.specs.Unread.{elements_left, entries_left, chosen_of};
 
 use crate::deserializer::Deserializer;
 use crate::unread::{Choice, Elements, Entries};
-use dynamo_de::{Request, Showing};
+use dynamo_de::{IntegerKind, Request, Showing};
 use dynamo_leaf::{KeyText, Leaf, NumberText, PlainText, TextKind, raise};
 use dynamo_value::{AttributeValue, Error, ErrorImpl, Result};
 use std::alloc::Global;
@@ -36,16 +36,7 @@ pub(crate) fn attribute_value(
     match request {
         Request::Any | Request::IgnoredAny => any(alloc, value),
         Request::Bool => boolean(&value),
-        Request::I8
-        | Request::I16
-        | Request::I32
-        | Request::I64
-        | Request::I128
-        | Request::U8
-        | Request::U16
-        | Request::U32
-        | Request::U64
-        | Request::U128 => number(alloc, request, value),
+        Request::Integer(kind) => number(alloc, kind, value),
         Request::Char => character(&value),
         Request::Str | Request::String | Request::Identifier => text(value),
         Request::Bytes | Request::ByteBuf => bytes(value),
@@ -85,12 +76,12 @@ fn any(alloc: Global, value: AttributeValue) -> Result<Shown>
 
 // An integer of the kind that is asked for.
 #[inline(always)]
-fn number(alloc: Global, request: Request, value: AttributeValue) -> Result<Shown>
-    ensures shown { (kind : IntegerKind) → asked request ≡ Some kind → IsShown (num_shown kind (view value)) result }
-    ensures outright { (kind : IntegerKind) → asked request ≡ Some kind → OutrightButEntries (num_shown kind (view value)) result }
+fn number(alloc: Global, kind: IntegerKind, value: AttributeValue) -> Result<Shown>
+    ensures shown { IsShown (num_shown (kind_of kind) (view value)) result }
+    ensures outright { OutrightButEntries (num_shown (kind_of kind) (view value)) result }
 {
     match value {
-        AttributeValue::N(text) => number_text(alloc, request, text),
+        AttributeValue::N(text) => number_text(alloc, Request::Integer(kind), text),
         _other => Err(Error::from(ErrorImpl::ExpectedNum)),
     }
 }

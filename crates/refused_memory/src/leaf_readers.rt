@@ -1,23 +1,23 @@
 //! The row of the readers of single texts and byte strings, which take no memory.
 
 use crate::stopped::Stopped;
-use serde_dynamo::de::{Reader, Request};
+use serde_dynamo::de::{IntegerKind, Reader, Request};
 use serde_dynamo::{DeserializerBytes, DeserializerMapKey, DeserializerNumber, StringDeserializer};
 use std::alloc::{AllocError, Global};
 
 const REQUESTS: [Request; 29] = [
     Request::Any,
     Request::Bool,
-    Request::I8,
-    Request::I16,
-    Request::I32,
-    Request::I64,
-    Request::I128,
-    Request::U8,
-    Request::U16,
-    Request::U32,
-    Request::U64,
-    Request::U128,
+    Request::Integer(IntegerKind::I8),
+    Request::Integer(IntegerKind::I16),
+    Request::Integer(IntegerKind::I32),
+    Request::Integer(IntegerKind::I64),
+    Request::Integer(IntegerKind::I128),
+    Request::Integer(IntegerKind::U8),
+    Request::Integer(IntegerKind::U16),
+    Request::Integer(IntegerKind::U32),
+    Request::Integer(IntegerKind::U64),
+    Request::Integer(IntegerKind::U128),
     Request::Char,
     Request::Str,
     Request::String,

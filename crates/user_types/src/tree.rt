@@ -4,7 +4,7 @@ ghost use Rattle.std.specs.Prelude.{pos};
 ghost use Rattle.serde_dynamo.specs.Datum as datum;
 ghost use Rattle.serde_dynamo.specs.Datum.{Datum};
 
-use serde_dynamo::de::{Deserialize, Deserializer, Error, Reader, Request, Showing};
+use serde_dynamo::de::{Deserialize, Deserializer, Error, Integer, Reader, Request, Showing};
 use serde_dynamo::ser::{Serialize, Serializer};
 use std::alloc::Global;
 
@@ -51,11 +51,11 @@ impl Deserialize for Tree {
 #[cycle(read)]
 fn read<R: Reader>(alloc: Global, reader: R) -> Result<Tree, R::Error> {
     match reader.show(Request::Any)? {
-        Showing::I64(n) => match u64::try_from(n) {
+        Showing::Integer(Integer::I64(n)) => match u64::try_from(n) {
             Ok(n) => Ok(Tree::Leaf(n)),
             Err(_) => Err(R::Error::custom(alloc, "a leaf is below zero")),
         },
-        Showing::U64(n) => Ok(Tree::Leaf(n)),
+        Showing::Integer(Integer::U64(n)) => Ok(Tree::Leaf(n)),
         Showing::Sequence(elements) => Ok(Tree::Many(children::<R>(alloc, elements)?)),
         _ => Err(R::Error::custom(alloc, "neither a leaf nor a node")),
     }

@@ -6,7 +6,7 @@ ghost use Rattle.dynamo_de.specs.ReadJson.{read_json, read_scalar, read_sources,
 ghost use Rattle.dynamo_de.specs.Shows.{seen};
 
 use super::texts::char_text;
-use crate::{Deserialize, Deserializer, Error, Reader, Request, Showing};
+use crate::{Deserialize, Deserializer, Error, Integer, Reader, Request, Showing};
 use serde_json::{Map, Value};
 use std::alloc::Global;
 
@@ -43,14 +43,14 @@ fn scalar<R: Reader>(
 {
     match shown {
         Showing::Bool(v) => Ok(Value::Bool(v)),
-        Showing::I8(v) => Ok(Value::from(v)),
-        Showing::I16(v) => Ok(Value::from(v)),
-        Showing::I32(v) => Ok(Value::from(v)),
-        Showing::I64(v) => Ok(Value::from(v)),
-        Showing::U8(v) => Ok(Value::from(v)),
-        Showing::U16(v) => Ok(Value::from(v)),
-        Showing::U32(v) => Ok(Value::from(v)),
-        Showing::U64(v) => Ok(Value::from(v)),
+        Showing::Integer(Integer::I8(v)) => Ok(Value::from(v)),
+        Showing::Integer(Integer::I16(v)) => Ok(Value::from(v)),
+        Showing::Integer(Integer::I32(v)) => Ok(Value::from(v)),
+        Showing::Integer(Integer::I64(v)) => Ok(Value::from(v)),
+        Showing::Integer(Integer::U8(v)) => Ok(Value::from(v)),
+        Showing::Integer(Integer::U16(v)) => Ok(Value::from(v)),
+        Showing::Integer(Integer::U32(v)) => Ok(Value::from(v)),
+        Showing::Integer(Integer::U64(v)) => Ok(Value::from(v)),
         Showing::Char(v) => Ok(Value::String(char_text(alloc, v)?)),
         Showing::Text(v) => Ok(Value::String(v)),
         Showing::None => Ok(Value::Null),

@@ -1,14 +1,17 @@
-use Rattle.dynamo_leaf.proofs.Integers.{key_is, key_no}
+use Rattle.dynamo_value.specs.Fault.{expected_num}
+use Rattle.dynamo_de.specs.Integers.{integer_sight, kind_of}
+use Rattle.dynamo_leaf.proofs.Integers.{integer_is, integer_no}
 use Rattle.dynamo_leaf.proofs.leaf.show_key.Goals as goal
 
-pub returns-in-Some-Ok : goal.returns-in-Some-Ok
-returns-in-Some-Ok c =
-    rw c.in-Some-Ok.integer-is
-    (key_is c.args.request c.args.text.now c.in-Some-Ok.integer
-    (rw (c.in-Some-Ok.is, c.in-Some-Ok.field-0-is) at c.read_integer.ensures))
+pub returns-in-Ok : goal.returns-in-Ok
+returns-in-Ok c =
+    rw c.in-Integer.is
+    (integer_is (kind_of c.in-Integer.kind) c.args.text.now expected_num (integer_sight c.in-Ok.integer)
+    (rw c.in-Ok.is at c.read_integer.ensures))
 
-pub returns-in-Some-Err : goal.returns-in-Some-Err
-returns-in-Some-Err c =
+pub returns-in-Err : goal.returns-in-Err
+returns-in-Err c =
     rw c.from.ensures
-    (key_no c.args.request c.args.text.now c.in-Some-Err.field-0-0
-    (rw (c.in-Some-Err.is, c.in-Some-Err.field-0-is) at c.read_integer.ensures))
+    (rw c.in-Integer.is
+    (integer_no (kind_of c.in-Integer.kind) c.args.text.now expected_num
+    (rw c.in-Err.is at c.read_integer.ensures)))

@@ -1,12 +1,16 @@
-use Rattle.dynamo_leaf.proofs.Integers.{number_is, number_no}
+use Rattle.dynamo_value.specs.Fault.{failed_to_parse_int}
+use Rattle.dynamo_de.specs.Integers.{integer_sight, kind_of}
+use Rattle.dynamo_leaf.proofs.Integers.{integer_is, integer_no}
 use Rattle.dynamo_leaf.proofs.leaf.show_number.Goals as goal
 
-pub returns-in-Some-Ok : goal.returns-in-Some-Ok
-returns-in-Some-Ok c =
-    number_is c.args.request c.args.text.now c.in-Some-Ok.number
-    (rw (c.in-Some-Ok.is, c.in-Some-Ok.field-0-is) at c.read_integer.ensures)
+pub returns-in-Ok : goal.returns-in-Ok
+returns-in-Ok c =
+    rw c.in-Integer.is
+    (integer_is (kind_of c.in-Integer.kind) c.args.text.now (failed_to_parse_int c.args.text.now) (integer_sight c.in-Ok.number)
+    (rw c.in-Ok.is at c.read_integer.ensures))
 
-pub returns-in-Some-Err : goal.returns-in-Some-Err
-returns-in-Some-Err c =
-    number_no c.args.request c.args.text.now c.in-Some-Err.cause
-    (rw (c.in-Some-Err.is, c.in-Some-Err.field-0-is) at c.read_integer.ensures)
+pub returns-in-Err : goal.returns-in-Err
+returns-in-Err c =
+    rw c.in-Integer.is
+    (integer_no (kind_of c.in-Integer.kind) c.args.text.now (failed_to_parse_int c.args.text.now)
+    (rw c.in-Err.is at c.read_integer.ensures))

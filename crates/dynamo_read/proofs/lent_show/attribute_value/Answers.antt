@@ -1,14 +1,6 @@
-use Rattle.std.proofs.Common.{rules, IsSome}
-use Rattle.dynamo_value.specs.View.{view}
-use Rattle.dynamo_leaf.specs.Leaf.{asked}
-use Rattle.dynamo_read.proofs.Integers.{integer_line}
-use Rattle.dynamo_read.specs.Lent.{IsLentShown, lent_source, lent_elements, lent_entries, lent_chosen}
+use Rattle.std.proofs.Common.{rules}
+use Rattle.dynamo_read.specs.Lent.{lent_source, lent_elements, lent_entries, lent_chosen}
 use Rattle.dynamo_read.proofs.lent_show.attribute_value.Goals as goal
-
-pub returns-in-I8-clause-shown : goal.returns-in-I8-clause-shown
-returns-in-I8-clause-shown c =
-    let asks : IsSome (asked c.args.request) = search (rules, c.in-I8.is) in
-    integer_line c.args.request (view c.args.value.now) (λ s. IsLentShown s c.number.result) asks c.number.ensures
 
 -- what is shown without a reader is so at these readers
 pub returns-in-Bool-clause-shown : goal.returns-in-Bool-clause-shown

@@ -1,21 +1,7 @@
-use Rattle.std.proofs.Common.{rules, IsSome}
-use Rattle.dynamo_value.specs.View.{view}
-use Rattle.dynamo_leaf.specs.Leaf.{asked}
-use Rattle.dynamo_read.proofs.Integers.{integer_line}
-use Rattle.dynamo_read.specs.Outright.{OutrightButEntries}
-use Rattle.dynamo_read.specs.Reader.{IsShown, source_of}
+use Rattle.std.proofs.Common.{rules}
+use Rattle.dynamo_read.specs.Reader.{source_of}
 use Rattle.dynamo_read.specs.Unread.{elements_left, entries_left, chosen_of}
 use Rattle.dynamo_read.proofs.show.attribute_value.Goals as goal
-
-pub returns-in-I8-clause-shown : goal.returns-in-I8-clause-shown
-returns-in-I8-clause-shown c =
-    let asks : IsSome (asked c.args.request) = search (rules, c.in-I8.is) in
-    integer_line c.args.request (view c.args.value) (λ s. IsShown s c.number.result) asks c.number.ensures.shown
-
-pub returns-in-I8-clause-outright : goal.returns-in-I8-clause-outright
-returns-in-I8-clause-outright c =
-    let asks : IsSome (asked c.args.request) = search (rules, c.in-I8.is) in
-    integer_line c.args.request (view c.args.value) (λ s. OutrightButEntries s c.number.result) asks c.number.ensures.outright
 
 -- what is shown without a reader is so at these readers
 pub returns-in-Bool-clause-shown : goal.returns-in-Bool-clause-shown
