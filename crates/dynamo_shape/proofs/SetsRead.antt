@@ -1,5 +1,5 @@
 -- What sets read is permitted by reading at their shapes: the members are put in order.
-use Rattle.std.proofs.Common.{◌≡◌, ◌↔◌, Bool, true, List, [], ◌∷◌, Result, Ok, Err, refl, sym, ap, subst, ◌∙◌, inl, inr}
+use Rattle.std.proofs.Common.{◌≡◌, ◌↔◌, Bool, true, List, Result, Ok, Err, refl, sym, ap, subst, ◌∙◌, inl, inr}
 use Rattle.std.specs.List.{list_any}
 use Rattle.dynamo_value.specs.Fault.{Fault}
 use Rattle.dynamo_ser.specs.Datum as datum
@@ -9,7 +9,7 @@ use Rattle.dynamo_de.specs.Answer as answer
 use Rattle.dynamo_de.specs.Answer.{Answer, After}
 use Rattle.dynamo_value.specs.Steps.{◌>>=◌}
 use Rattle.dynamo_de.specs.Reading.{read_elements}
-use Rattle.dynamo_de.specs.Reads.{ReadsEach, ReadsSet}
+use Rattle.dynamo_de.specs.Reads.{ReadsSet}
 use Rattle.dynamo_de.specs.Source.{Source}
 use Rattle.dynamo_shape.specs.Conforms.{AllElements, conforms}
 use Rattle.dynamo_shape.specs.Laws.{AnswersByShape, EqualAsTold, ReadsByShape}
