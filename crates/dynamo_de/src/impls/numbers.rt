@@ -22,7 +22,7 @@ impl Deserialize for i8 {
 
     #[tactic(auto, using(crate::proofs::Integers::integer_read, crate::proofs::Integers::integer_refused))]
     fn deserialize<D: Deserializer>(alloc: Global, deserializer: D) -> Result<i8, D::Error> {
-        match deserializer.surface(Request::Integer(IntegerKind::I8))? {
+        match deserializer.show(Request::Integer(IntegerKind::I8))? {
             Showing::Integer(Integer::I8(v)) => Ok(v),
             other => Err(other.refused(alloc, "an integer")),
         }
@@ -34,7 +34,7 @@ impl Deserialize for i16 {
 
     #[tactic(auto, using(crate::proofs::Integers::integer_read, crate::proofs::Integers::integer_refused))]
     fn deserialize<D: Deserializer>(alloc: Global, deserializer: D) -> Result<i16, D::Error> {
-        match deserializer.surface(Request::Integer(IntegerKind::I16))? {
+        match deserializer.show(Request::Integer(IntegerKind::I16))? {
             Showing::Integer(Integer::I16(v)) => Ok(v),
             other => Err(other.refused(alloc, "an integer")),
         }
@@ -46,7 +46,7 @@ impl Deserialize for i32 {
 
     #[tactic(auto, using(crate::proofs::Integers::integer_read, crate::proofs::Integers::integer_refused))]
     fn deserialize<D: Deserializer>(alloc: Global, deserializer: D) -> Result<i32, D::Error> {
-        match deserializer.surface(Request::Integer(IntegerKind::I32))? {
+        match deserializer.show(Request::Integer(IntegerKind::I32))? {
             Showing::Integer(Integer::I32(v)) => Ok(v),
             other => Err(other.refused(alloc, "an integer")),
         }
@@ -58,7 +58,7 @@ impl Deserialize for i64 {
 
     #[tactic(auto, using(crate::proofs::Integers::integer_read, crate::proofs::Integers::integer_refused))]
     fn deserialize<D: Deserializer>(alloc: Global, deserializer: D) -> Result<i64, D::Error> {
-        match deserializer.surface(Request::Integer(IntegerKind::I64))? {
+        match deserializer.show(Request::Integer(IntegerKind::I64))? {
             Showing::Integer(Integer::I64(v)) => Ok(v),
             other => Err(other.refused(alloc, "an integer")),
         }
@@ -70,7 +70,7 @@ impl Deserialize for i128 {
 
     #[tactic(auto, using(crate::proofs::Integers::integer_read, crate::proofs::Integers::integer_refused))]
     fn deserialize<D: Deserializer>(alloc: Global, deserializer: D) -> Result<i128, D::Error> {
-        match deserializer.surface(Request::Integer(IntegerKind::I128))? {
+        match deserializer.show(Request::Integer(IntegerKind::I128))? {
             Showing::Integer(Integer::I128(v)) => Ok(v),
             other => Err(other.refused(alloc, "an integer")),
         }
@@ -82,7 +82,7 @@ impl Deserialize for u8 {
 
     #[tactic(auto, using(crate::proofs::Integers::integer_read, crate::proofs::Integers::integer_refused))]
     fn deserialize<D: Deserializer>(alloc: Global, deserializer: D) -> Result<u8, D::Error> {
-        match deserializer.surface(Request::Integer(IntegerKind::U8))? {
+        match deserializer.show(Request::Integer(IntegerKind::U8))? {
             Showing::Integer(Integer::U8(v)) => Ok(v),
             other => Err(other.refused(alloc, "an integer")),
         }
@@ -94,7 +94,7 @@ impl Deserialize for u16 {
 
     #[tactic(auto, using(crate::proofs::Integers::integer_read, crate::proofs::Integers::integer_refused))]
     fn deserialize<D: Deserializer>(alloc: Global, deserializer: D) -> Result<u16, D::Error> {
-        match deserializer.surface(Request::Integer(IntegerKind::U16))? {
+        match deserializer.show(Request::Integer(IntegerKind::U16))? {
             Showing::Integer(Integer::U16(v)) => Ok(v),
             other => Err(other.refused(alloc, "an integer")),
         }
@@ -106,7 +106,7 @@ impl Deserialize for u32 {
 
     #[tactic(auto, using(crate::proofs::Integers::integer_read, crate::proofs::Integers::integer_refused))]
     fn deserialize<D: Deserializer>(alloc: Global, deserializer: D) -> Result<u32, D::Error> {
-        match deserializer.surface(Request::Integer(IntegerKind::U32))? {
+        match deserializer.show(Request::Integer(IntegerKind::U32))? {
             Showing::Integer(Integer::U32(v)) => Ok(v),
             other => Err(other.refused(alloc, "an integer")),
         }
@@ -118,7 +118,7 @@ impl Deserialize for u64 {
 
     #[tactic(auto, using(crate::proofs::Integers::integer_read, crate::proofs::Integers::integer_refused))]
     fn deserialize<D: Deserializer>(alloc: Global, deserializer: D) -> Result<u64, D::Error> {
-        match deserializer.surface(Request::Integer(IntegerKind::U64))? {
+        match deserializer.show(Request::Integer(IntegerKind::U64))? {
             Showing::Integer(Integer::U64(v)) => Ok(v),
             other => Err(other.refused(alloc, "an integer")),
         }
@@ -130,7 +130,7 @@ impl Deserialize for u128 {
 
     #[tactic(auto, using(crate::proofs::Integers::integer_read, crate::proofs::Integers::integer_refused))]
     fn deserialize<D: Deserializer>(alloc: Global, deserializer: D) -> Result<u128, D::Error> {
-        match deserializer.surface(Request::Integer(IntegerKind::U128))? {
+        match deserializer.show(Request::Integer(IntegerKind::U128))? {
             Showing::Integer(Integer::U128(v)) => Ok(v),
             other => Err(other.refused(alloc, "an integer")),
         }
