@@ -84,10 +84,18 @@ def built(program):
 
 def is_built(program):
     """Whether the proved program is built and none of its sources is newer."""
-    made = built(program)
-    if not os.access(made, os.X_OK):
-        return False
-    return all(os.path.getmtime(made) > os.path.getmtime(it) for it in [f"{TOP}/crates.txt", *sources_of(with_below([program]))])
+    return os.access(built(program), os.X_OK) and is_newer(built(program), program)
+
+
+def is_proved(crate):
+    """Whether the crate's library is built, which only a proved one is, and none of its sources is newer."""
+    made = f"{TOP}/crates/{crate}/out/rlib/{crate}.rlib"
+    return os.path.exists(made) and is_newer(made, crate)
+
+
+def is_newer(made, crate):
+    """Whether what was made is newer than the sources of this crate and of all below it."""
+    return all(os.path.getmtime(made) > os.path.getmtime(it) for it in [f"{TOP}/crates.txt", *sources_of(with_below([crate]))])
 
 
 def start(words, folder, **how):

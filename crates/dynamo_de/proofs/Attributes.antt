@@ -27,6 +27,7 @@ use Rattle.dynamo_de.specs.Reads.{ReadsEach, ReadsList}
 use Rattle.dynamo_de.specs.Shows.{TakesEntry}
 use Rattle.dynamo_de.specs.Source.{Source, attribute, key_text, number_text, plain_text, byte_string, Entry, entries_of, values_of, each}
 use Rattle.dynamo_de.specs.Visitors.{claims_map, take_entries, claims_seq, take_elements}
+use Rattle.dynamo_value.proofs.Steps.{bind_same, bind_in_turn}
 use Rattle.dynamo_de.proofs.Ignored.{elements_high, members_high, flat}
 use Rattle.dynamo_de.proofs.Reading.{number_cases}
 use Rattle.dynamo_de.proofs.Promises.{EachFrom, each_more, each_stops, answer_stops, value_answered, fault_answered, value_read, value_agrees, part_agrees, stops, refusal_agrees, told, each_reads}
@@ -43,11 +44,7 @@ own_same (av.member key a ms) = ap (λ rs. refusals_of (promised (known key) >>=
 
 members_same : (so_far : List (List ℕ × Av)) (ms : av.Members) → read_members so_far ms ≡ read_entries so_far (entries_of ms)
 members_same so_far av.no_members = refl
-members_same so_far (av.member key a ms) = one (read_attribute a) (λ value. members_same (put text_cmp key value so_far) ms)
-  where
-    one : {A B : Type 0} (x : Reading A) {f g : A → Reading B} → ((y : A) → f y ≡ g y) → (x >>= f) ≡ (x >>= g)
-    one (Ok y) h = h y
-    one (Err rs) h = refl
+members_same so_far (av.member key a ms) = bind_same (read_attribute a) (λ value. members_same (put text_cmp key value so_far) ms)
 
 pub item_as_entries : (s : Source) → item_from s ≡ (promised (reading.read_entries s) >>= read_entries [])
 item_as_entries (attribute (av.M ms)) = members_same [] ms
@@ -123,11 +120,9 @@ attribute_opened (attribute (av.M (av.member key a (av.member other b ms)))) = a
 attribute_opened (attribute _) = refl
 attribute_opened (key_text t) = refl
 attribute_opened (number_text t) =
-    unknown_map t (λ es. (entry_in es >>= under_prefix) >>= read_opened) ∙ sym (in_three (promised (reading.read_entries (number_text t))))
-  where
-    in_three : (x : Reading (List Entry)) → (((x >>= entry_in) >>= under_prefix) >>= read_opened) ≡ (x >>= λ es. (entry_in es >>= under_prefix) >>= read_opened)
-    in_three (Ok es) = refl
-    in_three (Err rs) = refl
+    let entries = promised (reading.read_entries (number_text t)) in
+    unknown_map t (λ es. (entry_in es >>= under_prefix) >>= read_opened)
+    ∙ sym (ap (λ x. x >>= read_opened) (bind_in_turn entries entry_in under_prefix) ∙ bind_in_turn entries (λ es. entry_in es >>= under_prefix) read_opened)
 attribute_opened (plain_text t) = refl
 attribute_opened (byte_string bytes) = refl
 

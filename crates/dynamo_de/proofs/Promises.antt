@@ -5,6 +5,7 @@ use Rattle.dynamo_value.specs.Refusal.{Refusal, Refused, refusal_in}
 use Rattle.dynamo_de.specs.Answer.{Answer, Gives}
 use Rattle.dynamo_de.specs.Promises.{Reading, promised, Agrees}
 use Rattle.dynamo_value.specs.Steps.{◌>>=◌}
+use Rattle.dynamo_value.proofs.Steps.{bind_itself}
 use Rattle.dynamo_de.specs.ReadAttribute.{read_each}
 use Rattle.dynamo_de.specs.Reads.{Through, ReadsEach}
 use Rattle.dynamo_de.specs.Shows.{TakesElement}
@@ -115,11 +116,7 @@ module _ {A V D : Type 0} (seen : V → A) (f : Source → Reading A) (source : 
   taken (s ∷ ss) new d t = λ i. sym t.1 i ∷ sym t.0 i
 
   pub taken_starts : (ss : List Source) → EachFrom seen f [] ss ≡ read_each f ss
-  taken_starts ss = whole (read_each f ss)
-    where
-      whole : (x : Reading (List A)) → (x >>= λ rest. Ok rest) ≡ x
-      whole (Ok xs) = refl
-      whole (Err rs) = refl
+  taken_starts ss = bind_itself (read_each f ss)
 
   pub taken_more : (all : Reading (List A)) (vs : List V) (v : V) (ss new : List Source) (d : D) → TakesElement source ss new (Some d)
       → EachFrom seen f vs ss ≡ all → Agrees seen (f (source d)) (Ok v) → EachFrom seen f (vs ++ v ∷ []) new ≡ all

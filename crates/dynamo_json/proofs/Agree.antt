@@ -1,28 +1,24 @@
 -- Writing directly and by way of plain JSON agree.
 use Rattle.std.proofs.Common.{◌≡◌, ℕ, ℤ, pos, negsuc, true, nat_lt, ◌^◌, ◌≤◌, List, [], ◌∷◌, Result, Ok, Err, Option, None, refl, ap, sym, arith, lit≤}
 use Rattle.std.proofs.Math.Nat.{pow-le-pow_right}
-use Rattle.std.specs.Fmt.{signed_decimal}
+use Rattle.dynamo_json.proofs.Common.{signed_decimal, Data, Av, Fault, ◌>>=◌, Datum, json_elements}
+use Rattle.dynamo_json.proofs.Common.{json_pairs, collect, written_elements, written_pairs}
+use Rattle.dynamo_json.proofs.Common.{written_fields, map_of_entries, Alike, collect_alike}
+use Rattle.dynamo_json.proofs.Common.{collect_twice, in_64_bits, object_of_entries, plain_elements}
+use Rattle.dynamo_json.proofs.Common.{plain_pairs, plain_fields}
+use Rattle.serde_json.specs.Data as json
+use Rattle.dynamo_value.specs.Av as av
+use Rattle.dynamo_ser.specs.Datum as datum
 use Rattle.std.proofs.lemmas.Bool.{true≢false, and_parts}
 use Rattle.std.proofs.lemmas.Bool.Decides.{nat_tests}
-use Rattle.serde_json.specs.Data as json
-use Rattle.serde_json.specs.Data.{Data}
 use Rattle.serde_json.specs.Find.{of_integer}
-use Rattle.dynamo_value.specs.Av as av
-use Rattle.dynamo_value.specs.Av.{Av}
-use Rattle.dynamo_value.specs.Fault.{Fault}
-use Rattle.dynamo_value.specs.Steps.{◌>>=◌}
 use Rattle.dynamo_value.specs.Integer.{IntegerKind, i8, i16, i32, i64, i128, u8, u16, u32, u64, u128}
-use Rattle.dynamo_ser.specs.Datum as datum
-use Rattle.dynamo_ser.specs.Datum.{Datum}
-use Rattle.dynamo_ser.specs.JsonValue.{json_elements, json_pairs}
 use Rattle.dynamo_ser.specs.Key.{key_text}
 use Rattle.dynamo_ser.specs.Symbols.{SetKind}
 use Rattle.dynamo_de.specs.Number.{fits, value_bits, is_signed}
-use Rattle.dynamo_write.specs.Collect.{collect}
 use Rattle.dynamo_write.specs.Set.{named}
-use Rattle.dynamo_write.specs.Written.{written_elements, written_pairs, written_fields, map_of_entries, one_member as single_map}
-use Rattle.dynamo_write.proofs.Collected.{Alike, collect_alike, collect_twice}
-use Rattle.dynamo_json.specs.Plain.{in_64_bits, members_of, object_of_entries, one_member, plain_elements, plain_pairs, plain_fields}
+use Rattle.dynamo_write.specs.Written.{one_member as single_map}
+use Rattle.dynamo_json.specs.Plain.{members_of, one_member}
 use Rattle.dynamo_json.specs.Square.{SquareInteger, InSquare, ElementsInSquare, PairsInSquare, FieldsInSquare, AgreeBy, WritesAs, IsSquare}
 
 -- ---- steps

@@ -1,11 +1,8 @@
 -- What stands in a text after a value was written to it, or was not.
 use Rattle.std.proofs.Common.{◌≡◌, ℕ, List, [], ◌++◌, Bool, if◌then◌else◌, Result, Ok, Err, OnOk, MatchResult, is_ok, ap, ap₂, ◌∙◌}
-use Rattle.json.specs.Token.{Token}
+use Rattle.dynamo_json.proofs.Common.{Token, Data, compact_text, tokens_of}
 use Rattle.json.specs.Print.{print}
-use Rattle.serde_json.specs.Data.{Data}
-use Rattle.serde_json.specs.Written.{compact_text}
 use Rattle.serde_json.proofs.Texts.{print-outline}
-use Rattle.dynamo_json.specs.Tokens.{tokens_of}
 
 pub appended : {E : Type 0} (json : Data) (done : Result (Unit {0}) E) (whole : Bool) (text old before : List ℕ) (none tokens : List Token)
     → whole ≡ is_ok done → before ≡ old → none ≡ [] → OnOk done (tokens ≡ none ++ tokens_of json)

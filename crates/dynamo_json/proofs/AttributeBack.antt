@@ -1,38 +1,25 @@
 -- What an attribute value tells is written, and read back as it alone.
 use Rattle.std.proofs.Common.{◌≡◌, ℕ, List, [], ◌∷◌, map, Result, Ok, Err, refl, sym, ap, subst, ◌∙◌, inl, inr}
-use Rattle.std.specs.List.{AllByRecursion}
-use Rattle.std.specs.Prelude.{T}
-use Rattle.std.specs.FinMap.Entries.{is_sorted}
-use Rattle.base64.specs.GeneralPurpose.{IsBytes}
+use Rattle.dynamo_json.proofs.Common.{AllByRecursion, T, is_sorted, IsBytes, Data, items_of, Av}
+use Rattle.dynamo_json.proofs.Common.{base64_text, Fault, HasBytes, ElementsHaveBytes}
+use Rattle.dynamo_json.proofs.Common.{MembersHaveBytes, Prefix, prefix_text, text_cmp, Datum}
+use Rattle.dynamo_json.proofs.Common.{json_datum, json_elements, json_pairs, collect, collect_onto}
+use Rattle.dynamo_json.proofs.Common.{one_member, written, written_elements, written_pairs, Alike}
+use Rattle.dynamo_json.proofs.Common.{sorted_alike, collect-sorted, EachDatumBack}
+use Rattle.dynamo_json.proofs.Common.{EachItemDatumBack, strings, Tells, ElementsTell, MembersTell}
+use Rattle.dynamo_json.proofs.Common.{json_of, elements_json, members_json, item_json, plain}
+use Rattle.dynamo_json.proofs.Common.{ok_same, err_ok}
 use Rattle.serde_json.specs.Data as json
-use Rattle.serde_json.specs.Data.{Data}
-use Rattle.serde_json.specs.View.{items_of}
 use Rattle.dynamo_value.specs.Av as av
-use Rattle.dynamo_value.specs.Av.{Av}
-use Rattle.dynamo_value.specs.Base64.{base64_text}
-use Rattle.dynamo_value.specs.Fault.{Fault}
-use Rattle.dynamo_value.specs.HasBytes.{HasBytes, ElementsHaveBytes, MembersHaveBytes}
 use Rattle.dynamo_value.specs.Prefix as prefix
-use Rattle.dynamo_value.specs.Prefix.{Prefix, prefix_text}
-use Rattle.dynamo_value.specs.View.{text_cmp}
 use Rattle.dynamo_ser.specs.Datum as datum
-use Rattle.dynamo_ser.specs.Datum.{Datum}
-use Rattle.dynamo_ser.specs.JsonValue.{json_datum, json_elements, json_pairs}
 use Rattle.dynamo_de.specs.ReadAttribute.{read_each, read_text, read_blob, read_attribute, read_elements, read_members}
 use Rattle.dynamo_de.specs.Source.{values_of}
-use Rattle.dynamo_write.specs.Collect.{collect, collect_onto}
-use Rattle.dynamo_write.specs.Written.{one_member, written, written_elements, written_pairs}
-use Rattle.dynamo_write.proofs.Collected.{Alike, sorted_alike, collect-sorted}
-use Rattle.dynamo_json.specs.AttributeBack.{EachDatumBack, EachItemDatumBack}
 use Rattle.dynamo_ser.specs.Without.{Without}
-use Rattle.dynamo_json.specs.AttributeTells.{strings, Tells, ElementsTell, MembersTell}
-use Rattle.dynamo_json.specs.Json.{json_of, elements_json, members_json, item_json}
 use Rattle.dynamo_json.specs.KeyOrder.{entries, InOrder, ElementsInOrder, EachInOrder}
-use Rattle.dynamo_json.specs.Plain.{plain}
 use Rattle.dynamo_json.specs.Square.{InSquare, ElementsInSquare, PairsInSquare, AgreeBy, WritesAs}
 use Rattle.dynamo_json.proofs.Agree.{square}
 use Rattle.dynamo_json.proofs.ReadBack.{blob_back}
-use Rattle.dynamo_json.proofs.Results.{the_same, no_value}
 use Rattle.dynamo_json.proofs.TellsPlain.{tells_plain, members_plain, map_plain}
 
 -- ---- what is written: the DynamoDB JSON, as an attribute value
@@ -180,10 +167,10 @@ mutual
 
 -- what the plain JSON is written as is written
 agreed : (p : Result Data Fault) (w : Result Av Fault) (j : Data) (e : Av) → AgreeBy WritesAs p w → p ≡ Ok j → WritesAs j e → w ≡ Ok e
-agreed (Ok k) (Ok b) j e agree is writes = ap Ok (the_same (sym agree ∙ ap (λ x. written (json_datum x)) (the_same is) ∙ writes))
+agreed (Ok k) (Ok b) j e agree is writes = ap Ok (ok_same (sym agree ∙ ap (λ x. written (json_datum x)) (ok_same is) ∙ writes))
 agreed (Ok k) (Err g) j e agree is writes = absurd agree
 agreed (Err g) (Ok b) j e agree is writes = absurd agree
-agreed (Err g) (Err i) j e agree is writes = absurd (no_value is)
+agreed (Err g) (Err i) j e agree is writes = absurd (err_ok is)
 
 -- ---- the whole
 

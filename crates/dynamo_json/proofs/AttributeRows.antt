@@ -1,20 +1,14 @@
 -- Worked rows of attribute values and items that are written as values of a program, by computation.
 use Rattle.std.proofs.Common.{◌≡◌, ℕ, List, false, [], ◌∷◌, Ok, refl, inl, inr}
-use Rattle.std.specs.Prelude.{codes}
-use Rattle.base64.proofs.OnLiterals.{base64_on_literals}
+use Rattle.dynamo_json.proofs.Common.{codes, Data, Av, Members, Datum, one_member, written, strings}
+use Rattle.dynamo_json.proofs.Common.{Tells, ItemTells, json_of, item_json, plain}
 use Rattle.serde_json.specs.Data as json
-use Rattle.serde_json.specs.Data.{Data}
 use Rattle.dynamo_value.specs.Av as av
-use Rattle.dynamo_value.specs.Av.{Av, Members}
 use Rattle.dynamo_value.specs.Prefix as prefix
-use Rattle.dynamo_ser.specs.AttributeDatum.{under}
 use Rattle.dynamo_ser.specs.Datum as datum
-use Rattle.dynamo_ser.specs.Datum.{Datum}
+use Rattle.base64.proofs.OnLiterals.{base64_on_literals}
+use Rattle.dynamo_ser.specs.AttributeDatum.{under}
 use Rattle.dynamo_de.specs.ReadAttribute.{read_attribute, read_item}
-use Rattle.dynamo_write.specs.Written.{one_member, written}
-use Rattle.dynamo_json.specs.AttributeTells.{strings, Tells, ItemTells}
-use Rattle.dynamo_json.specs.Json.{json_of, item_json}
-use Rattle.dynamo_json.specs.Plain.{plain}
 
 -- it tells the datum, that is written as e and read back, and its plain JSON is j
 abbrev Row : Av → Datum → Av → Data → Type 0

@@ -1,11 +1,9 @@
 -- The array of a byte string's numbers, one number more at each step.
 use Rattle.std.proofs.Common.{◌≡◌, ℕ, ◌+◌, ◌<◌, List, [], ◌∷◌, ◌++◌, length, get_or, take, map, Vec, Global, sym, ap, ◌∙◌}
-use Rattle.std.proofs.lemmas.List.{map-append, take_more}
+use Rattle.dynamo_json.proofs.Common.{map-append, take_more, items_of, Value, Array, view-Array}
+use Rattle.dynamo_json.proofs.Common.{byte_number}
 use Rattle.serde_json.specs.Data as json
-use Rattle.serde_json.specs.View.{view, items_of}
-use Rattle.serde_json.specs.declared.value.Value.{Value, Array}
-use Rattle.serde_json.proofs.Views.{view-Array}
-use Rattle.dynamo_json.specs.Plain.{byte_number}
+use Rattle.serde_json.specs.View.{view}
 
 pub number_pushed : (vs : List Value) (v : Value) (bytes : List ℕ) (i : ℕ) → i < length bytes → map view vs ≡ map byte_number (take i bytes) → view v ≡ byte_number (get_or bytes i 0)
     → map view (vs ++ v ∷ []) ≡ map byte_number (take (i + 1) bytes)

@@ -1,11 +1,9 @@
 -- The keys of each map differ, where those of each value in it do.
 use Rattle.std.proofs.Common.{◌≡◌, List, [], ◌∷◌, ◌++◌, map, Bool, true, false, refl, ap, ◌∙◌, String, Global}
-use Rattle.std.specs.List.{AllByRecursion, IsDistinct, list_all, list_any}
-use Rattle.std.specs.Map.{keys_of}
-use Rattle.std.specs.String.{string_eq}
-use Rattle.dynamo_value.specs.declared.attribute_value.AttributeValue.{AttributeValue}
-use Rattle.dynamo_value.proofs.Members.{Entry}
-use Rattle.dynamo_json.specs.KeysDiffer.{all_differ, keys_differ, KeysDiffer, ElementsDiffer, EntriesDiffer}
+use Rattle.dynamo_json.proofs.Common.{AllByRecursion, list_all, list_any, keys_of, string_eq}
+use Rattle.dynamo_json.proofs.Common.{AttributeValue, Entry, all_differ, keys_differ, KeysDiffer}
+use Rattle.dynamo_json.proofs.Common.{ElementsDiffer, EntriesDiffer}
+use Rattle.std.specs.List.{IsDistinct}
 
 abbrev pub EachDiffers : List Entry → Type 0
 EachDiffers = AllByRecursion (λ e. KeysDiffer e.1)

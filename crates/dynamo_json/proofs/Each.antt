@@ -1,9 +1,8 @@
 -- One after another, up to the first refusal.
 use Rattle.std.proofs.Common.{◌≡◌, ℕ, ◌+◌, ◌<◌, ◌≤◌, List, [], ◌∷◌, ◌++◌, length, take, drop, get_or, map, Result, Ok, Err, refl, sym, ap, ◌∙◌, subst, inl, inr}
-use Rattle.std.proofs.lemmas.List.{take-append-drop, take_more, take_all, drop_more}
-use Rattle.dynamo_value.specs.Fault.{Fault}
-use Rattle.dynamo_value.specs.Refusal.{Refusal, Refused, refusal_in}
-use Rattle.dynamo_value.specs.Steps.{◌>>=◌}
+use Rattle.dynamo_json.proofs.Common.{take-append-drop, take_more, take_all, drop_more, Fault}
+use Rattle.dynamo_json.proofs.Common.{Refusal, Refused, refusal_in, ◌>>=◌}
+use Rattle.dynamo_value.proofs.Steps.{bind_itself}
 
 -- a fault of one step is one of a larger step that hands its refusals on
 pub refused_as : {A B : Type 0} (r : Result A Refusal) (s : Result B Refusal) (f : Fault) → ((x : Refusal) → r ≡ Err x → s ≡ Err x)
@@ -19,10 +18,6 @@ each f (x ∷ xs) = do
   Ok (y ∷ ys)
 
 module _ {A B : Type 0} (f : A → Result B Refusal) where
-  nothing_more : (r : Result (List B) Refusal) → r ≡ (r >>= λ ys. Ok ([] ++ ys))
-  nothing_more (Ok ys) = refl
-  nothing_more (Err e) = refl
-
   joined : (first : Result B Refusal) (front back whole : Result (List B) Refusal) → whole ≡ (front >>= λ ys. back >>= λ zs. Ok (ys ++ zs))
       → (first >>= λ y. whole >>= λ ys. Ok (y ∷ ys)) ≡ ((first >>= λ y. front >>= λ ys. Ok (y ∷ ys)) >>= λ ys. back >>= λ zs. Ok (ys ++ zs))
   joined (Err e) front back whole is = refl
@@ -31,7 +26,7 @@ module _ {A B : Type 0} (f : A → Result B Refusal) where
   joined (Ok y) (Ok ys) (Err e) whole is = rw is refl
 
   parted : (xs zs : List A) → each f (xs ++ zs) ≡ (each f xs >>= λ ys. each f zs >>= λ ws. Ok (ys ++ ws))
-  parted [] zs = nothing_more (each f zs)
+  parted [] zs = sym (bind_itself (each f zs))
   parted (x ∷ xs) zs = joined (f x) (each f xs) (each f zs) (each f (xs ++ zs)) (parted xs zs)
 
   after : (done rest : List A) (ys : List B) → each f done ≡ Ok ys → each f (done ++ rest) ≡ (each f rest >>= λ zs. Ok (ys ++ zs))

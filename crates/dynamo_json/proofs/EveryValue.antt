@@ -1,11 +1,9 @@
 -- What holds of an attribute value of a program where it holds of the values inside, holds of every one.
 use Rattle.std.proofs.Common.{List, [], ◌∷◌, map, subst, String, Global}
-use Rattle.std.specs.List.{AllByRecursion}
-use Rattle.dynamo_value.specs.declared.attribute_value.AttributeValue.{AttributeValue}
+use Rattle.dynamo_json.proofs.Common.{AllByRecursion, AttributeValue, Entry}
 use Rattle.dynamo_value.specs.declared.attribute_value.AttributeValue.TheOpen.{AttributeValue-F}
 use Rattle.dynamo_value.specs.declared.attribute_value.AttributeValue.TheFolds.{ind-AttributeValue, map-AttributeValue}
 use Rattle.dynamo_value.specs.declared.attribute_value.AttributeValue.TheViews.{roll-AttributeValue}
-use Rattle.dynamo_value.proofs.Members.{Entry}
 
 -- a value, with values in the places of those inside
 abbrev pub Layer : Type 0

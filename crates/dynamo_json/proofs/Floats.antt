@@ -1,10 +1,10 @@
 -- No float stands in DynamoDB JSON, since numbers are texts.
 use Rattle.std.proofs.Common.{◌≡◌, ℕ, List, [], ◌∷◌, map, false, refl}
-use Rattle.serde_json.specs.Written.{has_float, items_have_float, members_have_float}
+use Rattle.dynamo_json.proofs.Common.{has_float, items_have_float, members_have_float, base64_text}
+use Rattle.dynamo_json.proofs.Common.{elements_json, members_json, WritesNoFloat}
+use Rattle.dynamo_json.proofs.Common.{WritesItemsWithoutFloat}
 use Rattle.dynamo_value.specs.Av as av
-use Rattle.dynamo_value.specs.Base64.{base64_text}
-use Rattle.dynamo_json.specs.Json.{elements_json, members_json, strings}
-use Rattle.dynamo_json.specs.Laws.{WritesNoFloat, WritesItemsWithoutFloat}
+use Rattle.dynamo_json.specs.Json.{strings}
 
 strings_without : (texts : List (List ℕ)) → has_float (strings texts) ≡ false
 strings_without [] = refl

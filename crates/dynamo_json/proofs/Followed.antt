@@ -1,31 +1,24 @@
 -- What is left of the tokens of an attribute value, of a list, a map or a set, after each step of reading.
 use Rattle.std.proofs.Common.{◌≡◌, ◌≢◌, ℕ, suc, ◌-◌, ◌≤◌, List, [], ◌∷◌, ◌++◌, map, Option, Some, None, refl, sym, ap, ◌∙◌, subst, arith, append_assoc, inl, inr, Result, Err, IfErr}
-use Rattle.std.specs.List.{AllByRecursion}
-use Rattle.base64.specs.GeneralPurpose.{IsBytes}
-use Rattle.json.specs.Json as parse
-use Rattle.json.specs.Json.{after_end_array, read_key}
-use Rattle.json.specs.Lex.{tokens}
+use Rattle.dynamo_json.proofs.Common.{AllByRecursion, IsBytes, after_end_array, read_key, tokens}
+use Rattle.dynamo_json.proofs.Common.{Token, Data, depth, items_depth, members_depth, outline}
+use Rattle.dynamo_json.proofs.Common.{items_outline, members_outline, Av, base64_text}
+use Rattle.dynamo_json.proofs.Common.{bytes_of_base64, Fault, out_of_memory, HasBytes}
+use Rattle.dynamo_json.proofs.Common.{ElementsHaveBytes, MembersHaveBytes, Prefix, prefix_text}
+use Rattle.dynamo_json.proofs.Common.{prefix_of, Refused, refusal_in, SpellsItem, ValueIsNext}
+use Rattle.dynamo_json.proofs.Common.{ContentIsNext, ElementsAreNext, MembersAreNext, TextsAreNext}
+use Rattle.dynamo_json.proofs.Common.{BlobsAreNext, prefix_in, content_in, json_of, elements_json}
+use Rattle.dynamo_json.proofs.Common.{members_json, item_json, under, tokens_in, tokens_within}
+use Rattle.dynamo_json.proofs.Common.{tokens_of}
 use Rattle.json.specs.Token as token
-use Rattle.json.specs.Token.{Token}
+use Rattle.serde_json.specs.Data as json
+use Rattle.dynamo_value.specs.Av as av
+use Rattle.dynamo_value.specs.Prefix as prefix
+use Rattle.json.specs.Json as parse
 use Rattle.json.specs.Tree as tree
 use Rattle.json.proofs.Printed.Trees.{value-json_tokens}
-use Rattle.serde_json.specs.Data as json
-use Rattle.serde_json.specs.Data.{Data, depth, items_depth, members_depth}
 use Rattle.serde_json.specs.Read.{of_json}
-use Rattle.serde_json.specs.Written.{outline, items_outline, members_outline}
-use Rattle.dynamo_value.specs.Av as av
-use Rattle.dynamo_value.specs.Av.{Av}
-use Rattle.dynamo_value.specs.Base64.{base64_text, bytes_of_base64}
-use Rattle.dynamo_value.specs.Fault.{Fault, out_of_memory}
-use Rattle.dynamo_value.specs.HasBytes.{HasBytes, ElementsHaveBytes, MembersHaveBytes}
-use Rattle.dynamo_value.specs.Prefix as prefix
-use Rattle.dynamo_value.specs.Prefix.{Prefix, prefix_text, prefix_of}
-use Rattle.dynamo_value.specs.Refusal.{Refused, refusal_in}
-use Rattle.dynamo_json.specs.Followed.{SpellsItem, ValueIsNext, ContentIsNext, ElementsAreNext, MembersAreNext, TextsAreNext, BlobsAreNext, prefix_in, content_in}
-use Rattle.dynamo_json.specs.Json.{json_of, elements_json, members_json, item_json, under}
 use Rattle.dynamo_json.specs.OfText.{Stands, ContentStands, texts_json}
-use Rattle.dynamo_json.specs.StoredText.{tokens_in, tokens_within}
-use Rattle.dynamo_json.specs.Tokens.{tokens_of}
 use Rattle.dynamo_json.specs.declared.from_text.Stop.{Stop}
 use Rattle.dynamo_json.proofs.InText.{parsed, pick}
 use Rattle.dynamo_json.proofs.ReadBack.{blob_back}

@@ -1,18 +1,14 @@
 -- What stands in the tokens of a text: the elements of an array and the members of an object, one after another.
 use Rattle.std.proofs.Common.{◌≡◌, ℕ, ◌-◌, ◌<◌, ◌≤◌, List, [], ◌∷◌, ◌++◌, length, map, Option, Some, None, option_map, option_and_then, Bool, refl, sym, ap, ◌∙◌, arith}
-use Rattle.std.proofs.lemmas.List.{map-append}
-use Rattle.std.specs.List.{AllByRecursion}
-use Rattle.json.specs.Lex.{tokens}
-use Rattle.json.specs.Token.{Token}
+use Rattle.dynamo_json.proofs.Common.{map-append, AllByRecursion, tokens, Token, parse_map}
+use Rattle.dynamo_json.proofs.Common.{after_end_array, read_key, items, members, Data, string}
+use Rattle.dynamo_json.proofs.Common.{boolean, array, object, Items, no_items, item, no_members}
+use Rattle.dynamo_json.proofs.Common.{items_of, Av, Prefix, json_of, under}
 use Rattle.json.specs.Json as json
-use Rattle.json.specs.Json.{parse_map, after_end_array, read_key, items, members, value}
+use Rattle.json.specs.Json.{value}
 use Rattle.json.proofs.Grammar.{value_is, value-begin_array, value-begin_object, items_end, items_more, members_end, members_more, read_key-shorter}
-use Rattle.serde_json.specs.Data.{Data, string, boolean, array, object, Items, no_items, item, Members, no_members, member, put}
+use Rattle.serde_json.specs.Data.{Members, member, put}
 use Rattle.serde_json.specs.Read.{of_json, of_items, of_members, converted, read}
-use Rattle.serde_json.specs.View.{items_of}
-use Rattle.dynamo_value.specs.Av.{Av}
-use Rattle.dynamo_value.specs.Prefix.{Prefix}
-use Rattle.dynamo_json.specs.Json.{json_of, under}
 use Rattle.dynamo_json.specs.OfText.{Stands, ContentStands, ItemsStand, MembersStand}
 
 -- ---- what a conversion leaves

@@ -1,20 +1,17 @@
 -- The members of a map are those of its entries in the order of their keys.
 use Rattle.std.proofs.Common.{◌≡◌, ℕ, suc, ◌+◌, ◌<◌, List, [], ◌∷◌, length, get_or, map, true, false, bytes_eq, refl, sym, ap, ◌∙◌, subst, arith, option_map, Less, Equal, Greater, string_bytes}
-use Rattle.std.specs.List.{AllByRecursion, Contains, IsDistinct}
-use Rattle.std.specs.List.Sorted.{IsPermutation}
-use Rattle.std.specs.Map.{keys_of}
-use Rattle.std.specs.Ordering.{is_lt, is_eq, ordering_reverse}
-use Rattle.std.specs.String.{string_eq, string_cmp, string_eq_equiv}
+use Rattle.dynamo_json.proofs.Common.{AllByRecursion, Contains, IsPermutation, keys_of, is_lt}
+use Rattle.dynamo_json.proofs.Common.{is_eq, ordering_reverse, string_eq, string_cmp}
+use Rattle.dynamo_json.proofs.Common.{string_eq_equiv, Av, members_of, text_cmp, view, entries_view}
+use Rattle.dynamo_json.proofs.Common.{members_view, Entry, HasAll, same_from_all, Lent, shown}
+use Rattle.dynamo_json.proofs.Common.{lent_view}
+use Rattle.std.specs.List.{IsDistinct}
 use Rattle.std.proofs.lemmas.Cmp.{nat_list_cmp_total}
 use Rattle.std.proofs.lemmas.List.Elements.{Contains-get_or}
 use Rattle.std.proofs.lemmas.List.Sorted.{Contains-permutation, IsPermutation-map, length_permutation}
 use Rattle.std.proofs.lemmas.Map.Keys.{IsDistinct-IsPermutation}
 use Rattle.std.proofs.lemmas.Map.Text.{is_eq-slice_cmp}
 use Rattle.std.proofs.lemmas.Map.Views.{lookup-from_Contains}
-use Rattle.dynamo_value.specs.Av.{Av, members_of}
-use Rattle.dynamo_value.specs.View.{text_cmp, view, entries_view, members_view}
-use Rattle.dynamo_value.proofs.Members.{Entry, HasAll, same_from_all}
-use Rattle.dynamo_json.specs.Tokens.{Lent, shown, lent_view}
 
 -- two texts that differ, of which the second is not below the first
 below : (a b : List ℕ) → is_lt (text_cmp b a) ≡ false → bytes_eq a b ≡ false → text_cmp a b ≡ Less

@@ -1,26 +1,20 @@
 -- A JSON value without floats is written, read back, and its own plain JSON.
 use Rattle.std.proofs.Common.{◌≡◌, ◌||◌, ℕ, ℤ, pos, negsuc, ◌^◌, ◌<◌, Bool, true, false, cond, nat_lt, List, [], ◌∷◌, Ok, Some, None, Ordering, Less, Equal, Greater, refl, sym, ap, subst, ◌∙◌, arith}
-use Rattle.std.specs.Prelude.{T}
-use Rattle.std.specs.Fmt.{decimal, signed_decimal}
-use Rattle.std.specs.FinMap.Entries.{put, is_sorted, by_order}
-use Rattle.std.specs.Ordering.{match_ordering}
+use Rattle.dynamo_json.proofs.Common.{T, decimal, signed_decimal, put, is_sorted, by_order}
+use Rattle.dynamo_json.proofs.Common.{match_ordering, Data, Num, Av, text_cmp, json_elements}
+use Rattle.dynamo_json.proofs.Common.{json_pairs, collect, collect_onto, written_elements}
+use Rattle.dynamo_json.proofs.Common.{written_pairs, map_of_entries, Alike, sorted_alike}
+use Rattle.dynamo_json.proofs.Common.{collect-sorted, entries, IsWhole, IsJson, AreJson}
+use Rattle.dynamo_json.proofs.Common.{MembersAreJson, JsonBack, plain_elements, plain_pairs}
+use Rattle.serde_json.specs.Data as json
+use Rattle.dynamo_value.specs.Av as av
 use Rattle.std.proofs.lemmas.Bool.{true≢false}
 use Rattle.std.proofs.lemmas.Bool.Decides.{nat_tests}
-use Rattle.serde_json.specs.Data as json
-use Rattle.serde_json.specs.Data.{Data, Num}
-use Rattle.dynamo_value.specs.Av as av
-use Rattle.dynamo_value.specs.Av.{Av}
 use Rattle.dynamo_value.specs.Integer.{i64, u64}
-use Rattle.dynamo_value.specs.View.{text_cmp}
-use Rattle.dynamo_ser.specs.JsonValue.{json_elements, json_pairs}
 use Rattle.dynamo_de.specs.Answer.{Answer, value}
 use Rattle.dynamo_de.specs.ReadJson.{number, number_or, read_number, read_value, read_elements, read_members}
 use Rattle.dynamo_de.proofs.Decimals.{parse_back, parse_decimal}
-use Rattle.dynamo_write.specs.Collect.{collect, collect_onto}
-use Rattle.dynamo_write.specs.Written.{written_elements, written_pairs, map_of_entries}
-use Rattle.dynamo_write.proofs.Collected.{Alike, sorted_alike, collect-sorted}
-use Rattle.dynamo_json.specs.JsonBack.{entries, IsWhole, IsJson, AreJson, MembersAreJson, JsonBack}
-use Rattle.dynamo_json.specs.Plain.{members_of, plain_elements, plain_pairs}
+use Rattle.dynamo_json.specs.Plain.{members_of}
 
 -- ---- numbers
 

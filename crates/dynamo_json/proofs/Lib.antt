@@ -1,3 +1,4 @@
+mod Common
 pub mod Agree
 mod Appended
 pub mod AttributeBack

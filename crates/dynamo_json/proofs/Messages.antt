@@ -2,16 +2,13 @@
 use Rattle.std.proofs.Common.{ℕ, List, Result, Ok, Err, Option, Some, None, IfErr}
 use Rattle.std.specs.Result.{result_ok}
 use Rattle.base64.specs.Engines.{standard}
-use Rattle.base64.specs.GeneralPurpose.{decode_of}
+use Rattle.dynamo_json.proofs.Common.{decode_of, Data, bytes_of_base64, not_base64, Prefix}
+use Rattle.dynamo_json.proofs.Common.{prefix_of, Refusal, or_refuse, ◌>>=◌, SaysMessage}
+use Rattle.dynamo_json.proofs.Common.{RefusesByMessage, RefusesItemsByMessage, unknown_key, known}
+use Rattle.dynamo_json.proofs.Common.{each_in, string_in, blob_in, parsed, parsed_content}
+use Rattle.dynamo_json.proofs.Common.{parsed_elements, parsed_members}
 use Rattle.serde_json.specs.Data as json
-use Rattle.serde_json.specs.Data.{Data}
-use Rattle.dynamo_value.specs.Base64.{bytes_of_base64, not_base64}
 use Rattle.dynamo_value.specs.Prefix as prefix
-use Rattle.dynamo_value.specs.Prefix.{Prefix, prefix_of}
-use Rattle.dynamo_value.specs.Refusal.{Refusal, or_refuse}
-use Rattle.dynamo_value.specs.Steps.{◌>>=◌}
-use Rattle.dynamo_json.specs.Laws.{SaysMessage, RefusesByMessage, RefusesItemsByMessage}
-use Rattle.dynamo_json.specs.Parsed.{unknown_key, known, each_in, string_in, blob_in, parsed, parsed_content, parsed_elements, parsed_members}
 
 -- a step that refuses by messages alone
 abbrev ByMessage : {A : Type 0} → Result A Refusal → Type 0

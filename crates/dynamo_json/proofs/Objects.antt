@@ -1,13 +1,10 @@
 -- An object by the entries of its map: what `insert` leaves is `put`. And an array by its values.
 use Rattle.std.proofs.Common.{◌≡◌, List, [], ◌∷◌, String, string_bytes, string_cmp, BTreeMap, Global, Ordering, Less, Equal, Greater, refl, ap, ◌∙◌}
 use Rattle.std.specs.BTreeMap.{insert_entry}
-use Rattle.std.specs.FinMap.Entries.{put, by_order}
-use Rattle.std.specs.Ordering.{match_ordering}
+use Rattle.dynamo_json.proofs.Common.{put, by_order, match_ordering, items_view, Value, Object}
+use Rattle.dynamo_json.proofs.Common.{view-Object, text_cmp}
 use Rattle.serde_json.specs.Data as json
-use Rattle.serde_json.specs.View.{view, items_view, members_view}
-use Rattle.serde_json.specs.declared.value.Value.{Value, Object}
-use Rattle.serde_json.proofs.Views.{view-Object}
-use Rattle.dynamo_value.specs.View.{text_cmp}
+use Rattle.serde_json.specs.View.{view, members_view}
 use Rattle.dynamo_write.specs.Held.{held_entries}
 use Rattle.dynamo_write.specs.Target.{parts_before}
 use Rattle.dynamo_json.specs.Plain.{members_of}

@@ -1,16 +1,13 @@
 -- Worked rows of plain JSON, by computation.
 use Rattle.std.proofs.Common.{◌≡◌, ℕ, ◌-◌, ◌^◌, pos, negsuc, [], ◌∷◌, Ok, Err, refl}
-use Rattle.std.specs.Prelude.{codes}
-use Rattle.std.specs.Char.{encode_utf8}
+use Rattle.dynamo_json.proofs.Common.{codes, Data, message, key_must_be_a_string, Datum, variant}
+use Rattle.dynamo_json.proofs.Common.{plain}
 use Rattle.std.specs.Fmt.{digits}
 use Rattle.serde_json.specs.Data as json
-use Rattle.serde_json.specs.Data.{Data}
 use Rattle.dynamo_value.specs.Av as av
-use Rattle.dynamo_value.specs.Fault.{message, key_must_be_a_string}
 use Rattle.dynamo_ser.specs.Datum as datum
-use Rattle.dynamo_ser.specs.Datum.{Datum, variant}
+use Rattle.std.specs.Char.{encode_utf8}
 use Rattle.dynamo_ser.specs.Symbols.{strings, symbol}
-use Rattle.dynamo_json.specs.Plain.{plain}
 use Rattle.dynamo_json.specs.ViaJson.{via_json}
 
 abbrev byte : ℕ → Datum

@@ -1,23 +1,18 @@
 -- Whatever plain JSON is made of a datum is written.
 use Rattle.std.proofs.Common.{◌≡◌, ℕ, ℤ, pos, negsuc, Bool, true, false, cond, List, [], ◌∷◌, Result, Ok, Err, IfOk, map, refl}
-use Rattle.std.specs.Prelude.{encode_utf8}
-use Rattle.std.specs.Fmt.{decimal, signed_decimal}
+use Rattle.dynamo_json.proofs.Common.{decimal, signed_decimal, Data, items_of, Av, Fault, ◌>>=◌}
+use Rattle.dynamo_json.proofs.Common.{Datum, json_elements, json_pairs, collect, written_elements}
+use Rattle.dynamo_json.proofs.Common.{written_pairs, map_of_entries, EachValue, collect_each}
+use Rattle.dynamo_json.proofs.Common.{in_64_bits, byte_number, object_of_entries, plain}
+use Rattle.dynamo_json.proofs.Common.{plain_elements, plain_pairs, plain_fields}
 use Rattle.serde_json.specs.Data as json
-use Rattle.serde_json.specs.Data.{Data}
-use Rattle.serde_json.specs.Find.{of_integer}
-use Rattle.serde_json.specs.View.{items_of}
 use Rattle.dynamo_value.specs.Av as av
-use Rattle.dynamo_value.specs.Av.{Av}
-use Rattle.dynamo_value.specs.Fault.{Fault}
-use Rattle.dynamo_value.specs.Steps.{◌>>=◌}
 use Rattle.dynamo_ser.specs.Datum as datum
-use Rattle.dynamo_ser.specs.Datum.{Datum}
-use Rattle.dynamo_ser.specs.JsonValue.{json_elements, json_pairs}
+use Rattle.std.specs.Prelude.{encode_utf8}
+use Rattle.serde_json.specs.Find.{of_integer}
 use Rattle.dynamo_ser.specs.Key.{key_text}
-use Rattle.dynamo_write.specs.Collect.{collect}
-use Rattle.dynamo_write.specs.Written.{written_elements, written_pairs, map_of_entries, one_member as single_map}
-use Rattle.dynamo_write.proofs.Collected.{EachValue, collect_each}
-use Rattle.dynamo_json.specs.Plain.{in_64_bits, byte_number, members_of, object_of_entries, one_member, plain, plain_elements, plain_pairs, plain_fields}
+use Rattle.dynamo_write.specs.Written.{one_member as single_map}
+use Rattle.dynamo_json.specs.Plain.{members_of, one_member}
 use Rattle.dynamo_json.specs.Square.{IsWritten}
 
 abbrev AreWritten : json.Items → Type 0

@@ -1,28 +1,25 @@
 -- The JSON value of an attribute value is read back as it, and nothing else is read.
 use Rattle.std.proofs.Common.{◌≡◌, ℕ, true, false, cond, List, [], ◌∷◌, map, Ok, Some, refl, sym, ap, ◌∙◌}
-use Rattle.std.specs.List.{AllByRecursion}
+use Rattle.dynamo_json.proofs.Common.{AllByRecursion, decode_of, IsBytes, Data, items_of, Av}
+use Rattle.dynamo_json.proofs.Common.{base64_text, bytes_of_base64, not_base64, HasBytes}
+use Rattle.dynamo_json.proofs.Common.{ElementsHaveBytes, MembersHaveBytes, Prefix, prefix_text}
+use Rattle.dynamo_json.proofs.Common.{prefixes, prefix_of, prefix_among, or_refuse, json_of}
+use Rattle.dynamo_json.proofs.Common.{elements_json, members_json, item_json, under, ReadsItsJson}
+use Rattle.dynamo_json.proofs.Common.{StandsForOne, ReadsItemsExactly, StandsForOneItem}
+use Rattle.dynamo_json.proofs.Common.{unknown_key, known, each_in, string_in, blob_in, parsed}
+use Rattle.dynamo_json.proofs.Common.{parsed_content, parsed_elements, parsed_members, parsed_item}
+use Rattle.dynamo_json.proofs.Common.{ok_same, err_ok, bind_ok}
+use Rattle.serde_json.specs.Data as json
+use Rattle.dynamo_value.specs.Av as av
+use Rattle.dynamo_value.specs.Prefix as prefix
 use Rattle.std.specs.Prelude.{bytes_eq}
 use Rattle.std.specs.Result.{result_ok}
 use Rattle.std.proofs.lemmas.Option.{none-some, same_Some}
 use Rattle.std.proofs.lemmas.Slice.Eq.{bytes_eq-Decides}
 use Rattle.base64.specs.Engines.{standard}
-use Rattle.base64.specs.GeneralPurpose.{decode_of, IsBytes}
 use Rattle.base64.proofs.EngineFacts.{decode_of-encode_of, decode_of_strict}
-use Rattle.serde_json.specs.Data as json
-use Rattle.serde_json.specs.Data.{Data}
-use Rattle.serde_json.specs.View.{items_of}
-use Rattle.dynamo_value.specs.Av as av
-use Rattle.dynamo_value.specs.Av.{Av}
-use Rattle.dynamo_value.specs.Base64.{base64_text, bytes_of_base64, not_base64}
-use Rattle.dynamo_value.specs.HasBytes.{HasBytes, ElementsHaveBytes, MembersHaveBytes}
-use Rattle.dynamo_value.specs.Prefix as prefix
-use Rattle.dynamo_value.specs.Prefix.{Prefix, prefix_text, prefixes, prefix_of, prefix_among}
-use Rattle.dynamo_value.specs.Refusal.{or_refuse}
-use Rattle.dynamo_json.specs.Json.{json_of, elements_json, members_json, item_json, under}
-use Rattle.dynamo_json.specs.Laws.{ReadsItsJson, StandsForOne, ReadsItemsExactly, StandsForOneItem}
-use Rattle.dynamo_json.specs.Parsed.{unknown_key, known, each_in, string_in, blob_in, parsed, parsed_content, parsed_elements, parsed_members, parsed_item}
 use Rattle.dynamo_json.specs.Texts.{HasTexts, ItemsHaveTexts, MembersHaveTexts}
-use Rattle.dynamo_json.proofs.Results.{the_same, no_value, bound, was_some, was_ok}
+use Rattle.dynamo_json.proofs.Results.{was_some, was_ok}
 
 -- ---- it is read back
 
@@ -59,10 +56,10 @@ mutual
   members_back (av.member name a ms) h = rw (value_back a h.0, members_back ms h.1) refl
 
 pub stands_for_one : StandsForOne
-stands_for_one a b h k e = the_same (sym (value_back a h) ∙ ap parsed e ∙ value_back b k)
+stands_for_one a b h k e = ok_same (sym (value_back a h) ∙ ap parsed e ∙ value_back b k)
 
 pub stands_for_one_item : StandsForOneItem
-stands_for_one_item ms ns h k e = the_same (sym (members_back ms h) ∙ ap parsed_item e ∙ members_back ns k)
+stands_for_one_item ms ns h k e = ok_same (sym (members_back ms h) ∙ ap parsed_item e ∙ members_back ns k)
 
 -- ---- nothing else is read
 
@@ -81,74 +78,74 @@ blob_is : (text bytes : List ℕ) → IsBytes text → bytes_of_base64 text ≡ 
 blob_is text bytes h e = decode_of_strict standard text bytes (refl, refl) h (was_ok (decode_of standard text) bytes (was_some not_base64 (result_ok (decode_of standard text)) bytes e))
 
 strings_are : (js : json.Items) (texts : List (List ℕ)) → each_in string_in js ≡ Ok texts → js ≡ items_of (map json.string texts)
-strings_are json.no_items texts h = ap (λ ts. items_of (map json.string ts)) (the_same h)
+strings_are json.no_items texts h = ap (λ ts. items_of (map json.string ts)) (ok_same h)
 strings_are (json.item (json.string text) js) texts h =
-    let rest = bound (each_in string_in js) _ texts h in
-    ap (json.item (json.string text)) (strings_are js rest.0 rest.1) ∙ ap (λ ts. items_of (map json.string ts)) (the_same rest.2)
-strings_are (json.item _ js) texts h = absurd (no_value h)
+    let rest = bind_ok (each_in string_in js) _ texts h in
+    ap (json.item (json.string text)) (strings_are js rest.0 rest.1) ∙ ap (λ ts. items_of (map json.string ts)) (ok_same rest.2)
+strings_are (json.item _ js) texts h = absurd (err_ok h)
 
 abbrev blob_items : List (List ℕ) → json.Items
 blob_items blobs = items_of (map json.string (map base64_text blobs))
 
 blobs_are : (js : json.Items) (blobs : List (List ℕ)) → ItemsHaveTexts js → each_in blob_in js ≡ Ok blobs → js ≡ blob_items blobs
-blobs_are json.no_items blobs k h = ap blob_items (the_same h)
+blobs_are json.no_items blobs k h = ap blob_items (ok_same h)
 blobs_are (json.item (json.string text) js) blobs k h =
-    let first = bound (bytes_of_base64 text) _ blobs h in
-    let rest = bound (each_in blob_in js) _ blobs first.2 in
+    let first = bind_ok (bytes_of_base64 text) _ blobs h in
+    let rest = bind_ok (each_in blob_in js) _ blobs first.2 in
     let here = blob_is text first.0 k.0 first.1 in
     let there = blobs_are js rest.0 k.1 rest.1 in
-    (λ i. json.item (json.string (here i)) (there i)) ∙ ap blob_items (the_same rest.2)
-blobs_are (json.item _ js) blobs k h = absurd (no_value h)
+    (λ i. json.item (json.string (here i)) (there i)) ∙ ap blob_items (ok_same rest.2)
+blobs_are (json.item _ js) blobs k h = absurd (err_ok h)
 
 mutual
   pub value_is : (j : Data) (a : Av) → HasTexts j → parsed j ≡ Ok a → j ≡ json_of a
-  value_is (json.object json.no_members) a k h = absurd (no_value h)
+  value_is (json.object json.no_members) a k h = absurd (err_ok h)
   value_is (json.object (json.member key content json.no_members)) a k h =
-      let named = bound (known key) _ a h in
+      let named = bind_ok (known key) _ a h in
       ap (λ t. json.object (json.member t content json.no_members)) (known_is key named.0 named.1) ∙ content_is content named.0 a k.0 named.2
-  value_is (json.object (json.member key content (json.member other value ms))) a k h = absurd (no_value h)
-  value_is _ a k h = absurd (no_value h)
+  value_is (json.object (json.member key content (json.member other value ms))) a k h = absurd (err_ok h)
+  value_is _ a k h = absurd (err_ok h)
 
   content_is : (content : Data) (p : Prefix) (a : Av) → HasTexts content → parsed_content content p ≡ Ok a → under p content ≡ json_of a
-  content_is (json.string text) prefix.N a k h = ap json_of (the_same h)
-  content_is (json.string text) prefix.S a k h = ap json_of (the_same h)
+  content_is (json.string text) prefix.N a k h = ap json_of (ok_same h)
+  content_is (json.string text) prefix.S a k h = ap json_of (ok_same h)
   content_is (json.string text) prefix.B a k h =
-      let r = bound (bytes_of_base64 text) _ a h in ap (λ t. under prefix.B (json.string t)) (blob_is text r.0 k r.1) ∙ ap json_of (the_same r.2)
-  content_is (json.boolean b) prefix.Bool a k h = ap json_of (the_same h)
-  content_is (json.boolean b) prefix.Null a k h = ap json_of (the_same h)
+      let r = bind_ok (bytes_of_base64 text) _ a h in ap (λ t. under prefix.B (json.string t)) (blob_is text r.0 k r.1) ∙ ap json_of (ok_same r.2)
+  content_is (json.boolean b) prefix.Bool a k h = ap json_of (ok_same h)
+  content_is (json.boolean b) prefix.Null a k h = ap json_of (ok_same h)
   content_is (json.object ms) prefix.M a k h =
-      let r = bound (parsed_members ms) _ a h in ap (λ xs. under prefix.M (json.object xs)) (members_are ms r.0 k r.1) ∙ ap json_of (the_same r.2)
+      let r = bind_ok (parsed_members ms) _ a h in ap (λ xs. under prefix.M (json.object xs)) (members_are ms r.0 k r.1) ∙ ap json_of (ok_same r.2)
   content_is (json.array js) prefix.L a k h =
-      let r = bound (parsed_elements js) _ a h in ap (λ xs. under prefix.L (json.array xs)) (elements_are js r.0 k r.1) ∙ ap json_of (the_same r.2)
+      let r = bind_ok (parsed_elements js) _ a h in ap (λ xs. under prefix.L (json.array xs)) (elements_are js r.0 k r.1) ∙ ap json_of (ok_same r.2)
   content_is (json.array js) prefix.Ss a k h =
-      let r = bound (each_in string_in js) _ a h in ap (λ xs. under prefix.Ss (json.array xs)) (strings_are js r.0 r.1) ∙ ap json_of (the_same r.2)
+      let r = bind_ok (each_in string_in js) _ a h in ap (λ xs. under prefix.Ss (json.array xs)) (strings_are js r.0 r.1) ∙ ap json_of (ok_same r.2)
   content_is (json.array js) prefix.Ns a k h =
-      let r = bound (each_in string_in js) _ a h in ap (λ xs. under prefix.Ns (json.array xs)) (strings_are js r.0 r.1) ∙ ap json_of (the_same r.2)
+      let r = bind_ok (each_in string_in js) _ a h in ap (λ xs. under prefix.Ns (json.array xs)) (strings_are js r.0 r.1) ∙ ap json_of (ok_same r.2)
   content_is (json.array js) prefix.Bs a k h =
-      let r = bound (each_in blob_in js) _ a h in ap (λ xs. under prefix.Bs (json.array xs)) (blobs_are js r.0 k r.1) ∙ ap json_of (the_same r.2)
-  content_is _ _ a k h = absurd (no_value h)
+      let r = bind_ok (each_in blob_in js) _ a h in ap (λ xs. under prefix.Bs (json.array xs)) (blobs_are js r.0 k r.1) ∙ ap json_of (ok_same r.2)
+  content_is _ _ a k h = absurd (err_ok h)
 
   elements_are : (js : json.Items) (as' : av.Elements) → ItemsHaveTexts js → parsed_elements js ≡ Ok as' → js ≡ elements_json as'
-  elements_are json.no_items as' k h = ap elements_json (the_same h)
+  elements_are json.no_items as' k h = ap elements_json (ok_same h)
   elements_are (json.item j js) as' k h =
-      let first = bound (parsed j) _ as' h in
-      let rest = bound (parsed_elements js) _ as' first.2 in
+      let first = bind_ok (parsed j) _ as' h in
+      let rest = bind_ok (parsed_elements js) _ as' first.2 in
       let here = value_is j first.0 k.0 first.1 in
       let there = elements_are js rest.0 k.1 rest.1 in
-      (λ i. json.item (here i) (there i)) ∙ ap elements_json (the_same rest.2)
+      (λ i. json.item (here i) (there i)) ∙ ap elements_json (ok_same rest.2)
 
   pub members_are : (js : json.Members) (ms : av.Members) → MembersHaveTexts js → parsed_members js ≡ Ok ms → js ≡ members_json ms
-  members_are json.no_members ms k h = ap members_json (the_same h)
+  members_are json.no_members ms k h = ap members_json (ok_same h)
   members_are (json.member name j js) ms k h =
-      let first = bound (parsed j) _ ms h in
-      let rest = bound (parsed_members js) _ ms first.2 in
+      let first = bind_ok (parsed j) _ ms h in
+      let rest = bind_ok (parsed_members js) _ ms first.2 in
       let here = value_is j first.0 k.0 first.1 in
       let there = members_are js rest.0 k.1 rest.1 in
-      (λ i. json.member name (here i) (there i)) ∙ ap members_json (the_same rest.2)
+      (λ i. json.member name (here i) (there i)) ∙ ap members_json (ok_same rest.2)
 
 pub item_is : (j : Data) (ms : av.Members) → HasTexts j → parsed_item j ≡ Ok ms → j ≡ item_json ms
 item_is (json.object js) ms k h = ap json.object (members_are js ms k h)
-item_is _ ms k h = absurd (no_value h)
+item_is _ ms k h = absurd (err_ok h)
 
 pub reads_exactly : ReadsItsJson
 reads_exactly a j h k = (value_is j a k, λ e. ap parsed e ∙ value_back a h)

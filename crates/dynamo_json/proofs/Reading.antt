@@ -2,28 +2,19 @@
 use Rattle.std.proofs.Common.{◌≡◌, ℕ, List, [], ◌∷◌, ◌++◌, Result, Ok, Err, Option, Some, None, refl, sym, ap, ◌∙◌, Less, Greater, String, string_bytes, BTreeMap}
 use Rattle.std.proofs.lemmas.Option.{none-some}
 use Rattle.std.proofs.lemmas.Cmp.{nat_list_cmp_total}
-use Rattle.std.specs.FinMap.Entries.{put}
-use Rattle.std.specs.List.{AllByRecursion}
+use Rattle.dynamo_json.proofs.Common.{put, AllByRecursion, keys_of, ordering_reverse, string_cmp}
+use Rattle.dynamo_json.proofs.Common.{Data, Value, Object, view-Object, Av, element, elements_of}
+use Rattle.dynamo_json.proofs.Common.{member, members_of, Fault, Prefix, prefix_of, M, Refusal}
+use Rattle.dynamo_json.proofs.Common.{Refused, refusal_in, ◌>>=◌, text_cmp, parsed, parsed_content}
+use Rattle.dynamo_json.proofs.Common.{parsed_elements, parsed_members, each_in, bind_ok, ok_same}
 use Rattle.std.specs.List.Sorted.{IsStrictlySortedBy}
-use Rattle.std.specs.Map.{keys_of}
-use Rattle.std.specs.Option.{MatchOption}
-use Rattle.std.specs.Ordering.{ordering_reverse}
-use Rattle.std.specs.String.{string_cmp}
-use Rattle.std.specs.declared.alloc.Global.{Global}
 use Rattle.serde_json.specs.Data as json
-use Rattle.serde_json.specs.Data.{Data}
 use Rattle.serde_json.specs.View as sj
-use Rattle.serde_json.specs.declared.value.Value.{Value, Object}
-use Rattle.serde_json.proofs.Views.{Entry, view-Object}
-use Rattle.dynamo_value.specs.Av.{Av, element, elements_of, member, members_of}
-use Rattle.dynamo_value.specs.Fault.{Fault}
-use Rattle.dynamo_value.specs.Prefix.{Prefix, prefix_of, M, L}
-use Rattle.dynamo_value.specs.Refusal.{Refusal, Refused, refusal_in}
-use Rattle.dynamo_value.specs.Steps.{◌>>=◌}
-use Rattle.dynamo_value.specs.View.{text_cmp}
-use Rattle.dynamo_json.specs.Parsed.{parsed, parsed_content, parsed_elements, parsed_members, each_in}
+use Rattle.std.specs.Option.{MatchOption}
+use Rattle.std.specs.declared.alloc.Global.{Global}
+use Rattle.serde_json.proofs.Views.{Entry}
+use Rattle.dynamo_value.specs.Prefix.{L}
 use Rattle.dynamo_json.proofs.Each.{each, refused_as}
-use Rattle.dynamo_json.proofs.Results.{bound, the_same}
 
 pub each_in-items_view : {A : Type 0} (f : Data → Result A Refusal) (vs : List Value) → each_in f (sj.items_view vs) ≡ each (λ v. f (sj.view v)) vs
 each_in-items_view f [] = refl
@@ -83,12 +74,12 @@ below_middle first (x ∷ es) e more h = below_middle first es e more h.1
 pub put_last : (done : List Entry) (e : Entry) (more : List Entry) (ms : List (List ℕ × Av)) (a : Av) → IsStrictlySortedBy string_cmp (keys_of (done ++ e ∷ more))
     → each member_in done ≡ Ok ms → put text_cmp (string_bytes e.0) a ms ≡ ms ++ (string_bytes e.0, a) ∷ []
 unfolding IsStrictlySortedBy
-put_last [] e more ms a sorted h = let none : ms ≡ [] = sym (the_same h) in rw none refl
+put_last [] e more ms a sorted h = let none : ms ≡ [] = sym (ok_same h) in rw none refl
 put_last (first ∷ done) e more ms a sorted h =
-    let one = bound (member_in first) _ ms h in
-    let others = bound (each member_in done) _ ms one.2 in
-    let read = bound (value_in first.1) _ one.0 one.1 in
-    let all : ms ≡ (string_bytes first.0, read.0) ∷ others.0 = sym (the_same others.2) ∙ ap (λ m. m ∷ others.0) (sym (the_same read.2)) in
+    let one = bind_ok (member_in first) _ ms h in
+    let others = bind_ok (each member_in done) _ ms one.2 in
+    let read = bind_ok (value_in first.1) _ one.0 one.1 in
+    let all : ms ≡ (string_bytes first.0, read.0) ∷ others.0 = sym (ok_same others.2) ∙ ap (λ m. m ∷ others.0) (sym (ok_same read.2)) in
     let above : text_cmp (string_bytes e.0) (string_bytes first.0) ≡ Greater =
     nat_list_cmp_total.antisymm (string_bytes e.0) (string_bytes first.0) ∙ ap ordering_reverse (below_middle first done e more sorted.0) in
     rw (all, above, put_last done e more others.0 a sorted.1 others.1) refl

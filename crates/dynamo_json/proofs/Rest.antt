@@ -1,14 +1,10 @@
 -- The tokens that are left to write of a list, a set or the members of a map, with the closing bracket.
 use Rattle.std.proofs.Common.{◌≡◌, ℕ, List, ◌++◌, map, ap, ◌∙◌, append_assoc}
-use Rattle.json.specs.Token.{Token}
-use Rattle.json.specs.Tree.{items_tokens, members_tokens}
+use Rattle.dynamo_json.proofs.Common.{Token, items_of, items_outline, members_outline}
+use Rattle.dynamo_json.proofs.Common.{elements_view, AttributeValue, elements_json, members_json}
+use Rattle.dynamo_json.proofs.Common.{Lent, lent_view}
 use Rattle.serde_json.specs.Data as json
-use Rattle.serde_json.specs.View.{items_of}
-use Rattle.serde_json.specs.Written.{items_outline, members_outline}
-use Rattle.dynamo_value.specs.View.{elements_view}
-use Rattle.dynamo_value.specs.declared.attribute_value.AttributeValue.{AttributeValue}
-use Rattle.dynamo_json.specs.Json.{elements_json, members_json}
-use Rattle.dynamo_json.specs.Tokens.{Lent, lent_view}
+use Rattle.json.specs.Tree.{items_tokens, members_tokens}
 
 abbrev pub elements_left : List AttributeValue → List Token
 elements_left values = items_tokens (items_outline (elements_json (elements_view values)))

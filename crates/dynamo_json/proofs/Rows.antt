@@ -1,11 +1,9 @@
 -- Rows of DynamoDB JSON, as the definitions compute them.
 use Rattle.std.proofs.Common.{◌≡◌, List, ℕ, [], true, false, Ok, Err, codes, refl}
+use Rattle.dynamo_json.proofs.Common.{Data, any_message, json_of, parsed, parsed_item, no_key}
+use Rattle.dynamo_json.proofs.Common.{several_keys, unknown_key, not_an_object}
 use Rattle.serde_json.specs.Data as json
-use Rattle.serde_json.specs.Data.{Data}
 use Rattle.dynamo_value.specs.Av as av
-use Rattle.dynamo_value.specs.Refusal.{any_message}
-use Rattle.dynamo_json.specs.Json.{json_of}
-use Rattle.dynamo_json.specs.Parsed.{parsed, parsed_item, no_key, several_keys, unknown_key, not_an_object}
 
 -- the object of one member
 one : List ℕ → Data → Data

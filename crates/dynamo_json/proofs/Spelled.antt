@@ -1,20 +1,16 @@
 -- The text that is written of an item under a name spells it.
 use Rattle.std.proofs.Common.{◌≡◌, ℕ, List, [], ◌∷◌, map, sym, ap, ◌∙◌}
-use Rattle.json.specs.Lex.{tokens}
+use Rattle.dynamo_json.proofs.Common.{tokens, items_of, outline, items_outline, members_outline}
+use Rattle.dynamo_json.proofs.Common.{compact_text, Av, Members, base64_text, IsWritable}
+use Rattle.dynamo_json.proofs.Common.{SpellsItem, json_of, elements_json, members_json, item_json}
+use Rattle.dynamo_json.proofs.Common.{tokens_of}
+use Rattle.serde_json.specs.Data as json
+use Rattle.dynamo_value.specs.Av as av
 use Rattle.json.specs.Tree.{HasNumbers, ItemsHaveNumbers, MembersHaveNumbers}
 use Rattle.json.proofs.Printed.Tokens.{tokens-print}
 use Rattle.json.proofs.Printed.Trees.{ArePrintable-json_tokens}
-use Rattle.serde_json.specs.Data as json
-use Rattle.serde_json.specs.View.{items_of}
-use Rattle.serde_json.specs.Written.{outline, items_outline, members_outline, compact_text}
 use Rattle.serde_json.proofs.Texts.{print-outline}
-use Rattle.dynamo_value.specs.Av as av
-use Rattle.dynamo_value.specs.Av.{Av, Members}
-use Rattle.dynamo_value.specs.Base64.{base64_text}
-use Rattle.dynamo_json.specs.Followed.{IsWritable, SpellsItem}
-use Rattle.dynamo_json.specs.Json.{json_of, elements_json, members_json, item_json}
 use Rattle.dynamo_json.specs.OneMember.{one_member}
-use Rattle.dynamo_json.specs.Tokens.{tokens_of}
 
 -- no JSON number stands in it, so each is written as it is read
 

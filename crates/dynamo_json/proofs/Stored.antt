@@ -1,27 +1,15 @@
 -- What was written of a JSON value as DynamoDB JSON, and what is left to write.
 use Rattle.std.proofs.Common.{◌≡◌, ℕ, ◌+◌, ◌<◌, List, [], ◌∷◌, ◌++◌, length, get_or, drop, Option, Some, None, Result}
 use Rattle.std.proofs.Common.{Ok, Err, refl, sym, ap, ap₂, ◌∙◌, subst, append_assoc}
-use Rattle.std.proofs.lemmas.List.{at_drop_more}
-use Rattle.std.specs.FinMap.Entries.{is_sorted}
-use Rattle.std.specs.Prelude.{T}
-use Rattle.json.specs.Print.{print}
-use Rattle.json.specs.Token.{Token, key}
+use Rattle.dynamo_json.proofs.Common.{at_drop_more, is_sorted, T, Token, key, Data, compact_text}
+use Rattle.dynamo_json.proofs.Common.{Av, members_of, Fault, ◌>>=◌, text_cmp, json_datum}
+use Rattle.dynamo_json.proofs.Common.{json_pairs, collect, written, written_pairs, Alike}
+use Rattle.dynamo_json.proofs.Common.{collect-sorted, sorted_alike, json_of, members_json, entries}
+use Rattle.dynamo_json.proofs.Common.{Prints, behind, stored, stored_members, tokens_within}
+use Rattle.dynamo_json.proofs.Common.{tokens_of}
 use Rattle.serde_json.specs.Data as json
-use Rattle.serde_json.specs.Data.{Data}
-use Rattle.serde_json.specs.Written.{compact_text}
+use Rattle.json.specs.Print.{print}
 use Rattle.serde_json.proofs.Texts.{print-outline}
-use Rattle.dynamo_value.specs.Av.{Av, members_of}
-use Rattle.dynamo_value.specs.Fault.{Fault}
-use Rattle.dynamo_value.specs.Steps.{◌>>=◌}
-use Rattle.dynamo_value.specs.View.{text_cmp}
-use Rattle.dynamo_ser.specs.JsonValue.{json_datum, json_pairs}
-use Rattle.dynamo_write.specs.Collect.{collect}
-use Rattle.dynamo_write.specs.Written.{written, written_pairs}
-use Rattle.dynamo_write.proofs.Collected.{Alike, collect-sorted, sorted_alike}
-use Rattle.dynamo_json.specs.Json.{json_of, members_json}
-use Rattle.dynamo_json.specs.JsonBack.{entries}
-use Rattle.dynamo_json.specs.StoredText.{Prints, behind, stored, stored_members, tokens_within}
-use Rattle.dynamo_json.specs.Tokens.{tokens_of}
 use Rattle.dynamo_json.specs.declared.from_text.Stop.{Stop}
 
 -- ---- the members of an object, in the order in which they are written

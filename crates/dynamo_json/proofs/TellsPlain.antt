@@ -1,33 +1,21 @@
 -- The plain JSON of each datum that an attribute value tells is its DynamoDB JSON.
-use Rattle.std.proofs.Common.{◌≡◌, ℕ, List, [], ◌∷◌, map, Result, Ok, Err, refl, sym, ap, subst, ◌∙◌, inl, inr}
-use Rattle.std.specs.Prelude.{T}
-use Rattle.std.specs.FinMap.Entries.{is_sorted}
+use Rattle.std.proofs.Common.{◌≡◌, ℕ, List, [], ◌∷◌, map, Ok, refl, sym, ap, subst, ◌∙◌, inl, inr}
+use Rattle.dynamo_json.proofs.Common.{T, is_sorted, Data, items_of, Av, base64_text, Prefix}
+use Rattle.dynamo_json.proofs.Common.{text_cmp, Datum, collect, Alike, sorted_alike, strings, Tells}
+use Rattle.dynamo_json.proofs.Common.{ElementsTell, MembersTell, json_of, elements_json}
+use Rattle.dynamo_json.proofs.Common.{members_json, under, plain, plain_elements, plain_pairs}
+use Rattle.dynamo_json.proofs.Common.{ok_same, bind_ok}
 use Rattle.serde_json.specs.Data as json
-use Rattle.serde_json.specs.Data.{Data}
-use Rattle.serde_json.specs.View.{items_of}
 use Rattle.dynamo_value.specs.Av as av
-use Rattle.dynamo_value.specs.Av.{Av}
-use Rattle.dynamo_value.specs.Base64.{base64_text}
-use Rattle.dynamo_value.specs.Fault.{Fault}
-use Rattle.dynamo_value.specs.Steps.{◌>>=◌}
 use Rattle.dynamo_value.specs.Prefix as prefix
-use Rattle.dynamo_value.specs.Prefix.{Prefix}
-use Rattle.dynamo_value.specs.View.{text_cmp}
-use Rattle.dynamo_ser.specs.AttributeDatum as told
 use Rattle.dynamo_ser.specs.Datum as datum
-use Rattle.dynamo_ser.specs.Datum.{Datum}
+use Rattle.dynamo_ser.specs.AttributeDatum as told
 use Rattle.dynamo_ser.specs.Key.{key_text}
-use Rattle.dynamo_write.specs.Collect.{collect}
-use Rattle.dynamo_write.proofs.Collected.{Alike, sorted_alike}
 use Rattle.dynamo_ser.specs.Without.{Without}
-use Rattle.dynamo_json.specs.AttributeTells.{strings, Tells, ElementsTell, MembersTell}
-use Rattle.dynamo_json.specs.Json.{json_of, elements_json, members_json, under}
 use Rattle.dynamo_json.specs.JsonBack as object
 use Rattle.dynamo_json.specs.KeyOrder.{entries, InOrder, ElementsInOrder, EachInOrder}
-use Rattle.dynamo_json.specs.Plain.{plain, plain_elements, plain_pairs}
 use Rattle.dynamo_json.proofs.JsonBack.{members_again}
 use Rattle.dynamo_write.proofs.Orders.{OutOf, AnyOrder, collect_order}
-use Rattle.dynamo_json.proofs.Results.{the_same, no_value}
 
 strings_plain : (texts : List (List ℕ)) → plain_elements (strings texts) ≡ Ok (items_of (map json.string texts))
 strings_plain [] = refl
@@ -37,10 +25,6 @@ under_plain : (p : Prefix) (d : Datum) (j : Data) → plain d ≡ Ok j → plain
 under_plain p d j h = rw h refl
 
 -- ---- a pair that stands anywhere
-
-first_value : {A B : Type 0} (r : Result A Fault) (f : A → Result B Fault) (y : B) → r >>= f ≡ Ok y → (x : A) × (r ≡ Ok x) × (f x ≡ Ok y)
-first_value (Ok x) f y h = (x, refl, h)
-first_value (Err e) f y h = absurd (no_value h)
 
 abbrev Named : Type 0
 Named = List ℕ × Data
@@ -56,11 +40,11 @@ one_more k d ps key j es a b c = rw (a, b, c) refl
 later_plain : (k d : Datum) (ps : datum.Pairs) (e : Named) (es : List Named) (rest : datum.Pairs) → plain_pairs (datum.pair k d rest) ≡ Ok es
     → ((xs : List Named) → plain_pairs rest ≡ Ok xs → PlainWith ps e xs) → PlainWith (datum.pair k d ps) e es
 later_plain k d ps e es rest h f =
-    let key = first_value (key_text k) _ es h in
-    let here = first_value (plain d) _ es key.2 in
-    let behind = first_value (plain_pairs rest) _ es here.2 in
+    let key = bind_ok (key_text k) _ es h in
+    let here = bind_ok (plain d) _ es key.2 in
+    let behind = bind_ok (plain_pairs rest) _ es here.2 in
     let found = f behind.0 behind.1 in
-    ((key.0, here.0) ∷ found.0, one_more k d ps key.0 here.0 found.0 key.1 here.1 found.1, inr (behind.0, sym (the_same behind.2), found.2))
+    ((key.0, here.0) ∷ found.0, one_more k d ps key.0 here.0 found.0 key.1 here.1 found.1, inr (behind.0, sym (ok_same behind.2), found.2))
 
 pair_plain : (ps : datum.Pairs) (key : List ℕ) (d : Datum) (others : datum.Pairs) (j : Data) (es : List Named)
     → Without ps (datum.string key) d others → plain d ≡ Ok j → plain_pairs others ≡ Ok es → PlainWith ps (key, j) es

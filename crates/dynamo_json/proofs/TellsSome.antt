@@ -1,13 +1,10 @@
 -- Each attribute value tells a datum: that whose pairs come in the order of their keys, for one.
 use Rattle.std.proofs.Common.{refl, inl}
+use Rattle.dynamo_json.proofs.Common.{Av, Datum, ItemTellsSome, Tells, ElementsTell, MembersTell}
 use Rattle.dynamo_value.specs.Av as av
-use Rattle.dynamo_value.specs.Av.{Av}
 use Rattle.dynamo_value.specs.Prefix as prefix
-use Rattle.dynamo_ser.specs.AttributeDatum.{under}
 use Rattle.dynamo_ser.specs.Datum as datum
-use Rattle.dynamo_ser.specs.Datum.{Datum}
-use Rattle.dynamo_json.specs.AttributeBack.{ItemTellsSome}
-use Rattle.dynamo_json.specs.AttributeTells.{Tells, ElementsTell, MembersTell}
+use Rattle.dynamo_ser.specs.AttributeDatum.{under}
 
 mutual
   pub tells_some : (a : Av) → (d : Datum) × Tells a d

@@ -1,21 +1,18 @@
 -- The texts of each JSON value of a program hold bytes.
 use Rattle.std.proofs.Common.{◌≡◌, ℕ, zero, suc, ◌<◌, List, [], ◌∷◌, ◌++◌, map, Bool, true, false, cond, ltb, ◌&&◌, refl, sym, subst, arith, rules, ⊎_elim, String, string_bytes, Global}
-use Rattle.std.specs.List.{AllByRecursion}
+use Rattle.dynamo_json.proofs.Common.{AllByRecursion, IsBytes, Data, Value, HoldsTexts}
+use Rattle.serde_json.specs.Data as json
+use Rattle.serde_json.specs.View as sj
 use Rattle.std.specs.Char.{IsScalar, encode_utf8}
 use Rattle.std.specs.Str.{IsUtf8, encode_utf8_all}
 use Rattle.std.proofs.Math.Utf8.{scalar, scalars, scalar_cases}
 use Rattle.std.proofs.lemmas.Str.{IsUtf8-string_bytes}
-use Rattle.base64.specs.GeneralPurpose.{IsBytes}
 use borrow.Author.Tests.{ltb-true}
-use Rattle.serde_json.specs.Data as json
-use Rattle.serde_json.specs.Data.{Data}
-use Rattle.serde_json.specs.View as sj
-use Rattle.serde_json.specs.declared.value.Value.{Value, the_lemmas}
+use Rattle.serde_json.specs.declared.value.Value.{the_lemmas}
 use Rattle.serde_json.specs.declared.value.Value.TheOpen.{Value-F}
 use Rattle.serde_json.specs.declared.value.Value.TheFolds.{ind-Value, map-Value}
 use Rattle.serde_json.specs.declared.value.Value.TheViews.{roll-Value}
 use Rattle.serde_json.proofs.Views.{Entry}
-use Rattle.dynamo_json.specs.Laws.{HoldsTexts}
 use Rattle.dynamo_json.specs.Texts.{HasTexts, ItemsHaveTexts, MembersHaveTexts}
 
 both : (x y : Bool) → x && y ≡ true → (x ≡ true) × (y ≡ true)

@@ -1,31 +1,23 @@
 -- What a value of a program tells is among what its attribute value tells.
 use Rattle.std.proofs.Common.{◌≡◌, ◌||◌, ℕ, List, [], ◌∷◌, map, Bool, true, false, cond, Less, Equal, Greater, refl, sym, ap, subst, ◌∙◌, inl, inr, String, string_bytes, Global, Vec}
-use Rattle.std.specs.FinMap.Entries.{put, by_order}
-use Rattle.std.specs.List.{AllByRecursion, list_all, list_any}
-use Rattle.std.specs.Map.{keys_of}
-use Rattle.std.specs.Ordering.{is_eq}
+use Rattle.dynamo_json.proofs.Common.{put, by_order, AllByRecursion, list_all, list_any, keys_of}
+use Rattle.dynamo_json.proofs.Common.{is_eq, string_eq, Av, members_of, base64_text, text_cmp}
+use Rattle.dynamo_json.proofs.Common.{view_step, view, elements_view, entries_view, members_view}
+use Rattle.dynamo_json.proofs.Common.{AttributeValue, Entry, Datum, TellsItsDatum, TellsItsItem}
+use Rattle.dynamo_json.proofs.Common.{strings, Tells, ElementsTell, MembersTell, all_differ}
+use Rattle.dynamo_json.proofs.Common.{differ_step, keys_differ, KeysDiffer, EntriesDiffer}
+use Rattle.dynamo_value.specs.Prefix as prefix
+use Rattle.dynamo_ser.specs.Datum as datum
 use Rattle.std.specs.Str.{bytes_eq}
-use Rattle.std.specs.String.{string_eq}
 use Rattle.std.proofs.lemmas.Bool.{true≢false, and_parts}
 use Rattle.std.proofs.lemmas.Map.Text.{is_eq-slice_cmp}
-use Rattle.dynamo_value.specs.Av.{Av, members_of}
-use Rattle.dynamo_value.specs.Base64.{base64_text}
 use Rattle.dynamo_value.specs.Item.{map_of}
-use Rattle.dynamo_value.specs.Prefix as prefix
-use Rattle.dynamo_value.specs.View.{text_cmp, view_step, view, elements_view, entries_view, members_view}
-use Rattle.dynamo_value.specs.declared.attribute_value.AttributeValue.{AttributeValue}
 use Rattle.dynamo_value.specs.declared.attribute_value.AttributeValue.TheOpen.{AttributeValue-F}
 use Rattle.dynamo_value.specs.declared.attribute_value.AttributeValue.TheFolds.{map-AttributeValue, fold-roll-AttributeValue}
 use Rattle.dynamo_value.specs.declared.attribute_value.AttributeValue.TheViews.{roll-AttributeValue}
-use Rattle.dynamo_value.proofs.Members.{Entry}
 use Rattle.dynamo_ser.specs.AttributeDatum.{attribute_step, attribute_datum, text_datum, bytes_datum, under}
-use Rattle.dynamo_ser.specs.Datum as datum
-use Rattle.dynamo_ser.specs.Datum.{Datum}
 use Rattle.dynamo_ser.proofs.Attributes.{entries_told}
 use Rattle.dynamo_json.proofs.EveryValue.{Layer, Inside, every_value, every_entry}
-use Rattle.dynamo_json.specs.AttributeBack.{TellsItsDatum, TellsItsItem}
-use Rattle.dynamo_json.specs.AttributeTells.{strings, Tells, ElementsTell, MembersTell}
-use Rattle.dynamo_json.specs.KeysDiffer.{all_differ, differ_step, keys_differ, KeysDiffer, EntriesDiffer}
 
 -- ---- a member that is put in its place is told first
 

@@ -1,27 +1,21 @@
 -- What was written of an attribute value as plain JSON, and what is left to write.
 use Rattle.std.proofs.Common.{◌≡◌, ℕ, ℤ, pos, negsuc, Bool, true, false, List, [], ◌∷◌, ◌++◌, Option, Some, None, Result}
 use Rattle.std.proofs.Common.{Ok, Err, refl, sym, ap, ◌∙◌, subst, append_assoc}
-use Rattle.std.specs.Fmt.{decimal, signed_decimal}
-use Rattle.std.specs.FinMap.Entries.{is_sorted}
-use Rattle.std.specs.Prelude.{T, if◌then◌else◌}
-use Rattle.json.specs.Token.{Token, key}
+use Rattle.dynamo_json.proofs.Common.{decimal, signed_decimal, is_sorted, T, Token, key, Data, Av}
+use Rattle.dynamo_json.proofs.Common.{Fault, failed_to_parse_float, ◌>>=◌, text_cmp, Alike}
+use Rattle.dynamo_json.proofs.Common.{collect-sorted, sorted_alike, entries, behind, plain_members}
+use Rattle.dynamo_json.proofs.Common.{plain_number, plain_numbers, tokens_in, tokens_within}
+use Rattle.dynamo_json.proofs.Common.{tokens_of}
 use Rattle.serde_json.specs.Data as json
-use Rattle.serde_json.specs.Data.{Data}
 use Rattle.dynamo_value.specs.Av as av
-use Rattle.dynamo_value.specs.Av.{Av}
-use Rattle.dynamo_value.specs.Fault.{Fault, failed_to_parse_float}
+use Rattle.std.specs.Prelude.{if◌then◌else◌}
 use Rattle.dynamo_value.specs.Integer.{i64, u64}
-use Rattle.dynamo_value.specs.Steps.{◌>>=◌}
-use Rattle.dynamo_value.specs.View.{text_cmp}
 use Rattle.dynamo_de.specs.Answer as answer
 use Rattle.dynamo_de.specs.Answer.{Answer}
 use Rattle.dynamo_de.specs.Number.{parse, is_float_text}
 use Rattle.dynamo_de.specs.ReadJson.{number, read_value, read_elements, read_members, read_number, read_numbers}
-use Rattle.dynamo_write.proofs.Collected.{Alike, collect-sorted, sorted_alike}
-use Rattle.dynamo_json.specs.JsonBack.{entries}
 use Rattle.dynamo_json.specs.Plain.{members_of}
-use Rattle.dynamo_json.specs.StoredText.{behind, plain, plain_elements, plain_members, plain_number, plain_numbers, tokens_in, tokens_within}
-use Rattle.dynamo_json.specs.Tokens.{tokens_of}
+use Rattle.dynamo_json.specs.StoredText.{plain, plain_elements}
 use Rattle.dynamo_json.proofs.JsonBack.{ReadsAs, collected_back, members_again}
 
 -- ---- a number

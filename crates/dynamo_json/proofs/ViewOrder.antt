@@ -1,18 +1,14 @@
 -- The members of the attribute value of a value of a program are in order.
 use Rattle.std.proofs.Common.{◌≡◌, ℕ, List, [], ◌∷◌, Less, Equal, Greater, refl, sym, ap, subst}
-use Rattle.std.specs.Prelude.{T}
-use Rattle.std.specs.FinMap.Entries.{put, by_order, is_sorted}
-use Rattle.std.specs.List.{AllByRecursion}
+use Rattle.dynamo_json.proofs.Common.{T, put, by_order, is_sorted, AllByRecursion, Av, members_of}
+use Rattle.dynamo_json.proofs.Common.{text_cmp, view_step, view, elements_view, entries_view}
+use Rattle.dynamo_json.proofs.Common.{members_view, AttributeValue, Entry, view_sorted}
+use Rattle.dynamo_json.proofs.Common.{ViewsInOrder, ItemViewsInOrder}
 use Rattle.dynamo_value.specs.Av as av
-use Rattle.dynamo_value.specs.Av.{Av, members_of}
 use Rattle.dynamo_value.specs.Item.{map_of}
-use Rattle.dynamo_value.specs.View.{text_cmp, view_step, view, elements_view, entries_view, members_view}
-use Rattle.dynamo_value.specs.declared.attribute_value.AttributeValue.{AttributeValue}
 use Rattle.dynamo_value.specs.declared.attribute_value.AttributeValue.TheOpen.{AttributeValue-F}
 use Rattle.dynamo_value.specs.declared.attribute_value.AttributeValue.TheFolds.{map-AttributeValue, fold-roll-AttributeValue}
 use Rattle.dynamo_value.specs.declared.attribute_value.AttributeValue.TheViews.{roll-AttributeValue}
-use Rattle.dynamo_value.proofs.Members.{Entry, view_sorted}
-use Rattle.dynamo_json.specs.AttributeBack.{ViewsInOrder, ItemViewsInOrder}
 use Rattle.dynamo_json.specs.KeyOrder.{entries, InOrder, ElementsInOrder, EachInOrder}
 use Rattle.dynamo_json.proofs.EveryValue.{Layer, Inside, every_value, every_entry}
 

@@ -1,10 +1,7 @@
 -- How much there is to write of an attribute value: what is inside weighs less.
 use Rattle.std.proofs.Common.{ℕ, zero, suc, ◌+◌, ◌<◌, List, [], ◌∷◌, length, get_or, arith}
+use Rattle.dynamo_json.proofs.Common.{Av, view, elements_view, AttributeValue, Lent, lent_view}
 use Rattle.dynamo_value.specs.Av as av
-use Rattle.dynamo_value.specs.Av.{Av}
-use Rattle.dynamo_value.specs.View.{view, elements_view}
-use Rattle.dynamo_value.specs.declared.attribute_value.AttributeValue.{AttributeValue}
-use Rattle.dynamo_json.specs.Tokens.{Lent, lent_view}
 
 abbrev mutual
   pub weight : Av → ℕ

@@ -1,17 +1,11 @@
 -- A JSON value of a program without floats: its numbers are of 64 bits, and the names of its objects are in order.
 use Rattle.std.proofs.Common.{◌≡◌, ◌&&◌, Bool, true, false, List, [], ◌∷◌, String, Global, string_bytes, string_cmp, Less, sym, ap, subst}
-use Rattle.std.specs.FinMap.Entries.{is_sorted, below_all}
-use Rattle.std.specs.List.{AllByRecursion}
+use Rattle.dynamo_json.proofs.Common.{is_sorted, below_all, AllByRecursion, keys_of, is_lt, T}
+use Rattle.dynamo_json.proofs.Common.{items_have_float, members_have_float, Value, text_cmp}
+use Rattle.dynamo_json.proofs.Common.{entries, AreJson, MembersAreJson}
 use Rattle.std.specs.List.Sorted.{IsStrictlySortedBy}
-use Rattle.std.specs.Map.{keys_of}
-use Rattle.std.specs.Ordering.{is_lt}
-use Rattle.std.specs.Prelude.{T}
 use Rattle.serde_json.specs.View as sj
-use Rattle.serde_json.specs.Written.{items_have_float, members_have_float}
-use Rattle.serde_json.specs.declared.value.Value.{Value}
 use Rattle.serde_json.proofs.Views.{Entry}
-use Rattle.dynamo_value.specs.View.{text_cmp}
-use Rattle.dynamo_json.specs.JsonBack.{entries, AreJson, MembersAreJson}
 
 -- ---- names in order
 

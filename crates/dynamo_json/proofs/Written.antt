@@ -1,21 +1,15 @@
 -- The JSON value of a list and of a map, by those of what they hold.
 use Rattle.std.proofs.Common.{◌≡◌, ℕ, List, [], ◌∷◌, ◌++◌, map, refl, sym, ap, ◌∙◌, subst, Ordering, Less, Equal, Greater, String, string_bytes}
-use Rattle.std.specs.FinMap.Entries.{put, by_order}
-use Rattle.std.specs.List.{AllByRecursion, IsDistinct}
-use Rattle.std.specs.Map.{keys_of}
-use Rattle.std.specs.BTreeMap.{insert_entry}
-use Rattle.std.specs.String.{string_eq, string_cmp}
-use Rattle.std.specs.Ordering.{match_ordering}
-use Rattle.std.specs.declared.alloc.Global.{Global}
+use Rattle.dynamo_json.proofs.Common.{put, by_order, AllByRecursion, IsDistinct, keys_of, string_eq}
+use Rattle.dynamo_json.proofs.Common.{string_cmp, match_ordering, Value, Av, elements_of}
+use Rattle.dynamo_json.proofs.Common.{members_of, HasBytes, ElementsHaveBytes, MembersHaveBytes}
+use Rattle.dynamo_json.proofs.Common.{text_cmp, view, entries_view, members_view, Entry}
+use Rattle.dynamo_json.proofs.Common.{entries-push, apart, json_of, elements_json, members_json}
 use Rattle.serde_json.specs.Data as json
 use Rattle.serde_json.specs.View as sj
-use Rattle.serde_json.specs.declared.value.Value.{Value}
+use Rattle.std.specs.BTreeMap.{insert_entry}
+use Rattle.std.specs.declared.alloc.Global.{Global}
 use Rattle.serde_json.proofs.Views as sj_views
-use Rattle.dynamo_value.specs.Av.{Av, elements_of, members_of}
-use Rattle.dynamo_value.specs.HasBytes.{HasBytes, ElementsHaveBytes, MembersHaveBytes}
-use Rattle.dynamo_value.specs.View.{text_cmp, view, entries_view, members_view}
-use Rattle.dynamo_value.proofs.Members.{Entry, entries-push, apart}
-use Rattle.dynamo_json.specs.Json.{json_of, elements_json, members_json}
 
 pub elements_json-elements_of : (as' : List Av) → elements_json (elements_of as') ≡ sj.items_of (map json_of as')
 elements_json-elements_of [] = refl

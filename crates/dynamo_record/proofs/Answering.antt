@@ -1,14 +1,9 @@
 -- Answers, and what comes after them.
 use Rattle.std.proofs.Common.{◌≡◌, Result, Ok, Err, refl, sym, subst}
-use Rattle.dynamo_value.specs.Fault.{Fault}
-use Rattle.dynamo_ser.specs.Datum.{Datum}
+use Rattle.dynamo_record.proofs.Common.{Fault, Datum, Answer, After, Gives, Meets, AnswersByShape}
+use Rattle.dynamo_record.proofs.Common.{Same, IfRead}
 use Rattle.dynamo_de.specs.Answer as answer
-use Rattle.dynamo_de.specs.Answer.{Answer, After, Gives}
-use Rattle.dynamo_de.specs.Meets.{Meets}
-use Rattle.dynamo_shape.specs.Laws.{AnswersByShape}
-use Rattle.dynamo_shape.specs.Same.{Same}
 use Rattle.dynamo_shape.proofs.Results.{value_same}
-use Rattle.dynamo_record.specs.Listed.{IfRead}
 
 abbrev given : {A : Type 0} → Answer A → Type 0
 given (Ok x) = Unit {0}

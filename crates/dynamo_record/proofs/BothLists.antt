@@ -1,18 +1,11 @@
 -- Two lists of fields, one behind the other.
 use Rattle.std.proofs.Common.{◌≡◌, ℕ, ◌+◌, Option, Some, None, Result, Ok, Err, sym, ap, subst, ◌∙◌, inl, inr}
-use Rattle.dynamo_value.specs.Fault.{Fault}
+use Rattle.dynamo_record.proofs.Common.{Fault, Answer, After, Meets, Source, Text, meets_more}
+use Rattle.dynamo_record.proofs.Common.{Permits, into, stops, into_into, Slots, fill_slot, SameData}
+use Rattle.dynamo_record.proofs.Common.{read_nth, Shapes, Data, AboutList, both_shapes, both_told}
+use Rattle.dynamo_record.proofs.Common.{Makes, MakesOrFails, Completes, Holds, HoldsBoth}
+use Rattle.dynamo_record.proofs.Common.{HoldsBehind, ReadBehind, Fills, IfRead}
 use Rattle.dynamo_de.specs.Answer as answer
-use Rattle.dynamo_de.specs.Answer.{Answer, After}
-use Rattle.dynamo_de.specs.Meets.{Meets}
-use Rattle.dynamo_de.specs.Source.{Source, Text}
-use Rattle.dynamo_de.proofs.Meets.{meets_more}
-use Rattle.dynamo_shape.specs.Permits.{Permits}
-use Rattle.dynamo_shape.specs.Read.{into}
-use Rattle.dynamo_shape.proofs.Answered.{stops}
-use Rattle.dynamo_shape.proofs.ByHand.{into_into}
-use Rattle.dynamo_shape.proofs.FieldsByName.{Slots, fill_slot}
-use Rattle.dynamo_record.specs.Fields.{SameData, read_nth}
-use Rattle.dynamo_record.specs.Listed.{Shapes, Data, AboutList, both_shapes, both_told, Makes, MakesOrFails, Completes, Holds, HoldsBoth, HoldsBehind, ReadBehind, Fills, IfRead}
 use Rattle.dynamo_record.proofs.Answering.{after_more, after_err}
 
 -- ---- what both are made of

@@ -1,41 +1,29 @@
 -- A described struct by its rules, entry by entry.
 use Rattle.std.proofs.Common.{◌≡◌, ℕ, suc, Bool, true, false, ◌||◌, cond, List, [], ◌∷◌, ◌++◌, Option, Some, None, Result, Ok, Err, length, ◌<◌, ◌≤◌, refl, sym, ap, subst, ◌∙◌, inl, inr}
-use Rattle.std.specs.Prelude.{bytes_eq}
-use Rattle.std.specs.List.{list_any}
+use Rattle.dynamo_record.proofs.Common.{bytes_eq, list_any, Fault, ◌>>=◌, Datum, Answer, After}
+use Rattle.dynamo_record.proofs.Common.{value_or, Meets, Fails, IsMessage, read_parts, TakesEntry}
+use Rattle.dynamo_record.proofs.Common.{Source, Text, Entry, attribute, by_name, meets_more}
+use Rattle.dynamo_record.proofs.Common.{put_field, conforms, NameRules, own_name, into, missing}
+use Rattle.dynamo_record.proofs.Common.{read_field, last_of, fields_among, fields_in_order}
+use Rattle.dynamo_record.proofs.Common.{fields_by_rules, entry_by_rules, read_by_rules, is_refused}
+use Rattle.dynamo_record.proofs.Common.{Same, FieldShapes, no_field_shapes, field_shape, after}
+use Rattle.dynamo_record.proofs.Common.{Both, same_next, Slots, first_slot, other_slots, behind}
+use Rattle.dynamo_record.proofs.Common.{fill, fill_named, empty, close, NamesDiffer, turned}
+use Rattle.dynamo_record.proofs.Common.{not_turned, Before, slots_of, pad, Held, EntersByRules}
+use Rattle.dynamo_record.proofs.Common.{struct_left, RulesSoFar, FromPartsByRules, rules_reads}
+use Rattle.dynamo_record.proofs.Common.{read_at, fill_at, IsEntry, Enters, field_named, unread}
+use Rattle.dynamo_record.proofs.Common.{Holds, IfRead, is_there, is_filled, is_named, place_of}
+use Rattle.dynamo_record.proofs.Common.{AboutRecord, record_fields, record_shape, record_tells}
+use Rattle.dynamo_record.proofs.Common.{RecordAnswers, IsAlike, AreNamed, names_apart, place_in}
+use Rattle.dynamo_shape.proofs.FieldsByName.{Reads}
+use Rattle.dynamo_ser.specs.Datum as datum
+use Rattle.dynamo_de.specs.Answer as answer
 use Rattle.std.proofs.lemmas.Bool.{true≢false}
 use Rattle.std.proofs.lemmas.Slice.Eq.{bytes_eq-Decides}
-use Rattle.dynamo_value.specs.Fault.{Fault}
-use Rattle.dynamo_value.specs.Steps.{◌>>=◌}
-use Rattle.dynamo_ser.specs.Datum as datum
-use Rattle.dynamo_ser.specs.Datum.{Datum}
-use Rattle.dynamo_de.specs.Answer as answer
-use Rattle.dynamo_de.specs.Answer.{Answer, After, value_or}
 use Rattle.dynamo_de.specs.Fields.{LeadsTo}
-use Rattle.dynamo_de.specs.Meets.{Meets, Fails, IsMessage}
-use Rattle.dynamo_de.specs.Reading.{read_parts}
-use Rattle.dynamo_de.specs.Shows.{TakesEntry}
-use Rattle.dynamo_de.specs.Source.{Source, Text, Entry, attribute}
-use Rattle.dynamo_de.specs.Visitors.{by_name}
 use Rattle.dynamo_de.proofs.Fields.{fields_start}
-use Rattle.dynamo_de.proofs.Meets.{meets_more}
-use Rattle.dynamo_shape.specs.Absence.{put_field}
 use Rattle.dynamo_shape.specs.Clear.{is_field}
-use Rattle.dynamo_shape.specs.Conforms.{conforms}
-use Rattle.dynamo_shape.specs.NameRules.{NameRules, own_name}
-use Rattle.dynamo_shape.specs.Read.{into, missing, read_field, last_of, fields_among, fields_in_order, fields_by_rules, entry_by_rules, read_by_rules, is_refused}
-use Rattle.dynamo_shape.specs.Same.{Same}
-use Rattle.dynamo_shape.specs.Shape.{FieldShapes, no_field_shapes, field_shape}
-use Rattle.dynamo_shape.proofs.Answered.{after}
-use Rattle.dynamo_shape.proofs.ByHand.{Both, same_next}
-use Rattle.dynamo_shape.proofs.FieldsByName.{Slots, first_slot, other_slots, behind, fill, fill_named, empty, close, NamesDiffer, Reads, turned, not_turned}
 use Rattle.dynamo_shape.proofs.Found.{Unseen, unseen_none, unseen_more, or_false}
-use Rattle.dynamo_record.specs.ByRules.{Before, slots_of, pad, Held, EntersByRules, struct_left, RulesSoFar, FromPartsByRules, rules_reads}
-use Rattle.dynamo_record.specs.Entries.{read_at, fill_at, IsEntry, Enters}
-use Rattle.dynamo_record.specs.Apart.{field_named}
-use Rattle.dynamo_record.specs.Fields.{unread}
-use Rattle.dynamo_record.specs.Listed.{Holds, IfRead, is_there, is_filled}
-use Rattle.dynamo_record.specs.Names.{is_named, place_of}
-use Rattle.dynamo_record.specs.Records.{AboutRecord, record_fields, record_shape, record_tells, RecordAnswers, IsAlike, AreNamed, names_apart, place_in}
 use Rattle.dynamo_record.proofs.Answering.{after_ok, answers_after}
 use Rattle.dynamo_record.proofs.Closing.{Last}
 use Rattle.dynamo_record.proofs.Described.{empty_unread, place_named}

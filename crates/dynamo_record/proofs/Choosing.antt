@@ -1,12 +1,9 @@
 -- The content of the variant at a place: among the first list, or behind it.
 use Rattle.std.proofs.Common.{◌≡◌, ◌+◌, ℕ, Option, Result, Ok, Err, sym, ap, subst, ◌∙◌, inl, inr}
-use Rattle.dynamo_value.specs.Fault.{Fault}
-use Rattle.dynamo_de.specs.Meets.{Meets}
-use Rattle.dynamo_de.specs.Source.{Source, Text}
-use Rattle.dynamo_shape.specs.Permits.{Permits}
-use Rattle.dynamo_shape.specs.Same.{Same}
-use Rattle.dynamo_record.specs.Names.{Names}
-use Rattle.dynamo_record.specs.Variants.{AboutVariants, Contents, ReadsAt, read_at, choice_contents, choice_told, right_conforms}
+use Rattle.dynamo_record.proofs.Common.{Fault, Meets, Source, Text, Permits, Same, Names}
+use Rattle.dynamo_record.proofs.Common.{AboutVariants, Contents, ReadsAt, choice_contents}
+use Rattle.dynamo_record.proofs.Common.{choice_told, right_conforms}
+use Rattle.dynamo_record.specs.Variants.{read_at}
 use Rattle.dynamo_record.specs.declared.variant_list.Choice.{Choice}
 use Rattle.dynamo_record.specs.declared.variant_list.Choice.TheVariants.{Left, Right}
 

@@ -1,23 +1,16 @@
 -- The variant of a name is that at the name's place.
 use Rattle.std.proofs.Common.{arith, map, ◌≤◌, ◌≡◌, ◌<◌, ◌+◌, ◌^◌, ℕ, zero, suc, true, false, List, [], ◌∷◌, Option, Result, Ok, Err, refl, sym, ap, subst, ◌∙◌, inl, inr, length}
-use Rattle.std.specs.Prelude.{if◌then◌else◌, bytes_eq, ⊤}
-use Rattle.dynamo_value.specs.Fault.{Fault}
-use Rattle.dynamo_de.specs.Access.{ReadsVariant}
+use Rattle.dynamo_record.proofs.Common.{if◌then◌else◌, bytes_eq, ⊤, Fault, ReadsVariant, After}
+use Rattle.dynamo_record.proofs.Common.{read_variant, read_identifier, or_its_fault, Meets, Source}
+use Rattle.dynamo_record.proofs.Common.{Text, meets_more, conforms, Permits, read_inside}
+use Rattle.dynamo_record.proofs.Common.{read_one_of, Same, after, AboutEnum, AsMany, of_variants}
+use Rattle.dynamo_record.proofs.Common.{NamesVariant, VariantsNamed, enum_reads, enum_shape}
+use Rattle.dynamo_record.proofs.Common.{enum_tells, enum_variants, Names, first_name, other_names}
+use Rattle.dynamo_record.proofs.Common.{names_from, place_of, AboutVariants, Contents, ReadsAt, tag}
+use Rattle.dynamo_record.proofs.Common.{variants_of}
 use Rattle.dynamo_de.specs.Answer as answer
-use Rattle.dynamo_de.specs.Answer.{After}
-use Rattle.dynamo_de.specs.Reading.{read_variant, read_identifier}
-use Rattle.dynamo_de.specs.Visitors.{or_its_fault}
-use Rattle.dynamo_de.specs.Meets.{Meets}
-use Rattle.dynamo_de.specs.Source.{Source, Text}
-use Rattle.dynamo_de.proofs.Meets.{meets_more}
-use Rattle.dynamo_shape.specs.Conforms.{conforms}
-use Rattle.dynamo_shape.specs.Permits.{Permits}
-use Rattle.dynamo_shape.specs.Read.{read_inside, read_one_of}
-use Rattle.dynamo_shape.specs.Same.{Same}
-use Rattle.dynamo_shape.proofs.Answered.{after}
-use Rattle.dynamo_record.specs.Enums.{AboutEnum, AsMany, of_variants, NamesVariant, FromVariant, VariantsNamed, enum_reads, enum_shape, enum_tells, enum_variants}
-use Rattle.dynamo_record.specs.Names.{Names, first_name, other_names, names_from, place_of}
-use Rattle.dynamo_record.specs.Variants.{AboutVariants, Contents, ReadsAt, read_at, tag, variants_of}
+use Rattle.dynamo_record.specs.Enums.{FromVariant}
+use Rattle.dynamo_record.specs.Variants.{read_at}
 
 pub shift : (ns : Names) (i : ℕ) (t : Text) → place_of (suc i) ns t ≡ suc (place_of i ns t)
 shift [] i t = refl

@@ -1,19 +1,11 @@
 -- A described struct after its last entry: all fields are there, or one is missed.
 use Rattle.std.proofs.Common.{◌≡◌, [], Option, None, Result, Ok, Err, sym, subst, inl, inr}
-use Rattle.dynamo_value.specs.Fault.{Fault}
+use Rattle.dynamo_record.proofs.Common.{Fault, Datum, Answer, After, Meets, Text, into, Slots}
+use Rattle.dynamo_record.proofs.Common.{finish, complete, Holds, Completes, missing_text}
+use Rattle.dynamo_record.proofs.Common.{AboutRecord, AreNamed, record_fields, RecordAnswers}
+use Rattle.dynamo_record.proofs.Common.{IsAlike}
 use Rattle.dynamo_ser.specs.Datum as datum
-use Rattle.dynamo_ser.specs.Datum.{Datum}
 use Rattle.dynamo_de.specs.Answer as answer
-use Rattle.dynamo_de.specs.Answer.{Answer, After}
-use Rattle.dynamo_de.specs.Meets.{Meets}
-use Rattle.dynamo_de.specs.Source.{Text}
-use Rattle.dynamo_shape.specs.Read.{into}
-use Rattle.dynamo_shape.proofs.FieldsByName.{Slots}
-use Rattle.dynamo_record.specs.Entries.{finish}
-use Rattle.dynamo_record.specs.Fields.{complete}
-use Rattle.dynamo_record.specs.Listed.{Holds, Completes}
-use Rattle.dynamo_record.specs.Names.{missing_text}
-use Rattle.dynamo_record.specs.Records.{AboutRecord, AreNamed, record_fields, RecordAnswers, IsAlike}
 use Rattle.dynamo_record.proofs.Described.{close_complete, answer_of, struct_made, struct_missed, after_struct}
 
 -- what is answered on the struct of what is held is answered on the whole

@@ -1,33 +1,23 @@
 -- A struct is read by the list of its fields as its shape says.
 use Rattle.std.proofs.Common.{◌≡◌, ℕ, zero, suc, List, [], ◌∷◌, Some, None, Result, Ok, Err, length, ◌<◌, ◌≤◌, refl, sym, ap, subst, ◌∙◌, arith}
-use Rattle.std.specs.Prelude.{bytes_eq, if◌then◌else◌}
-use Rattle.dynamo_value.specs.Fault.{Fault}
+use Rattle.dynamo_record.proofs.Common.{bytes_eq, if◌then◌else◌, Fault, Datum, Answer, After}
+use Rattle.dynamo_record.proofs.Common.{value_or, ◌>>=◌, read_parts, by_name, Meets, IsMessage}
+use Rattle.dynamo_record.proofs.Common.{Source, Text, Entry, meets_more, put_field, Permits}
+use Rattle.dynamo_record.proofs.Common.{conforms, read, into, missing, read_field, fields_of}
+use Rattle.dynamo_record.proofs.Common.{fields_in_order, Same, Shape, FieldShapes, no_field_shapes}
+use Rattle.dynamo_record.proofs.Common.{field_shape, after, same_next, Slots, first_slot}
+use Rattle.dynamo_record.proofs.Common.{other_slots, fill_slot, empty, close, NamesDiffer}
+use Rattle.dynamo_record.proofs.Common.{fields_from, fill_one, read_at, fill_at, reads_on}
+use Rattle.dynamo_record.proofs.Common.{ConformEach, SameData, Defaults, first_default}
+use Rattle.dynamo_record.proofs.Common.{other_defaults, field_shapes, named_fields, read_fields}
+use Rattle.dynamo_record.proofs.Common.{read_nth, unread, complete, Shapes, Data, Makes, Names}
+use Rattle.dynamo_record.proofs.Common.{first_name, other_names, differ, place_of, AboutRecord}
+use Rattle.dynamo_record.proofs.Common.{record_fields, record_told, record_tells, record_shape}
+use Rattle.dynamo_record.proofs.Common.{record_reads, RecordAnswers, FromParts, IsAlike, AreNamed}
+use Rattle.dynamo_record.proofs.Common.{names_apart, each_many, place_in, each, fields_same}
+use Rattle.dynamo_record.proofs.Common.{same_length, none_named, no_shape}
 use Rattle.dynamo_ser.specs.Datum as datum
-use Rattle.dynamo_ser.specs.Datum.{Datum}
 use Rattle.dynamo_de.specs.Answer as answer
-use Rattle.dynamo_de.specs.Answer.{Answer, After, value_or}
-use Rattle.dynamo_value.specs.Steps.{◌>>=◌}
-use Rattle.dynamo_de.specs.Reading.{read_parts}
-use Rattle.dynamo_de.specs.Visitors.{by_name}
-use Rattle.dynamo_de.specs.Meets.{Meets, IsMessage}
-use Rattle.dynamo_de.specs.Source.{Source, Text, Entry}
-use Rattle.dynamo_de.proofs.Meets.{meets_more}
-use Rattle.dynamo_shape.specs.Absence.{put_field}
-use Rattle.dynamo_shape.specs.Permits.{Permits}
-use Rattle.dynamo_shape.specs.Conforms.{conforms}
-use Rattle.dynamo_shape.specs.Read.{read, into, missing, read_field, fields_of, fields_in_order}
-use Rattle.dynamo_shape.specs.Same.{Same}
-use Rattle.dynamo_shape.specs.Shape.{Shape, FieldShapes, no_field_shapes, field_shape}
-use Rattle.dynamo_shape.proofs.Answered.{after}
-use Rattle.dynamo_shape.proofs.ByHand.{same_next}
-use Rattle.dynamo_shape.proofs.FieldsByName.{Slots, first_slot, other_slots, fill_slot, empty, close, NamesDiffer}
-use Rattle.dynamo_record.specs.Entries.{fields_from, fill_one, read_at, fill_at, reads_on}
-use Rattle.dynamo_record.specs.Fields.{ConformEach, SameData, Defaults, first_default, other_defaults, field_shapes, named_fields, read_fields, read_nth, unread, complete}
-use Rattle.dynamo_record.specs.Listed.{Shapes, Data, Makes}
-use Rattle.dynamo_record.specs.Names.{Names, first_name, other_names, differ, place_of}
-use Rattle.dynamo_record.specs.Records.{AboutRecord, record_fields, record_told, record_tells, record_shape, record_reads, RecordAnswers, FromParts, IsAlike, AreNamed, names_apart, each_many, place_in}
-use Rattle.dynamo_record.specs.Told.{each, fields_same}
-use Rattle.dynamo_record.specs.Apart.{same_length, none_named, no_shape}
 use Rattle.dynamo_record.proofs.Answering.{after_read, answers_after}
 use Rattle.dynamo_record.proofs.Places.{whole}
 

@@ -1,15 +1,14 @@
 -- What is empty tells no elements, and no pairs.
 use Rattle.std.proofs.Common.{◌≡◌, ℕ, suc, false, List, [], ◌∷◌, length, ◌==◌, refl, ◌∙◌, arith}
-use Rattle.std.specs.Prelude.{⊤, map}
+use Rattle.dynamo_record.proofs.Common.{⊤, Datum, elements_of, same_default}
+use Rattle.dynamo_ser.specs.Datum as datum
+use Rattle.std.specs.Prelude.{map}
 use Rattle.std.specs.BTreeSet.{insert_key}
 use Rattle.std.specs.Ordering.{match_ordering}
 use Rattle.std.specs.declared.cmp.Ordering.{Ordering}
 use Rattle.std.specs.declared.cmp.Ordering.TheVariants.{Less, Equal, Greater}
 use Rattle.std.proofs.lemmas.Bool.Decides.{nat_tests}
-use Rattle.dynamo_ser.specs.Datum as datum
-use Rattle.dynamo_ser.specs.Datum.{Datum, elements_of}
 use Rattle.dynamo_ser.specs.Members.{members_onto, members_in_order}
-use Rattle.dynamo_shape.specs.Absence.{same_default}
 use Rattle.dynamo_record.specs.Keys.{map_tells}
 
 not_none : (n : ℕ) → (suc n == 0) ≡ false

@@ -1,20 +1,11 @@
 -- A struct's entries, one after another.
 use Rattle.std.proofs.Common.{List, [], ◌∷◌, Some, None, Result, Ok, Err, sym, subst, inl, inr}
-use Rattle.dynamo_value.specs.Fault.{Fault}
-use Rattle.dynamo_ser.specs.Datum.{Datum, Fields}
-use Rattle.dynamo_de.specs.Answer.{Answer, After}
-use Rattle.dynamo_value.specs.Steps.{◌>>=◌}
+use Rattle.dynamo_record.proofs.Common.{Fault, Datum, Fields, Answer, After, ◌>>=◌, Meets}
+use Rattle.dynamo_record.proofs.Common.{TakesEntry, Source, Entry, attribute, into, FieldShapes}
+use Rattle.dynamo_record.proofs.Common.{Slots, empty, read_at, fill_at, IsEntry, Enters, finish}
+use Rattle.dynamo_record.proofs.Common.{reads_on, SoFar, IfRead, place_in}
 use Rattle.dynamo_de.specs.Fields.{read_fields, LeadsTo}
-use Rattle.dynamo_de.specs.Meets.{Meets}
-use Rattle.dynamo_de.specs.Shows.{TakesEntry}
-use Rattle.dynamo_de.specs.Source.{Source, Entry, attribute}
 use Rattle.dynamo_de.proofs.Fields.{fields_start}
-use Rattle.dynamo_shape.specs.Read.{into}
-use Rattle.dynamo_shape.specs.Shape.{FieldShapes}
-use Rattle.dynamo_shape.proofs.FieldsByName.{Slots, empty}
-use Rattle.dynamo_record.specs.Entries.{read_at, fill_at, IsEntry, Enters, finish, reads_on, SoFar}
-use Rattle.dynamo_record.specs.Listed.{IfRead}
-use Rattle.dynamo_record.specs.Records.{place_in}
 use Rattle.dynamo_record.proofs.Answering.{after_ok}
 
 -- what reading all entries gives

@@ -1,16 +1,12 @@
 -- Entries that are held: one more, one less, and the last of a name.
 use Rattle.std.proofs.Common.{◌≡◌, ◌++◌, ◌<◌, ℕ, suc, true, false, List, [], ◌∷◌, Option, Some, None, Ok, length, refl, sym, ap, subst, ◌∙◌, arith, append_assoc}
-use Rattle.std.specs.Prelude.{String, string_bytes, if◌then◌else◌, bytes_eq}
-use Rattle.std.specs.List.{remove, slice_index_or}
+use Rattle.dynamo_record.proofs.Common.{String, string_bytes, if◌then◌else◌, bytes_eq, remove}
+use Rattle.dynamo_record.proofs.Common.{slice_index_or, Gives, read_identifier, TakesEntry, Source}
+use Rattle.dynamo_record.proofs.Common.{Text, Entry, attribute, last_of, IsLast}
 use Rattle.std.specs.declared.alloc.Global.{Global}
 use Rattle.std.proofs.lemmas.Slice.Eq.{bytes_eq-Decides}
 use Rattle.dynamo_value.specs.Av.{Av}
-use Rattle.dynamo_de.specs.Answer.{Gives}
-use Rattle.dynamo_de.specs.Reading.{read_identifier}
-use Rattle.dynamo_de.specs.Shows.{TakesEntry}
-use Rattle.dynamo_de.specs.Source.{Source, Text, Entry, attribute}
-use Rattle.dynamo_shape.specs.Read.{last_of}
-use Rattle.dynamo_record.specs.Held.{Holds, IsLast}
+use Rattle.dynamo_record.specs.Held.{Holds}
 use Rattle.dynamo_record.proofs.OneEntry.{key_read}
 
 module _ {D : Type 0} (source : D → Source) where

@@ -1,34 +1,19 @@
 -- The fields of a struct that are read from held entries.
 use Rattle.std.proofs.Common.{◌≡◌, List, [], ◌∷◌, Option, None, Result, Ok, Err, length, refl, sym, ap, subst, ◌∙◌, inl, inr, arith}
-use Rattle.std.specs.Prelude.{String, string_bytes}
-use Rattle.std.specs.declared.alloc.Global.{Global}
-use Rattle.dynamo_value.specs.Fault.{Fault}
-use Rattle.dynamo_value.specs.Steps.{◌>>=◌}
+use Rattle.dynamo_record.proofs.Common.{String, string_bytes, Fault, ◌>>=◌, Fields, fields_in}
+use Rattle.dynamo_record.proofs.Common.{Answer, Gives, ignore_entries, ignore, read_ignored, Meets}
+use Rattle.dynamo_record.proofs.Common.{Source, Text, Entry, attribute, key_text, by_name}
+use Rattle.dynamo_record.proofs.Common.{conform_fields, AnswersByShape, into, fields_by_name}
+use Rattle.dynamo_record.proofs.Common.{read_field, Same, SameFields, Slots, Enters, StructSoFar}
+use Rattle.dynamo_record.proofs.Common.{complete, FieldAnswers, Holds, Completes, AboutRecord}
+use Rattle.dynamo_record.proofs.Common.{AreNamed, FromParts, RecordAnswers, record_fields}
+use Rattle.dynamo_record.proofs.Common.{record_told}
 use Rattle.dynamo_ser.specs.Datum as datum
-use Rattle.dynamo_ser.specs.Datum.{Datum, Fields}
 use Rattle.dynamo_de.specs.Answer as answer
-use Rattle.dynamo_de.specs.Answer.{Answer, Gives}
-use Rattle.dynamo_de.specs.Ignored.{ignore_entries, ignore, read_ignored}
-use Rattle.dynamo_de.specs.Meets.{Meets}
-use Rattle.dynamo_de.specs.Source.{Source, Text, Entry, attribute, key_text}
-use Rattle.dynamo_de.specs.Visitors.{by_name}
-use Rattle.dynamo_shape.specs.Conforms.{conform_fields}
-use Rattle.dynamo_shape.specs.Laws.{AnswersByShape}
-use Rattle.dynamo_shape.specs.Read.{into, fields_by_name, read_field}
-use Rattle.dynamo_shape.specs.Same.{Same, SameFields}
-use Rattle.dynamo_shape.proofs.FieldsByName.{Slots}
+use Rattle.std.specs.declared.alloc.Global.{Global}
 use Rattle.dynamo_shape.proofs.Results.{value_same}
-use Rattle.dynamo_record.specs.Entries.{Enters, StructSoFar}
-use Rattle.dynamo_record.specs.Fields.{complete}
 use Rattle.dynamo_record.specs.Held as held
-use Rattle.dynamo_record.specs.Held.{FieldAnswers}
-use Rattle.dynamo_record.specs.Listed.{Holds, Completes}
-use Rattle.dynamo_record.specs.Records.{AboutRecord, AreNamed, FromParts, RecordAnswers, record_fields, record_told}
 use Rattle.dynamo_record.proofs.Structs as structs
-
-abbrev fields_in : Datum → Fields
-fields_in (datum.struct name gs) = gs
-fields_in _ = datum.no_fields
 
 -- ---- the fields of a struct
 

@@ -1,25 +1,13 @@
 -- A tuple struct is read by its fields in order.
 use Rattle.std.proofs.Common.{[], Result, refl, sym, ap, subst}
-use Rattle.dynamo_value.specs.Fault.{Fault}
-use Rattle.dynamo_ser.specs.Datum as datum
-use Rattle.dynamo_ser.specs.Datum.{elements_of}
-use Rattle.dynamo_de.specs.Answer.{After}
-use Rattle.dynamo_value.specs.Steps.{◌>>=◌}
-use Rattle.dynamo_de.specs.Reading.{taken_from, read_elements}
-use Rattle.dynamo_de.specs.Meets.{Meets}
-use Rattle.dynamo_de.specs.Source.{Source, Text}
-use Rattle.dynamo_de.specs.Visitors.{claims_seq, take_elements}
-use Rattle.dynamo_de.specs.declared.request.Request.TheVariants as request
-use Rattle.dynamo_de.proofs.Meets.{meets_more}
-use Rattle.dynamo_shape.specs.Conforms.{conforms, conform_each}
-use Rattle.dynamo_shape.specs.Read.{read_each}
-use Rattle.dynamo_shape.specs.Same.{Same, SameElements}
-use Rattle.dynamo_shape.proofs.Answered.{made}
-use Rattle.dynamo_record.specs.Fields.{shapes_of}
-use Rattle.dynamo_record.specs.InOrder.{ReadsInOrder}
-use Rattle.dynamo_record.specs.Listed.{AboutList}
+use Rattle.dynamo_record.proofs.Common.{Fault, elements_of, After, ◌>>=◌, taken_from, read_elements}
+use Rattle.dynamo_record.proofs.Common.{Meets, Source, Text, claims_seq, take_elements, meets_more}
+use Rattle.dynamo_record.proofs.Common.{conforms, conform_each, read_each, Same, SameElements, made}
+use Rattle.dynamo_record.proofs.Common.{shapes_of, ReadsInOrder, AboutList, elements_in}
 use Rattle.dynamo_record.specs.Newtypes.{ReadsAs}
-use Rattle.dynamo_record.specs.TupleStructs.{elements_in, fields_shape, named_tuple}
+use Rattle.dynamo_ser.specs.Datum as datum
+use Rattle.dynamo_de.specs.declared.request.Request.TheVariants as request
+use Rattle.dynamo_record.specs.TupleStructs.{fields_shape, named_tuple}
 use Rattle.dynamo_record.proofs.Inside.{in_order}
 
 module _ {L E : Type 0} (name : Text) (a : AboutList L) (fault : E → Fault) (s : Source) where

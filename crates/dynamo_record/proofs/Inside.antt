@@ -1,29 +1,20 @@
 -- What is read of the content of a variant.
 use Rattle.std.proofs.Common.{◌≡◌, ◌⊎◌, ◌<◌, ℕ, zero, List, [], ◌∷◌, Option, Some, None, Result, Ok, Err, refl, sym, ap, subst, inl, inr, arith}
-use Rattle.dynamo_value.specs.Fault.{Fault, message, out_of_memory}
+use Rattle.dynamo_record.proofs.Common.{Fault, message, out_of_memory, Datum, Elements, Variant}
+use Rattle.dynamo_record.proofs.Common.{elements_of, OfContent, Answer, After, ◌>>=◌, read_elements}
+use Rattle.dynamo_record.proofs.Common.{Meets, Source, Text, conforms, conform_each}
+use Rattle.dynamo_record.proofs.Common.{conforms_content, AnswersByShape, ReadsByShape, Permits}
+use Rattle.dynamo_record.proofs.Common.{read, into, read_each, Same, SameElements, after, stops}
+use Rattle.dynamo_record.proofs.Common.{content_in, elements_in, about_one, about_several, SameData}
+use Rattle.dynamo_record.proofs.Common.{shapes_of, read_fields, each_element, elements_same}
+use Rattle.dynamo_record.proofs.Common.{ReadsInOrder, AboutList, Makes, Shapes, Data, Names}
+use Rattle.dynamo_record.proofs.Common.{AboutContent, Contents, ReadsInside, ReadsAt, tag}
+use Rattle.dynamo_record.proofs.Common.{first_conforms, one_contents}
 use Rattle.dynamo_ser.specs.Datum as datum
-use Rattle.dynamo_ser.specs.Datum.{Datum, Elements, Variant, elements_of}
-use Rattle.dynamo_de.specs.Access.{OfContent}
 use Rattle.dynamo_de.specs.Answer as answer
-use Rattle.dynamo_de.specs.Answer.{Answer, After}
-use Rattle.dynamo_value.specs.Steps.{◌>>=◌}
-use Rattle.dynamo_de.specs.Reading.{read_elements}
-use Rattle.dynamo_de.specs.Meets.{Meets}
-use Rattle.dynamo_de.specs.Source.{Source, Text}
-use Rattle.dynamo_shape.specs.Conforms.{conforms, conform_each, conforms_content}
-use Rattle.dynamo_shape.specs.Laws.{AnswersByShape, ReadsByShape}
-use Rattle.dynamo_shape.specs.Permits.{Permits}
-use Rattle.dynamo_shape.specs.Read.{read, into, read_each}
-use Rattle.dynamo_shape.specs.Same.{Same, SameElements}
 use Rattle.dynamo_shape.specs.Shape as shape
-use Rattle.dynamo_shape.proofs.Answered.{after, stops}
 use Rattle.dynamo_record.specs.About.{About}
-use Rattle.dynamo_record.specs.Contents.{newtype_in, elements_in, about_one, about_several}
-use Rattle.dynamo_record.specs.Fields.{SameData, shapes_of, read_fields}
-use Rattle.dynamo_record.specs.InOrder.{each_element, elements_same, ReadsInOrder}
-use Rattle.dynamo_record.specs.Listed.{AboutList, Makes, Shapes, Data}
-use Rattle.dynamo_record.specs.Names.{Names}
-use Rattle.dynamo_record.specs.Variants.{AboutContent, Contents, ReadsInside, ReadsAt, tag, first_conforms, one_contents, one_told as told_at}
+use Rattle.dynamo_record.specs.Variants.{one_told as told_at}
 
 -- ---- the variant at place 0
 
@@ -49,7 +40,7 @@ module _ {C T E : Type 0} (fault : E → Fault) (part : C → T) (a : About T) (
   value_read None x w e h = absurd h
   value_read (Some y) x w e h =
       made_of (conforms a.shape) Same (conforms_content (shape.one a.shape) v) a.tells ((about_one part a).told v) (datum.newtype_variant v)
-      (λ d k. subst (conforms a.shape) (sym (ap newtype_in k.1)) k.2) (λ d d2 same. (d2, refl, same)) (read a.shape y) x w (ap (λ t. datum.newtype_variant v (a.tells t)) e) (by_shape y (Ok x) h)
+      (λ d k. subst (conforms a.shape) (sym (ap content_in k.1)) k.2) (λ d d2 same. (d2, refl, same)) (read a.shape y) x w (ap (λ t. datum.newtype_variant v (a.tells t)) e) (by_shape y (Ok x) h)
 
   pub value_fails : (s : Option Source) (e : E) → Meets fault (OfContent reads s) (Err e) → Inside s (Err e)
   value_fails None e h = h

@@ -1,31 +1,16 @@
 -- What is read of the content of a struct variant.
 use Rattle.std.proofs.Common.{[], Option, Some, None, Result, Ok, Err, refl, sym, ap, subst}
-use Rattle.dynamo_value.specs.Fault.{Fault}
+use Rattle.dynamo_record.proofs.Common.{Fault, Fields, Variant, OfContent, Answer, After, ◌>>=◌}
+use Rattle.dynamo_record.proofs.Common.{read_entries, Meets, Source, Text, by_name, meets_more}
+use Rattle.dynamo_record.proofs.Common.{conform_fields, conforms_content, AnswersByShape, into}
+use Rattle.dynamo_record.proofs.Common.{read_field, fields_by_name, Same, SameFields, FieldShapes}
+use Rattle.dynamo_record.proofs.Common.{after, stops, fields_in, about_named, named_fields}
+use Rattle.dynamo_record.proofs.Common.{AboutList, Names, AboutRecord, record_of, record_fields}
+use Rattle.dynamo_record.proofs.Common.{FromParts, RecordAnswers, ReadsInside}
 use Rattle.dynamo_ser.specs.Datum as datum
-use Rattle.dynamo_ser.specs.Datum.{Fields, Variant}
-use Rattle.dynamo_de.specs.Access.{OfContent}
 use Rattle.dynamo_de.specs.Answer as answer
-use Rattle.dynamo_de.specs.Answer.{Answer, After}
-use Rattle.dynamo_value.specs.Steps.{◌>>=◌}
-use Rattle.dynamo_de.specs.Reading.{read_entries}
-use Rattle.dynamo_de.specs.Meets.{Meets}
-use Rattle.dynamo_de.specs.Source.{Source, Text}
-use Rattle.dynamo_de.specs.Visitors.{by_name}
-use Rattle.dynamo_de.proofs.Meets.{meets_more}
-use Rattle.dynamo_shape.specs.Conforms.{conform_fields, conforms_content}
-use Rattle.dynamo_shape.specs.Laws.{AnswersByShape}
-use Rattle.dynamo_shape.specs.Read.{into, read_field, fields_by_name}
-use Rattle.dynamo_shape.specs.Same.{Same, SameFields}
 use Rattle.dynamo_shape.specs.Shape as shape
-use Rattle.dynamo_shape.specs.Shape.{FieldShapes}
-use Rattle.dynamo_shape.proofs.Answered.{after, stops}
 use Rattle.dynamo_shape.proofs.Results.{value_same}
-use Rattle.dynamo_record.specs.Contents.{about_named, fields_in}
-use Rattle.dynamo_record.specs.Fields.{named_fields}
-use Rattle.dynamo_record.specs.Listed.{AboutList}
-use Rattle.dynamo_record.specs.Names.{Names}
-use Rattle.dynamo_record.specs.Records.{AboutRecord, record_of, record_fields, FromParts, RecordAnswers}
-use Rattle.dynamo_record.specs.Variants.{ReadsInside}
 
 -- The fields are those of the struct that they would be.
 module _ {C L : Type 0} (own : Text) (names : Names) (list : C → L) (l : AboutList L) (v : Variant) where

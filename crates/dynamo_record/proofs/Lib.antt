@@ -1,3 +1,4 @@
+mod Common
 pub mod Answering
 pub mod BothLists
 pub mod ByRules

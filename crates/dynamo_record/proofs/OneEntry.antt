@@ -1,19 +1,10 @@
 -- One entry of a struct: it fills the field of its name, or is ignored.
 use Rattle.std.proofs.Common.{◌≡◌, ℕ, [], Result, Ok, Err, String, Global, string_bytes, length, ◌<◌, ◌≤◌, sym, subst, inl, inr}
-use Rattle.dynamo_value.specs.Fault.{Fault}
+use Rattle.dynamo_record.proofs.Common.{Fault, Datum, Answer, After, Gives, read_ignored, Meets}
+use Rattle.dynamo_record.proofs.Common.{read_identifier, Source, Text, key_text, into, Slots}
+use Rattle.dynamo_record.proofs.Common.{fill_slot, read_one, fill_one, read_at, FillsAt, Defaults}
+use Rattle.dynamo_record.proofs.Common.{field_shapes, Shapes, Holds, Fills, IfRead, Names}
 use Rattle.dynamo_ser.specs.Datum as datum
-use Rattle.dynamo_ser.specs.Datum.{Datum}
-use Rattle.dynamo_de.specs.Answer.{Answer, After, Gives}
-use Rattle.dynamo_de.specs.Ignored.{read_ignored}
-use Rattle.dynamo_de.specs.Meets.{Meets}
-use Rattle.dynamo_de.specs.Reading.{read_identifier}
-use Rattle.dynamo_de.specs.Source.{Source, Text, key_text}
-use Rattle.dynamo_shape.specs.Read.{into}
-use Rattle.dynamo_shape.proofs.FieldsByName.{Slots, fill_slot}
-use Rattle.dynamo_record.specs.Entries.{read_one, fill_one, read_at, FillsAt}
-use Rattle.dynamo_record.specs.Fields.{Defaults, field_shapes}
-use Rattle.dynamo_record.specs.Listed.{Shapes, Holds, Fills, IfRead}
-use Rattle.dynamo_record.specs.Names.{Names}
 use Rattle.dynamo_record.proofs.Described.{read_there, filled_there, past}
 
 -- a key is read as its text

@@ -1,23 +1,14 @@
 -- One field: what is read of it, and what it is made of.
 use Rattle.std.proofs.Common.{◌≡◌, ◌⊎◌, List, [], ◌∷◌, Option, Some, None, Result, Ok, Err, refl, subst, inl, inr}
-use Rattle.dynamo_value.specs.Fault.{Fault, message, out_of_memory}
-use Rattle.dynamo_ser.specs.Datum.{Datum}
+use Rattle.dynamo_record.proofs.Common.{Fault, message, out_of_memory, Datum, value_or}
+use Rattle.dynamo_record.proofs.Common.{TakesElement, Source, Absence, conforms, ReadsByShape}
+use Rattle.dynamo_record.proofs.Common.{missing, Same, Shape, Slots, first_slot, other_slots}
+use Rattle.dynamo_record.proofs.Common.{Defaults, complete, missed_name, read_fields, Shapes, Data}
+use Rattle.dynamo_record.proofs.Common.{AlikeFront, Makes, Completes, IsRead, HoldsField, is_there}
+use Rattle.dynamo_record.proofs.Common.{Names, first_name, other_names, missing_text}
 use Rattle.dynamo_de.specs.Answer as answer
-use Rattle.dynamo_de.specs.Answer.{value_or}
-use Rattle.dynamo_de.specs.Shows.{TakesElement}
-use Rattle.dynamo_de.specs.Source.{Source}
-use Rattle.dynamo_shape.specs.Absence.{Absence}
-use Rattle.dynamo_shape.specs.Conforms.{conforms}
-use Rattle.dynamo_shape.specs.Laws.{ReadsByShape}
-use Rattle.dynamo_shape.specs.Read.{missing}
-use Rattle.dynamo_shape.specs.Same.{Same}
-use Rattle.dynamo_shape.specs.Shape.{Shape}
 use Rattle.dynamo_shape.proofs.Alike.{same_refl}
-use Rattle.dynamo_shape.proofs.FieldsByName.{Slots, first_slot, other_slots}
-use Rattle.dynamo_record.specs.Fields.{Defaults, complete, missed_name, read_fields}
 use Rattle.std.specs.Option.{is_some}
-use Rattle.dynamo_record.specs.Listed.{Shapes, Data, AlikeFront, Makes, Completes, IsRead, HoldsField, is_there}
-use Rattle.dynamo_record.specs.Names.{Names, first_name, other_names, missing_text}
 
 -- a datum in front of what follows
 abbrev pub front_of : Datum → Data → Data

@@ -1,12 +1,8 @@
 -- The variant of a number: its name, and what it tells conforms to the enum's shape.
 use Rattle.std.proofs.Common.{◌≡◌, ◌<◌, ◌≤◌, ◌+◌, ℕ, zero, suc, List, [], ◌∷◌, Option, Some, None, refl, sym, ap, subst, ◌∙◌, inl, inr, length, map, get_or, arith}
-use Rattle.dynamo_ser.specs.Datum.{Datum}
-use Rattle.dynamo_de.specs.Source.{Text}
-use Rattle.dynamo_shape.specs.Conforms.{conforms, conforms_content}
-use Rattle.dynamo_shape.specs.Shape.{Content, nothing}
-use Rattle.dynamo_record.specs.Enums.{AboutEnum, enum_shape}
-use Rattle.dynamo_record.specs.Names.{Names, first_name, other_names, names_from}
-use Rattle.dynamo_record.specs.Variants.{Contents, ConformsToOne, content_at, tag}
+use Rattle.dynamo_record.proofs.Common.{Datum, Text, conforms, conforms_content, Content, nothing}
+use Rattle.dynamo_record.proofs.Common.{AboutEnum, enum_shape, Names, first_name, other_names}
+use Rattle.dynamo_record.proofs.Common.{names_from, Contents, ConformsToOne, content_at, tag}
 
 -- ---- its name
 

@@ -1,10 +1,8 @@
 -- Names passed one after another, until one is found.
 use Rattle.std.proofs.Common.{◌≡◌, ℕ, suc, List, ◌∷◌, true, false, length, ◌<◌, ◌≤◌, drop, get_or, map, sym, ap, subst, ◌∙◌, arith, ◌+◌}
-use Rattle.std.specs.Prelude.{bytes_eq, if◌then◌else◌}
+use Rattle.dynamo_record.proofs.Common.{bytes_eq, if◌then◌else◌, Text, place_of}
 use Rattle.std.proofs.Math.Seq.{drop-cons}
 use Rattle.std.proofs.Math.ListN.{drop_of_length-le}
-use Rattle.dynamo_de.specs.Source.{Text}
-use Rattle.dynamo_record.specs.Names.{place_of}
 
 module _ {A : Type 0} (f : A → Text) (xs : List A) (i : ℕ) (d : A) (t : Text) (all : ℕ) (so_far : all ≡ place_of i (map f (drop i xs)) t) where
   here : i < length xs → all ≡ place_of i (f (get_or xs i d) ∷ map f (drop (suc i) xs)) t

@@ -1,21 +1,15 @@
 -- The fields of a struct by their places: reading each entry by the field of its name's place is reading by names.
 use Rattle.std.proofs.Common.{◌≡◌, ℕ, zero, suc, List, ◌∷◌, None, refl, ap, subst}
+use Rattle.dynamo_record.proofs.Common.{Datum, Fields, value_or, ◌>>=◌, ignore, Text, Entry}
+use Rattle.dynamo_record.proofs.Common.{Absence, put_field, read, into, missing, read_field}
+use Rattle.dynamo_record.proofs.Common.{fields_by_name, Shape, FieldShapes, no_field_shapes}
+use Rattle.dynamo_record.proofs.Common.{field_shape, into_into, read_itself, Slots, first_slot}
+use Rattle.dynamo_record.proofs.Common.{other_slots, behind, fill, fill_slot, empty, close}
+use Rattle.dynamo_record.proofs.Common.{NamesDiffer, Reads, all_named, pad, fields_from, entry_at}
+use Rattle.dynamo_record.proofs.Common.{finish, reads_on, place_in}
 use Rattle.dynamo_ser.specs.Datum as datum
-use Rattle.dynamo_ser.specs.Datum.{Datum, Fields}
 use Rattle.dynamo_de.specs.Answer as answer
-use Rattle.dynamo_de.specs.Answer.{value_or}
-use Rattle.dynamo_value.specs.Steps.{◌>>=◌}
-use Rattle.dynamo_de.specs.Ignored.{ignore}
-use Rattle.dynamo_de.specs.Source.{Text, Entry}
-use Rattle.dynamo_shape.specs.Absence.{Absence, put_field}
-use Rattle.dynamo_shape.specs.Read.{read, into, missing, read_field, fields_by_name}
-use Rattle.dynamo_shape.specs.Shape.{Shape, FieldShapes, no_field_shapes, field_shape}
-use Rattle.dynamo_shape.proofs.ByHand.{into_into, read_itself}
 use Rattle.dynamo_shape.proofs.FieldsByName as slots
-use Rattle.dynamo_shape.proofs.FieldsByName.{Slots, first_slot, other_slots, behind, fill, fill_slot, empty, close, NamesDiffer, Reads, all_named}
-use Rattle.dynamo_record.specs.ByRules.{pad}
-use Rattle.dynamo_record.specs.Entries.{fields_from, entry_at, finish, reads_on}
-use Rattle.dynamo_record.specs.Records.{place_in}
 
 abbrev Tail : ℕ → FieldShapes → FieldShapes → Type 0
 Tail zero fs all = all ≡ fs

@@ -1,13 +1,11 @@
 -- Other names passed one after another, until one is found; and names found by their places.
 use Rattle.std.proofs.Common.{◌≡◌, ℕ, suc, true, false, ◌||◌, List, [], ◌∷◌, length, ◌<◌, ◌≤◌, ◌+◌, drop, get_or, map, sym, ap, subst, ◌∙◌, inl, inr, arith}
-use Rattle.std.specs.Prelude.{bytes_eq, if◌then◌else◌}
+use Rattle.dynamo_record.proofs.Common.{bytes_eq, if◌then◌else◌, Text, own_name, Names, is_named}
+use Rattle.dynamo_record.proofs.Common.{place_of}
 use Rattle.std.proofs.Math.Seq.{drop-cons}
 use Rattle.std.proofs.Math.ListN.{drop_of_length-le}
 use Rattle.std.proofs.lemmas.Bool.{true≢false, cases_Bool}
-use Rattle.dynamo_de.specs.Source.{Text}
-use Rattle.dynamo_shape.specs.NameRules.{own_name}
 use Rattle.dynamo_shape.proofs.Found.{or_false}
-use Rattle.dynamo_record.specs.Names.{Names, is_named, place_of}
 
 module _ {A : Type 0} (f : A → Text × Text) (xs : List A) (i : ℕ) where
   module _ (d : A) (t all : Text) (so_far : all ≡ own_name (map f (drop i xs)) t) where

@@ -1,25 +1,18 @@
 -- Reading the fields of a struct without an entry that is ignored.
 use Rattle.std.proofs.Common.{◌≡◌, ◌++◌, ℕ, suc, true, false, List, [], ◌∷◌, Ok, Err, refl, sym, ap, subst, ◌∙◌}
-use Rattle.std.specs.Prelude.{if◌then◌else◌, bytes_eq}
+use Rattle.dynamo_record.proofs.Common.{if◌then◌else◌, bytes_eq, ◌>>=◌, Datum, Fields, Answer}
+use Rattle.dynamo_record.proofs.Common.{ignore, ignore_entries, read_string, Text, Entry, attribute}
+use Rattle.dynamo_record.proofs.Common.{into, read_field, read_each_entry, fields_among}
+use Rattle.dynamo_record.proofs.Common.{fields_by_name, FieldShapes, no_field_shapes, field_shape}
+use Rattle.dynamo_record.proofs.Common.{Slots, empty, fields_from, read_one, fill_one, entry_at}
+use Rattle.dynamo_record.proofs.Common.{reads_on, place_in, AreBehind}
+use Rattle.dynamo_ser.specs.Datum as datum
+use Rattle.dynamo_de.specs.Answer as answer
 use Rattle.dynamo_value.specs.Av as av
 use Rattle.dynamo_value.specs.Av.{Av}
-use Rattle.dynamo_value.specs.Steps.{◌>>=◌}
-use Rattle.dynamo_ser.specs.Datum as datum
-use Rattle.dynamo_ser.specs.Datum.{Datum, Fields}
-use Rattle.dynamo_de.specs.Answer as answer
-use Rattle.dynamo_de.specs.Answer.{Answer}
 use Rattle.dynamo_de.specs.Fields.{read_fields}
-use Rattle.dynamo_de.specs.Ignored.{ignore, ignore_entries}
-use Rattle.dynamo_de.specs.Reading.{read_string}
-use Rattle.dynamo_de.specs.Source.{Text, Entry, attribute}
 use Rattle.dynamo_shape.specs.Clear.{is_field}
-use Rattle.dynamo_shape.specs.Read.{into, read_field, read_each_entry, fields_among, fields_by_name}
-use Rattle.dynamo_shape.specs.Shape.{FieldShapes, no_field_shapes, field_shape}
-use Rattle.dynamo_shape.proofs.FieldsByName.{Slots, empty}
 use Rattle.dynamo_shape.proofs.Found.{or_false}
-use Rattle.dynamo_record.specs.Entries.{fields_from, read_one, fill_one, entry_at, reads_on}
-use Rattle.dynamo_record.specs.Records.{place_in}
-use Rattle.dynamo_record.specs.TaggedLists.{AreBehind}
 use Rattle.dynamo_record.proofs.Places.{whole}
 
 -- ---- a text is ignored

@@ -1,21 +1,13 @@
 -- A described struct, entry by entry.
 use Rattle.std.proofs.Common.{◌≡◌, List, [], Option, Some, None, Result, Ok, Err, sym, subst, inl, inr}
-use Rattle.dynamo_value.specs.Fault.{Fault}
+use Rattle.dynamo_record.proofs.Common.{Fault, Answer, After, by_name, in_order, Meets, IsMessage}
+use Rattle.dynamo_record.proofs.Common.{TakesEntry, Source, Entry, Text, into, Slots, IsEntry}
+use Rattle.dynamo_record.proofs.Common.{Enters, StructSoFar, unread, complete, read_fields, Data}
+use Rattle.dynamo_record.proofs.Common.{Holds, Completes, MakesOrFails, Names, place_of}
+use Rattle.dynamo_record.proofs.Common.{AboutRecord, AreNamed, record_fields, FromParts}
+use Rattle.dynamo_record.proofs.Common.{RecordAnswers, IsAlike, place_in, names_differ}
 use Rattle.dynamo_ser.specs.Datum as datum
 use Rattle.dynamo_de.specs.Answer as answer
-use Rattle.dynamo_de.specs.Answer.{Answer, After}
-use Rattle.dynamo_de.specs.Visitors.{by_name, in_order}
-use Rattle.dynamo_de.specs.Meets.{Meets, IsMessage}
-use Rattle.dynamo_de.specs.Shows.{TakesEntry}
-use Rattle.dynamo_de.specs.Source.{Source, Entry, Text}
-use Rattle.dynamo_shape.specs.Read.{into}
-use Rattle.dynamo_shape.proofs.FieldsByName.{Slots}
-use Rattle.dynamo_record.specs.Entries.{IsEntry, Enters, StructSoFar}
-use Rattle.dynamo_record.specs.Fields.{unread, complete, read_fields}
-use Rattle.dynamo_record.specs.Listed.{Data, Holds, Completes, MakesOrFails}
-use Rattle.dynamo_record.specs.Names.{Names, place_of}
-use Rattle.dynamo_record.specs.Records.{AboutRecord, AreNamed, record_fields, FromParts, RecordAnswers, IsAlike, place_in}
-use Rattle.dynamo_record.specs.Apart.{names_differ}
 use Rattle.dynamo_record.proofs.Described.{empty_unread, in_order_listed, answer_of, struct_made, struct_missed, struct_fails, by_entries}
 use Rattle.dynamo_record.proofs.Described as described
 use Rattle.dynamo_record.proofs.Closing as closing

@@ -1,24 +1,13 @@
 -- The variants of an internally tagged enum: what is read of one, alone or in a list.
 use Rattle.std.proofs.Common.{◌≡◌, ◌+◌, ◌<◌, ℕ, zero, true, List, [], ◌∷◌, length, Result, Ok, Err, refl, sym, ap, subst, ◌∙◌, inl, inr, arith}
-use Rattle.std.specs.Prelude.{not}
-use Rattle.dynamo_value.specs.Fault.{Fault}
-use Rattle.dynamo_ser.specs.Datum.{Fields, no_fields}
+use Rattle.dynamo_record.proofs.Common.{not, Fault, Fields, no_fields, Answer, Gives}
+use Rattle.dynamo_record.proofs.Common.{ignore_entries, Meets, Text, Entry, by_name, meets_more}
+use Rattle.dynamo_record.proofs.Common.{into, SameFields, Permits, FieldShapes, no_field_shapes}
+use Rattle.dynamo_record.proofs.Common.{both_true, FieldAnswers, ReadsFields, differ, is_named}
+use Rattle.dynamo_record.proofs.Common.{AboutRecord, AreNamed, FromParts, record_fields}
+use Rattle.dynamo_record.proofs.Common.{record_told, AboutTaggedList, Structs, struct_at}
+use Rattle.dynamo_record.proofs.Common.{either_place, either_structs, either_told}
 use Rattle.dynamo_de.specs.Answer as answer
-use Rattle.dynamo_de.specs.Answer.{Answer, Gives}
-use Rattle.dynamo_de.specs.Ignored.{ignore_entries}
-use Rattle.dynamo_de.specs.Meets.{Meets}
-use Rattle.dynamo_de.specs.Source.{Text, Entry}
-use Rattle.dynamo_de.specs.Visitors.{by_name}
-use Rattle.dynamo_de.proofs.Meets.{meets_more}
-use Rattle.dynamo_shape.specs.Read.{into}
-use Rattle.dynamo_shape.specs.Same.{SameFields}
-use Rattle.dynamo_shape.specs.Permits.{Permits}
-use Rattle.dynamo_shape.specs.Shape.{FieldShapes, no_field_shapes}
-use Rattle.dynamo_record.specs.Apart.{both_true}
-use Rattle.dynamo_record.specs.Held.{FieldAnswers, ReadsFields}
-use Rattle.dynamo_record.specs.Names.{differ, is_named}
-use Rattle.dynamo_record.specs.Records.{AboutRecord, AreNamed, FromParts, record_fields, record_told}
-use Rattle.dynamo_record.specs.TaggedLists.{AboutTaggedList, Structs, struct_at, either_place, either_structs, either_told}
 use Rattle.dynamo_record.specs.declared.variant_list.Choice.{Choice}
 use Rattle.dynamo_record.specs.declared.variant_list.Choice.TheVariants.{Right}
 use Rattle.dynamo_record.proofs.HeldStructs.{fields_answered}

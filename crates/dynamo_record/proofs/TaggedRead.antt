@@ -1,27 +1,18 @@
 -- An internally tagged enum is read from the tag and the other entries as its shape says.
 use Rattle.std.proofs.Common.{◌≡◌, ◌++◌, ◌<◌, ◌+◌, ◌^◌, ℕ, zero, suc, true, false, List, [], ◌∷◌, Some, None, Result, Ok, Err, length, refl, sym, ap, subst, ◌∙◌, inl, inr, arith}
-use Rattle.std.specs.Prelude.{String, string_bytes, if◌then◌else◌, bytes_eq}
-use Rattle.std.specs.declared.alloc.Global.{Global}
-use Rattle.dynamo_value.specs.Fault.{Fault}
-use Rattle.dynamo_value.specs.Steps.{◌>>=◌}
-use Rattle.dynamo_ser.specs.Datum.{Datum, Fields}
+use Rattle.dynamo_record.proofs.Common.{String, string_bytes, if◌then◌else◌, bytes_eq, Fault, ◌>>=◌}
+use Rattle.dynamo_record.proofs.Common.{Datum, Fields, Answer, After, Gives, Meets, IsMessage}
+use Rattle.dynamo_record.proofs.Common.{read_entries, read_string, Source, Text, Entry, attribute}
+use Rattle.dynamo_record.proofs.Common.{meets_more, conforms, conform_fields, Permits, into}
+use Rattle.dynamo_record.proofs.Common.{fields_by_name, read_field, read_tag, read_tag_of}
+use Rattle.dynamo_record.proofs.Common.{read_tagged, Same, SameFields, FieldShapes, after, stops}
+use Rattle.dynamo_record.proofs.Common.{NamesVariant, IsLast, ReadsFields, Names, place_of}
+use Rattle.dynamo_record.proofs.Common.{AboutTagged, IsFit, FromEntries, all_tagged, alike_at}
+use Rattle.dynamo_record.proofs.Common.{as_many, own, struct_of, tagged_reads, tagged_shape}
+use Rattle.dynamo_record.proofs.Common.{tagged_structs, tagged_tells, tagged_variants, Structs}
+use Rattle.dynamo_record.proofs.Common.{struct_at, AreBehind, AllBehind}
 use Rattle.dynamo_de.specs.Answer as answer
-use Rattle.dynamo_de.specs.Answer.{Answer, After, Gives}
-use Rattle.dynamo_de.specs.Meets.{Meets, IsMessage}
-use Rattle.dynamo_de.specs.Reading.{read_entries, read_string}
-use Rattle.dynamo_de.specs.Source.{Source, Text, Entry, attribute}
-use Rattle.dynamo_de.proofs.Meets.{meets_more}
-use Rattle.dynamo_shape.specs.Conforms.{conforms, conform_fields}
-use Rattle.dynamo_shape.specs.Permits.{Permits}
-use Rattle.dynamo_shape.specs.Read.{into, fields_by_name, read_field, read_tag, read_tag_of, read_tagged}
-use Rattle.dynamo_shape.specs.Same.{Same, SameFields}
-use Rattle.dynamo_shape.specs.Shape.{FieldShapes}
-use Rattle.dynamo_shape.proofs.Answered.{after, stops}
-use Rattle.dynamo_record.specs.Enums.{NamesVariant}
-use Rattle.dynamo_record.specs.Held.{IsLast, ReadsFields}
-use Rattle.dynamo_record.specs.Names.{Names, place_of}
-use Rattle.dynamo_record.specs.TaggedEnums.{AboutTagged, IsFit, FromEntries, all_tagged, alike_at, as_many, own, struct_of, tagged_reads, tagged_shape, tagged_structs, tagged_tells, tagged_variants}
-use Rattle.dynamo_record.specs.TaggedLists.{Structs, struct_at, AreBehind, AllBehind}
+use Rattle.std.specs.declared.alloc.Global.{Global}
 use Rattle.dynamo_record.proofs.Chosen.{shift}
 use Rattle.dynamo_record.proofs.HeldEntries.{last_found}
 use Rattle.dynamo_record.proofs.Skipped.{text_ignored, without_tag}

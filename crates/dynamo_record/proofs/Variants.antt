@@ -1,28 +1,16 @@
 -- Unit variants by their names and places.
 use Rattle.std.proofs.Common.{◌≡◌, ◌⊎◌, ◌<◌, ◌≤◌, ◌+◌, ℕ, zero, suc, true, false, List, [], ◌∷◌, length, get_or, map, Option, None, Result, Ok, Err, refl, sym, ap, subst, ◌∙◌, inl, inr, arith}
-use Rattle.std.specs.Prelude.{if◌then◌else◌, bytes_eq}
-use Rattle.std.specs.List.{range_with_len}
-use Rattle.std.proofs.Math.ListN.{get_or-map}
-use Rattle.std.proofs.lemmas.List.{length-map}
-use Rattle.std.proofs.lemmas.List.FromFn.{length-range_with_len, get_or-range_with_len}
-use Rattle.dynamo_value.specs.Fault.{Fault, message, out_of_memory}
+use Rattle.dynamo_record.proofs.Common.{if◌then◌else◌, bytes_eq, range_with_len, length-map, Fault}
+use Rattle.dynamo_record.proofs.Common.{message, out_of_memory, Datum, ReadsVariant, After}
+use Rattle.dynamo_record.proofs.Common.{read_variant, read_identifier, Meets, Source, Text}
+use Rattle.dynamo_record.proofs.Common.{or_its_fault, meets_more, conforms, conforms_variant}
+use Rattle.dynamo_record.proofs.Common.{Permits, read_one_of, Same, after, Names, place_of}
+use Rattle.dynamo_record.proofs.Common.{AboutUnits, name_at, unit_variants, unit_enum_shape}
+use Rattle.dynamo_record.proofs.Common.{unit_enum_tells, unit_enum_reads, FromName, FromVariant}
 use Rattle.dynamo_ser.specs.Datum as datum
-use Rattle.dynamo_ser.specs.Datum.{Datum}
-use Rattle.dynamo_de.specs.Access.{ReadsVariant}
 use Rattle.dynamo_de.specs.Answer as answer
-use Rattle.dynamo_de.specs.Answer.{After}
-use Rattle.dynamo_de.specs.Reading.{read_variant, read_identifier}
-use Rattle.dynamo_de.specs.Meets.{Meets}
-use Rattle.dynamo_de.specs.Source.{Source, Text}
-use Rattle.dynamo_de.specs.Visitors.{or_its_fault}
-use Rattle.dynamo_de.proofs.Meets.{meets_more}
-use Rattle.dynamo_shape.specs.Conforms.{conforms, conforms_variant}
-use Rattle.dynamo_shape.specs.Permits.{Permits}
-use Rattle.dynamo_shape.specs.Read.{read_one_of}
-use Rattle.dynamo_shape.specs.Same.{Same}
-use Rattle.dynamo_shape.proofs.Answered.{after}
-use Rattle.dynamo_record.specs.Names.{Names, place_of}
-use Rattle.dynamo_record.specs.UnitEnums.{AboutUnits, name_at, unit_variants, unit_enum_shape, unit_enum_tells, unit_enum_reads, FromName, FromVariant}
+use Rattle.std.proofs.Math.ListN.{get_or-map}
+use Rattle.std.proofs.lemmas.List.FromFn.{length-range_with_len, get_or-range_with_len}
 
 abbrev unit_at : Text → Names → ℕ → ℕ → Datum
 unit_at name ns i n = datum.unit_variant (datum.variant name i (name_at ns n))

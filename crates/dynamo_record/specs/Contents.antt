@@ -2,7 +2,8 @@
 use Rattle.std.specs.Prelude.{◌≡◌, true, length, [], ⊤}
 use Rattle.std.proofs.Common.{refl, sym, ap, subst}
 use Rattle.dynamo_ser.specs.Datum as datum
-use Rattle.dynamo_ser.specs.Datum.{Datum, Elements, Fields, Variant, elements_of}
+use Rattle.dynamo_ser.specs.Datum.{Datum, Variant, elements_of}
+use Rattle.dynamo_ser.specs.Parts.{content_in, elements_in, fields_in}
 use Rattle.dynamo_shape.specs.Conforms.{conforms, conform_each, conform_fields, conforms_content}
 use Rattle.dynamo_shape.specs.Same.{Same, SameElements, SameFields}
 use Rattle.dynamo_shape.specs.Shape as shape
@@ -16,14 +17,6 @@ use Rattle.dynamo_record.specs.Apart.{names_differ}
 use Rattle.dynamo_shape.proofs.FieldsByName.{NamesDiffer}
 use Rattle.dynamo_record.specs.Told.{each_field, fields_same, data_same}
 use Rattle.dynamo_record.specs.Variants.{AboutContent}
-
-abbrev pub newtype_in : Datum → Datum
-newtype_in (datum.newtype_variant v d) = d
-newtype_in d = d
-
-abbrev pub elements_in : Datum → Elements
-elements_in (datum.tuple_variant v ds) = ds
-elements_in _ = datum.no_elements
 
 -- ---- nothing
 
@@ -45,10 +38,10 @@ module _ {C T : Type 0} (value : C → T) (a : About T) where
   one_told v x = datum.newtype_variant v (a.tells (value x))
 
   value_conforms : (v : Variant) (x : C) → conforms_content (shape.one a.shape) v (one_told v x) → conforms a.shape (a.tells (value x))
-  value_conforms v x c = subst (conforms a.shape) (sym (ap newtype_in c.1)) c.2
+  value_conforms v x c = subst (conforms a.shape) (sym (ap content_in c.1)) c.2
 
   pub one_by_value : (v : Variant) (x y : C) → conforms_content (shape.one a.shape) v (one_told v x) → conforms_content (shape.one a.shape) v (one_told v y) → Same (one_told v x) (one_told v y) → a.same (value x) (value y)
-  one_by_value v x y c d h = a.told_by_value (value x) (value y) (value_conforms v x c) (value_conforms v y d) (subst (Same (a.tells (value x))) (sym (ap newtype_in h.1)) h.2)
+  one_by_value v x y c d h = a.told_by_value (value x) (value y) (value_conforms v x c) (value_conforms v y d) (subst (Same (a.tells (value x))) (sym (ap content_in h.1)) h.2)
 
   pub one_alike : (v : Variant) (x y : C) → conforms_content (shape.one a.shape) v (one_told v x) → conforms_content (shape.one a.shape) v (one_told v y) → a.same (value x) (value y) → Same (one_told v x) (one_told v y)
   one_alike v x y c d h = (a.tells (value y), refl, a.told_alike (value x) (value y) (value_conforms v x c) (value_conforms v y d) h)
@@ -97,11 +90,6 @@ module _ {C L : Type 0} (list : C → L) (a : AboutList L) where
   }
 
 -- ---- several under names
-
-abbrev pub fields_in : Datum → Fields
-fields_in (datum.struct_variant v fs) = fs
-fields_in (datum.struct name fs) = fs
-fields_in _ = datum.no_fields
 
 module _ {C L : Type 0} (names : Names) (list : C → L) (a : AboutList L) where
   -- no two fields have one name, and each has one

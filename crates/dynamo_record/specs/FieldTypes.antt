@@ -7,6 +7,7 @@ use Rattle.dynamo_value.specs.Fault.{Fault, out_of_memory}
 use Rattle.dynamo_ser.specs.Datum as datum
 use Rattle.dynamo_ser.specs.Datum.{Datum}
 use Rattle.dynamo_ser.specs.Symbols.{SetKind, symbol}
+use Rattle.dynamo_ser.specs.Parts.{content_in}
 use Rattle.dynamo_de.specs.Answer.{After}
 use Rattle.dynamo_value.specs.Steps.{◌>>=◌}
 use Rattle.dynamo_de.specs.Reading.{read_elements}
@@ -44,10 +45,6 @@ about_set k a = record {
 -- what the empty list tells as a set
 abbrev pub empty_set : SetKind → Datum
 empty_set k = datum.newtype_struct (symbol k) (datum.seq datum.no_elements)
-
-abbrev content_in : Datum → Datum
-content_in (datum.newtype_struct name d) = d
-content_in d = d
 
 -- a set is read as a list is
 pub set_permitted : {T : Type 0} (k : SetKind) (s : Shape) (tells : T → Datum) (reads : Source → Result T Fault → Type 0) → ReadsByShape s tells reads → ReadsByShape {T = Vec T Global} (shape.set k s) (set_tells k tells) (λ source. After (read_elements source) (ReadsList reads))

@@ -6,6 +6,7 @@ use Rattle.std.specs.declared.cmp.Ordering.{Ordering}
 use Rattle.dynamo_value.specs.Fault.{Fault}
 use Rattle.dynamo_ser.specs.Datum as datum
 use Rattle.dynamo_ser.specs.Datum.{Datum}
+use Rattle.dynamo_ser.specs.Parts.{content_in}
 use Rattle.dynamo_de.specs.Reads.{Through}
 use Rattle.dynamo_de.specs.Source.{Source, Text}
 use Rattle.dynamo_shape.specs.Conforms.{conforms}
@@ -47,10 +48,6 @@ newtype_reads name field a source r = Through field (ReadsAs (named_newtype name
 
 pub newtype_by_shape : {B V : Type 0} (name : Text) (field : B → V) (a : About V) → ReadsByShape (shape.newtype name a.shape) (λ b. datum.newtype_struct name (a.tells (field b))) (newtype_reads name field a)
 newtype_by_shape name field a = through_permitted (shape.newtype name a.shape) (λ v. datum.newtype_struct name (a.tells v)) (ReadsAs (named_newtype name a)) field (as_shape (named_newtype name a))
-
-abbrev content_in : Datum → Datum
-content_in (datum.newtype_struct name d) = d
-content_in d = d
 
 module _ {B V : Type 0} (name : Text) (field : B → V) (key : AboutKey V) where
   abbrev told : B → Datum

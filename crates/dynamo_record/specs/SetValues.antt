@@ -3,6 +3,7 @@ use Rattle.std.specs.Prelude.{◌≡◌}
 use Rattle.std.proofs.Common.{refl, sym, ap, subst}
 use Rattle.dynamo_ser.specs.Datum as datum
 use Rattle.dynamo_ser.specs.Symbols.{SetKind, symbol}
+use Rattle.dynamo_ser.specs.Parts.{elements_in}
 use Rattle.dynamo_de.specs.Answer.{refused}
 use Rattle.dynamo_shape.specs.Absence.{required}
 use Rattle.dynamo_shape.specs.Conforms.{conforms, AllElements}
@@ -18,10 +19,6 @@ pub record IsSetOf {M : Type 0} (k : SetKind) (list set : About M) : Type 0 wher
   pub tells : (m : M) → set.tells m ≡ datum.newtype_struct (symbol k) (list.tells m)
   pub conforms : (m : M) → conforms list.shape (list.tells m) → conforms set.shape (datum.newtype_struct (symbol k) (list.tells m))
   pub missed : missing set.shape required ≡ refused
-
-abbrev elements_in : datum.Datum → datum.Elements
-elements_in (datum.seq ds) = ds
-elements_in _ = datum.no_elements
 
 pub list_is_set : (k : SetKind) (s : Shape) (ds : datum.Elements) → conforms (shape.list s) (datum.seq ds) → conforms (shape.set k s) (datum.newtype_struct (symbol k) (datum.seq ds))
 list_is_set k s ds c = (ds, refl, subst (AllElements (conforms s)) (sym (ap elements_in c.1)) c.2)

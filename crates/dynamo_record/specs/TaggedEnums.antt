@@ -6,6 +6,7 @@ use Rattle.std.proofs.lemmas.Slice.Eq.{bytes_eq-Decides}
 use Rattle.dynamo_value.specs.Fault.{Fault}
 use Rattle.dynamo_ser.specs.Datum as datum
 use Rattle.dynamo_ser.specs.Datum.{Datum, Fields}
+use Rattle.dynamo_ser.specs.Parts.{fields_in, first_in, others_in, text_in}
 use Rattle.dynamo_de.specs.Answer.{Answer}
 use Rattle.dynamo_de.specs.Source.{Source, Text, Entry}
 use Rattle.dynamo_value.specs.Steps.{◌>>=◌}
@@ -14,7 +15,7 @@ use Rattle.dynamo_shape.specs.Laws.{AnswersByShape}
 use Rattle.dynamo_shape.specs.Read.{read, read_tag, read_tagged}
 use Rattle.dynamo_shape.specs.Same.{Same, SameFields}
 use Rattle.dynamo_shape.specs.Shape as shape
-use Rattle.dynamo_shape.specs.Shape.{Shape, Tagged, FieldShapes}
+use Rattle.dynamo_shape.specs.Shape.{Shape, Tagged}
 use Rattle.dynamo_shape.proofs.Found.{or_false}
 use Rattle.dynamo_record.specs.About.{About}
 use Rattle.dynamo_record.specs.Apart.{both_true, not_true}
@@ -76,24 +77,7 @@ same_place (n ∷ ns) d (suc i) (suc j) h k e = ap suc (same_place ns (others_di
 -- ---- the struct of a variant
 
 abbrev tag_in : Datum → Text
-tag_in (datum.struct name (datum.field t (datum.string v) gs)) = v
-tag_in _ = []
-
-abbrev fields_in : Datum → Fields
-fields_in (datum.struct name gs) = gs
-fields_in _ = datum.no_fields
-
-abbrev others_in : Fields → Fields
-others_in (datum.field name d gs) = gs
-others_in datum.no_fields = datum.no_fields
-
-abbrev first_in : Fields → Datum
-first_in (datum.field name d gs) = d
-first_in datum.no_fields = datum.unit
-
-abbrev text_in : Datum → Text
-text_in (datum.string v) = v
-text_in _ = []
+tag_in d = text_in (first_in (fields_in d))
 
 module _ (tag : Text) where
   none_else : (n : Text) (ns : Names) (ss : Structs) → is_named ns n ≡ false → length ns ≡ length ss → (own : Text) (gs : Fields) → conforms_tagged tag (tagged_variants ns ss) (tagged_struct tag n own gs) → ⊥

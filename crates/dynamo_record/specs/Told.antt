@@ -2,7 +2,8 @@
 use Rattle.std.specs.Prelude.{[], ◌∷◌}
 use Rattle.std.proofs.Common.{refl, sym, ap, subst}
 use Rattle.dynamo_ser.specs.Datum as datum
-use Rattle.dynamo_ser.specs.Datum.{Datum, Fields}
+use Rattle.dynamo_ser.specs.Datum.{Datum}
+use Rattle.dynamo_ser.specs.Parts.{fields_in}
 use Rattle.dynamo_de.specs.Source.{Text}
 use Rattle.dynamo_shape.specs.Conforms.{conforms, conform_fields}
 use Rattle.dynamo_shape.specs.Laws.{IsToldByValue, ToldAlike}
@@ -57,10 +58,6 @@ data_same ns (s ∷ ss) gs (d ∷ ds) (e ∷ es) n m k h =
     let hs = other_defaults gs in
     let p = first_same (first_name ns) s (first_default gs) (field_shapes ms ss hs) n.0 d e (named_fields ms hs ds) (named_fields ms hs es) (named_first ms ss hs ds m) (named_first ms ss hs es k) h in
     (p.0, data_same ms ss hs ds es n.1 m k p.1)
-
-abbrev fields_in : Datum → Fields
-fields_in (datum.struct name fs) = fs
-fields_in _ = datum.no_fields
 
 -- values that are the same where their data are, and the other way round
 module _ {V : Type 0} (name : Text) (ns : Names) (ss : Shapes) (gs : Defaults) (told : V → Data) (same : V → V → Type 0) (differ : NamesDiffer (field_shapes ns ss gs)) (many : (v : V) → AsMany ss (told v)) where

@@ -3,7 +3,8 @@ use Rattle.std.specs.Prelude.{[], Result}
 use Rattle.std.proofs.Common.{refl, sym, ap, subst}
 use Rattle.dynamo_value.specs.Fault.{Fault}
 use Rattle.dynamo_ser.specs.Datum as datum
-use Rattle.dynamo_ser.specs.Datum.{Datum, Elements, elements_of}
+use Rattle.dynamo_ser.specs.Datum.{Datum, elements_of}
+use Rattle.dynamo_ser.specs.Parts.{elements_in}
 use Rattle.dynamo_de.specs.Reads.{Through}
 use Rattle.dynamo_de.specs.Source.{Source, Text}
 use Rattle.dynamo_shape.specs.Conforms.{conforms, conform_each}
@@ -16,10 +17,6 @@ use Rattle.dynamo_record.specs.Fields.{ConformEach, shapes_of}
 use Rattle.dynamo_record.specs.InOrder.{each_element, elements_same, same_each}
 use Rattle.dynamo_record.specs.Listed.{AboutList}
 use Rattle.dynamo_record.specs.Newtypes.{ReadsAs, as_shape}
-
-abbrev pub elements_in : Datum → Elements
-elements_in (datum.tuple_struct name ds) = ds
-elements_in _ = datum.no_elements
 
 -- ---- the fields as the struct of this name
 

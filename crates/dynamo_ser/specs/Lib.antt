@@ -8,6 +8,7 @@ pub mod JsonValue
 pub mod Key
 pub mod Members
 pub mod Options
+pub mod Parts
 pub mod Pieces
 pub mod Symbols
 pub mod Without

@@ -20,6 +20,7 @@ use Rattle.dynamo_ser.specs.Symbols.{SetKind}
 use Rattle.dynamo_write.specs.Collect.{collect_onto}
 use Rattle.dynamo_write.specs.Set.{set_kind, as_set, named}
 use Rattle.dynamo_write.specs.Written.{written, written_elements, written_pairs, written_fields}
+use Rattle.dynamo_value.proofs.Steps.{bind_itself, bind_in_turn}
 use Rattle.dynamo_serde.specs.Symbol.{Symbol, a_set, set_or, other_named, named as symbol_named, taken, converted}
 use Rattle.dynamo_serde.specs.Sent.{Frame, State, whole, list, table, marked, start, filled, put_in, symbol_in, variant_in, share_in, made, Turns, Keys, Adds, Closes, TakesAll, IsValueOf}
 use Rattle.dynamo_serde.specs.Told.{events, elements_events, pairs_events, fields_events, natural, integer_event, newtype, under, in_seq, in_map, elements_count, pairs_count, fields_count, IsKeyTold, IsTold, AreTold, PairsTold, FieldsTold}
@@ -250,12 +251,8 @@ set_told name kind is es r inside bs t new run =
     let h = symbol_told name (a_set kind) (ap (λ k. set_or k (other_named name)) is) es r inside bs t new run in
     (h.1, h.4, ap (λ x. x >>= as_set kind) h.2 ∙ taken_so (as_set kind h.0) h.1 h.3, h.5, h.6)
 
-same_bind : (r : Result Av Fault) → r ≡ r >>= named None
-same_bind (Ok a) = refl
-same_bind (Err f) = refl
-
 newtype_told : (k : Option SetKind) (name : List ℕ) → set_kind name ≡ k → (es : List Event) (r : Result Av Fault) → PutsIn es r → PutsIn (newtype k name es) (r >>= named k)
-newtype_told None name is es r inside bs t new run = subst (λ x. Lands bs t x new) (same_bind r) (inside bs t new run)
+newtype_told None name is es r inside bs t new run = subst (λ x. Lands bs t x new) (sym (bind_itself r)) (inside bs t new run)
 newtype_told (Some kind) name is es r inside bs t new run = set_told name kind is es r inside bs t new run
 
 -- elements, entries and fields, after those that were put in
@@ -281,10 +278,6 @@ table_told n es r inside bs t new run =
     let h = inside (bs ++ t ∷ []) [] parts.0 parts.1 in
     let ends = map_ends_so bs t (table (collect_onto [] h.0) None 0) (av.M (members_of (collect_onto [] h.0))) new (λ f. not_shared f _ _) refl (subst (λ s. TakesAll s (map_ends ∷ []) new) h.2 parts.2) in
     (ends.0, ends.1, ap (λ x. x >>= λ more. Ok (av.M (members_of (collect_onto [] more)))) h.1 ∙ ends.2, ends.3, ends.4)
-
-two_steps : {X : Type 0} (r : Result X Fault) (f : X → Av) (g : Av → Av) → ((r >>= λ x. Ok (f x)) >>= λ a. Ok (g a)) ≡ (r >>= λ x. Ok (g (f x)))
-two_steps (Ok x) f g = refl
-two_steps (Err e) f g = refl
 
 all_ok : (x : Result (List ℕ) Fault) (y : Result Av Fault) (z : Result (List (List ℕ × Av)) Fault) (text : List ℕ) (a : Av) (more : List (List ℕ × Av))
     → x ≡ Ok text → y ≡ Ok a → z ≡ Ok more → (x >>= λ t. y >>= λ b. z >>= λ es. Ok ((t, b) ∷ es)) ≡ Ok ((text, a) ∷ more)
@@ -312,14 +305,14 @@ mutual
   told (datum.tuple_struct name ds) is bs t new run = seq_told (elements_count ds) (elements_events ds) (written_elements ds) (elements_told ds is) bs t new run
   told (datum.tuple_variant variant ds) is bs t new run =
       let under_name : Av → Av = λ a. av.M (members_of ((variant.name, a) ∷ [])) in
-      subst (λ r. Lands bs t r new) (two_steps (written_elements ds) av.L under_name)
+      subst (λ r. Lands bs t r new) (bind_in_turn (written_elements ds) (λ x. Ok (av.L x)) (λ a. Ok (under_name a)))
       (under_told variant.name is.0 (in_seq (elements_count ds) (elements_events ds)) (written_elements ds >>= λ as'. Ok (av.L as')) (seq_told (elements_count ds) (elements_events ds) (written_elements ds) (elements_told ds is.1)) bs t new run)
   told (datum.map ps) is bs t new run = table_told (pairs_count ps) (pairs_events ps) (written_pairs ps) (pairs_told ps is) bs t new run
   told (datum.struct name fs) is bs t new run = table_told (fields_count fs) (fields_events fs) (written_fields fs) (fields_told fs is) bs t new run
   told (datum.struct_variant variant fs) is bs t new run =
       let under_name : Av → Av = λ a. av.M (members_of ((variant.name, a) ∷ [])) in
       let map_of : List (List ℕ × Av) → Av = λ more. av.M (members_of (collect_onto [] more)) in
-      subst (λ r. Lands bs t r new) (two_steps (written_fields fs) map_of under_name)
+      subst (λ r. Lands bs t r new) (bind_in_turn (written_fields fs) (λ x. Ok (map_of x)) (λ a. Ok (under_name a)))
       (under_told variant.name is.0 (in_map (fields_count fs) (fields_events fs)) (written_fields fs >>= λ more. Ok (map_of more)) (table_told (fields_count fs) (fields_events fs) (written_fields fs) (fields_told fs is.1)) bs t new run)
   told (datum.refuse text) is bs t new run = absurd is
 

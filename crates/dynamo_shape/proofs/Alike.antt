@@ -1,10 +1,11 @@
 -- Each datum is the same as itself.
 use Rattle.std.proofs.Common.{◌≡◌, refl, subst, inl}
+use Rattle.dynamo_shape.proofs.Common.{Datum, some, newtype_struct, newtype_variant, seq, tuple}
+use Rattle.dynamo_shape.proofs.Common.{tuple_struct, tuple_variant, map, struct_variant, Pairs}
+use Rattle.dynamo_shape.proofs.Common.{no_pairs, pair, Fields, no_fields, field, ToldAlike, Same}
+use Rattle.dynamo_shape.proofs.Common.{SameElements, SamePairs, SameFields, Shape}
 use Rattle.dynamo_ser.specs.Datum as datum
-use Rattle.dynamo_ser.specs.Datum.{Datum, some, newtype_struct, newtype_variant, seq, tuple, tuple_struct, tuple_variant, map, struct, struct_variant, Pairs, no_pairs, pair, Fields, no_fields, field}
-use Rattle.dynamo_shape.specs.Laws.{ToldAlike}
-use Rattle.dynamo_shape.specs.Same.{Same, SameElements, SamePairs, SameFields}
-use Rattle.dynamo_shape.specs.Shape.{Shape}
+use Rattle.dynamo_ser.specs.Datum.{struct}
 
 mutual
   pub same_refl : (d : Datum) → Same d d

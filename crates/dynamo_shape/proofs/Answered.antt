@@ -1,12 +1,7 @@
 -- Answers of one step after another.
 use Rattle.std.proofs.Common.{Result, Ok, Err, refl}
-use Rattle.dynamo_value.specs.Fault.{Fault}
+use Rattle.dynamo_shape.proofs.Common.{Fault, Answer, After, ◌>>=◌, AnswersByShape, Permits, into}
 use Rattle.dynamo_de.specs.Answer as answer
-use Rattle.dynamo_de.specs.Answer.{Answer, After}
-use Rattle.dynamo_value.specs.Steps.{◌>>=◌}
-use Rattle.dynamo_shape.specs.Laws.{AnswersByShape}
-use Rattle.dynamo_shape.specs.Permits.{Permits}
-use Rattle.dynamo_shape.specs.Read.{into}
 
 -- a fault of the first step is the fault of all
 pub stops : {A B : Type 0} (R : A → A → Type 0) (Q : B → B → Type 0) (a : Answer A) (next : A → Answer B) (f : Fault) → Permits R a (Err f) → Permits Q (a >>= next) (Err f)

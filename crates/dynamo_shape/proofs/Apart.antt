@@ -1,11 +1,9 @@
 -- Data that hold no map are the same only where they are equal.
 use Rattle.std.proofs.Common.{◌≡◌, Bool, true, false, sym, ap, ◌∙◌}
-use Rattle.std.specs.Prelude.{◌&&◌}
-use Rattle.std.proofs.lemmas.Bool.{true≢false, and_parts}
+use Rattle.dynamo_shape.proofs.Common.{true≢false, and_parts, Datum, Elements, Fields, ToldApart}
+use Rattle.dynamo_shape.proofs.Common.{Same, SameElements, SameFields}
 use Rattle.dynamo_ser.specs.Datum as datum
-use Rattle.dynamo_ser.specs.Datum.{Datum, Elements, Fields}
-use Rattle.dynamo_shape.specs.Laws.{ToldApart}
-use Rattle.dynamo_shape.specs.Same.{Same, SameElements, SameFields}
+use Rattle.std.specs.Prelude.{◌&&◌}
 
 abbrev mutual
   pub holds_no_map : Datum → Bool

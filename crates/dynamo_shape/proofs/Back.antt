@@ -1,8 +1,24 @@
 -- What is written at a nearly clear shape reads back.
 use Rattle.std.proofs.Common.{◌≡◌, ◌⊎◌, ℕ, suc, true, false, cond, List, Ok, Some, None, refl, sym, subst, inl, inr}
-use Rattle.std.specs.Prelude.{bytes_eq, encode_utf8}
-use Rattle.std.specs.Fmt.{signed_decimal}
-use Rattle.dynamo_de.proofs.Decimals.{parse_back}
+use Rattle.dynamo_shape.proofs.Common.{bytes_eq, encode_utf8, signed_decimal, parse_back, Answer}
+use Rattle.dynamo_shape.proofs.Common.{value, attribute, Text, Source, values_of, entries_of}
+use Rattle.dynamo_shape.proofs.Common.{Variant, Datum, Fields, AliasesApart, is_variant, is_tagged}
+use Rattle.dynamo_shape.proofs.Common.{is_field, NearlyClear, NearlyClearAll, NearlyClearFields}
+use Rattle.dynamo_shape.proofs.Common.{NearlyClearContent, NearlyClearVariants, NearlyClearTagged}
+use Rattle.dynamo_shape.proofs.Common.{AllElements, conforms, conform_each, conform_fields}
+use Rattle.dynamo_shape.proofs.Common.{conforms_content, conforms_variant, conforms_tagged}
+use Rattle.dynamo_shape.proofs.Common.{tagged_struct, is_null, kept, kept_elements, IsAscending}
+use Rattle.dynamo_shape.proofs.Common.{sorted, read_list, read_each, read, read_one_of, read_inside}
+use Rattle.dynamo_shape.proofs.Common.{read_tag, read_tagged, ReadsBack, Same, SameElements, Shape}
+use Rattle.dynamo_shape.proofs.Common.{boolean, char, string, bytes, unit, integer, unit_struct}
+use Rattle.dynamo_shape.proofs.Common.{option, newtype, list, set, struct, struct_by, enum, tagged}
+use Rattle.dynamo_shape.proofs.Common.{ordered, Shapes, no_shapes, FieldShapes, no_field_shapes}
+use Rattle.dynamo_shape.proofs.Common.{field_shape, Content, nothing, one, several, named, Variants}
+use Rattle.dynamo_shape.proofs.Common.{no_variants, variant, Tagged, no_tagged, tagged_variant, Av}
+use Rattle.dynamo_shape.proofs.Common.{N, S, B, Boolean, Null, L, M, Members, members_of, collect}
+use Rattle.dynamo_shape.proofs.Common.{set_kind, one_member, written, written_elements, shape}
+use Rattle.dynamo_value.specs.Av as av
+use Rattle.dynamo_ser.specs.Datum as datum
 use Rattle.dynamo_shape.proofs.Keys.{key_back}
 use Rattle.dynamo_shape.proofs.Flat.{shape_clear}
 use Rattle.dynamo_shape.proofs.LeftOut.{left_back, default_back}
@@ -13,25 +29,8 @@ use Rattle.dynamo_shape.proofs.Rules.{named_by_rules}
 use Rattle.dynamo_shape.proofs.Structs.{FieldsBack, no_fields_back, field_back, all_named, behind_tag}
 use Rattle.dynamo_shape.proofs.Found.{or_false, same_bytes}
 use Rattle.dynamo_shape.proofs.Results.{chars-encode}
-use Rattle.dynamo_value.specs.Av as av
-use Rattle.dynamo_ser.specs.Datum as datum
-use Rattle.dynamo_de.specs.Answer.{Answer, value}
-use Rattle.dynamo_de.specs.Source.{attribute, Text, Source, values_of, entries_of}
-use Rattle.dynamo_ser.specs.Datum.{Variant, Datum, Fields}
 use Rattle.dynamo_shape.specs.NameRules.{NameRules}
-use Rattle.dynamo_shape.specs.Clear.{AliasesApart}
-use Rattle.dynamo_shape.specs.Clear.{is_variant, is_tagged, is_field, NearlyClear, NearlyClearAll, NearlyClearFields, NearlyClearContent, NearlyClearVariants, NearlyClearTagged}
-use Rattle.dynamo_shape.specs.Conforms.{AllElements, conforms, conform_each, conform_fields, conforms_content, conforms_variant, conforms_tagged, tagged_struct}
-use Rattle.dynamo_shape.specs.Kept.{is_null, kept, kept_elements}
-use Rattle.dynamo_shape.specs.Order.{IsAscending, sorted}
-use Rattle.dynamo_shape.specs.Read.{read_list, read_each, read, read_one_of, read_inside, read_tag, read_tagged}
-use Rattle.dynamo_shape.specs.ReadsBack.{ReadsBack}
-use Rattle.dynamo_shape.specs.Same.{Same, SameElements}
-use Rattle.dynamo_shape.specs.Shape.{Shape, boolean, char, string, bytes, unit, integer, unit_struct, option, newtype, list, set, tuple, tuple_struct, map, struct, struct_by, enum, tagged, ordered, Shapes, no_shapes, shape, FieldShapes, no_field_shapes, field_shape, Content, nothing, one, several, named, Variants, no_variants, variant, Tagged, no_tagged, tagged_variant}
-use Rattle.dynamo_value.specs.Av.{Av, N, S, B, Boolean, Null, L, M, Members, members_of}
-use Rattle.dynamo_write.specs.Collect.{collect}
-use Rattle.dynamo_write.specs.Set.{set_kind}
-use Rattle.dynamo_write.specs.Written.{one_member, written, written_elements}
+use Rattle.dynamo_shape.specs.Shape.{tuple, tuple_struct, map}
 
 -- some of what is read, unless it is null
 option_at : (s : Shape) (x y : Datum) (a : Av) → read s (attribute a) ≡ value y → Same x y → (e : Datum) × (read (option s) (attribute a) ≡ value e) × Same (cond (is_null a) datum.none (datum.some x)) e

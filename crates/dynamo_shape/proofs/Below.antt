@@ -1,18 +1,11 @@
 -- The order of the members of a set is one, and goes by keys and byte strings alone.
 use Rattle.std.proofs.Common.{◌≡◌, true, false, refl, sym, ap, subst, ◌∙◌}
-use Rattle.std.specs.Prelude.{bytes_eq}
-use Rattle.std.proofs.lemmas.Bool.{true≢false, and_parts}
-use Rattle.std.specs.Cmp.{IsTotalOrder, nat_cmp_total, int_cmp_total, bool_cmp_total}
-use Rattle.std.specs.Cmp.Derive.{one_truth}
-use Rattle.std.specs.Cmp.Lexicographic.{slice_cmp, nat_list_cmp_total}
-use Rattle.std.specs.Ordering.{is_lt, ordering_reverse, nat_cmp, int_cmp, bool_cmp}
-use Rattle.std.specs.declared.cmp.Ordering.{Ordering}
-use Rattle.std.specs.declared.cmp.Ordering.TheVariants.{Less, Equal, Greater}
-use Rattle.dynamo_ser.specs.Datum.{Datum, boolean, integer, char, string, bytes, unit_variant, newtype_struct}
-use Rattle.dynamo_shape.specs.Kept.{kept}
-use Rattle.dynamo_shape.specs.Order.{is_below}
-use Rattle.dynamo_shape.specs.Same.{Same}
-use Rattle.dynamo_shape.specs.SameKey.{same_key}
+use Rattle.dynamo_shape.proofs.Common.{bytes_eq, true≢false, and_parts, IsTotalOrder, nat_cmp_total}
+use Rattle.dynamo_shape.proofs.Common.{int_cmp_total, bool_cmp_total, one_truth, slice_cmp}
+use Rattle.dynamo_shape.proofs.Common.{nat_list_cmp_total, is_lt, ordering_reverse, nat_cmp}
+use Rattle.dynamo_shape.proofs.Common.{int_cmp, bool_cmp, Ordering, Less, Equal, Greater, Datum}
+use Rattle.dynamo_shape.proofs.Common.{unit_variant, newtype_struct, kept, is_below, Same, same_key}
+use Rattle.dynamo_ser.specs.Datum.{boolean, integer, char, string, bytes}
 use Rattle.dynamo_shape.proofs.Equivalence.{same_sym}
 use Rattle.dynamo_shape.proofs.Found.{same_bytes}
 use Rattle.dynamo_shape.proofs.Pairs.{IsKeyDatum, same_is, self_kind, self_integer, self_number, self_variant, self_bool}

@@ -1,18 +1,9 @@
 -- Reading by hand as a shape says: answers in step.
 use Rattle.std.proofs.Common.{◌≡◌, Option, Some, None, Result, Ok, Err, refl, sym, ap, subst}
-use Rattle.dynamo_value.specs.Fault.{Fault}
+use Rattle.dynamo_shape.proofs.Common.{Fault, Datum, option_tells, Answer, After, Gives, Is, ◌>>=◌}
+use Rattle.dynamo_shape.proofs.Common.{read_content, ReadsOption, Source, AnswersByShape, read}
+use Rattle.dynamo_shape.proofs.Common.{into, read_some, Same, Shape, option}
 use Rattle.dynamo_ser.specs.Datum as datum
-use Rattle.dynamo_ser.specs.Datum.{Datum}
-use Rattle.dynamo_ser.specs.Options.{option_tells}
-use Rattle.dynamo_de.specs.Answer.{Answer, After, Gives, Is}
-use Rattle.dynamo_value.specs.Steps.{◌>>=◌}
-use Rattle.dynamo_de.specs.Reading.{read_content}
-use Rattle.dynamo_de.specs.Reads.{ReadsOption}
-use Rattle.dynamo_de.specs.Source.{Source}
-use Rattle.dynamo_shape.specs.Laws.{AnswersByShape}
-use Rattle.dynamo_shape.specs.Read.{read, into, read_some}
-use Rattle.dynamo_shape.specs.Same.{Same}
-use Rattle.dynamo_shape.specs.Shape.{Shape, option}
 use Rattle.dynamo_shape.proofs.Alike.{same_refl}
 
 -- reading at the shape is this reading, made into data

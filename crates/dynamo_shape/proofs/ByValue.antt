@@ -1,35 +1,13 @@
 -- Values that tell the same data are the same by value, and values that are the same by value tell the same data.
 use Rattle.std.proofs.Common.{List, [], ◌∷◌, Some, None, refl, sym, ap, subst}
-use Rattle.std.specs.Prelude.{⊤}
-use Rattle.std.specs.declared.alloc.Global.{Global}
-use Rattle.std.specs.declared.vec.Vec.{Vec}
+use Rattle.dynamo_shape.proofs.Common.{⊤, Global, Vec, Datum, Elements, elements_of, option_tells}
+use Rattle.dynamo_shape.proofs.Common.{SameEach, SameOption, conforms, conform_each, AllElements}
+use Rattle.dynamo_shape.proofs.Common.{IsToldByValue, ToldAlike, Same, SameElements, Shape, Shapes}
+use Rattle.dynamo_shape.proofs.Common.{no_shapes}
 use Rattle.dynamo_ser.specs.Datum as datum
-use Rattle.dynamo_ser.specs.Datum.{Datum, Elements, elements_of}
-use Rattle.dynamo_ser.specs.Options.{option_tells}
-use Rattle.dynamo_shape.specs.ByValue.{SameEach, SameOption}
-use Rattle.dynamo_shape.specs.Conforms.{conforms, conform_each, AllElements}
-use Rattle.dynamo_shape.specs.Laws.{IsToldByValue, ToldAlike}
-use Rattle.dynamo_shape.specs.Same.{Same, SameElements}
 use Rattle.dynamo_shape.specs.Shape as shape
-use Rattle.dynamo_shape.specs.Shape.{Shape, Shapes, no_shapes}
+use Rattle.dynamo_ser.specs.Parts.{content_in, elements_in, head_in, tail_in}
 use Rattle.dynamo_shape.proofs.Lists.{told_each, some_conforms}
-
-abbrev elements_in : Datum → Elements
-elements_in (datum.seq ds) = ds
-elements_in (datum.tuple ds) = ds
-elements_in _ = datum.no_elements
-
-abbrev content_in : Datum → Datum
-content_in (datum.some d) = d
-content_in d = d
-
-abbrev head_in : Elements → Datum
-head_in (datum.element d ds) = d
-head_in datum.no_elements = datum.unit
-
-abbrev tail_in : Elements → Elements
-tail_in (datum.element d ds) = ds
-tail_in datum.no_elements = datum.no_elements
 
 abbrev IsSome : Datum → Type 0
 IsSome (datum.some d) = ⊤

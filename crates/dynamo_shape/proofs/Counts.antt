@@ -1,27 +1,17 @@
 -- A map of n entries is written as n entries.
 use Rattle.std.proofs.Common.{◌≡◌, ℕ, suc, ◌+◌, false, List, [], ◌∷◌, length, Ok, Less, Equal, Greater, refl, sym, ap, ◌∙◌, inl, inr, arith}
-use Rattle.std.specs.Prelude.{bytes_eq}
-use Rattle.std.specs.List.{AllByRecursion}
-use Rattle.std.specs.FinMap.Entries.{put, by_order}
-use Rattle.std.proofs.lemmas.Bool.{true≢false, cases_Bool}
-use Rattle.std.proofs.lemmas.Slice.Eq.{bytes_eq-Decides}
-use Rattle.dynamo_shape.proofs.Results.{ok_same, bind_ok}
+use Rattle.dynamo_shape.proofs.Common.{bytes_eq, AllByRecursion, put, by_order, true≢false}
+use Rattle.dynamo_shape.proofs.Common.{cases_Bool, bytes_eq-Decides, Text, Datum, map, Pairs}
+use Rattle.dynamo_shape.proofs.Common.{no_pairs, pair, NearlyClear, conforms, count, count_pairs}
+use Rattle.dynamo_shape.proofs.Common.{KeepsCount, Shape, Av, members_of, text_cmp, collect}
+use Rattle.dynamo_shape.proofs.Common.{collect_onto, written, written_pairs}
+use Rattle.dynamo_shape.specs.Shape as shape
+use Rattle.dynamo_value.proofs.Steps.{ok_same, bind_ok}
 use Rattle.dynamo_shape.proofs.Members.{same_cmp}
 use Rattle.dynamo_shape.proofs.Keys.{key_back}
 use Rattle.dynamo_shape.proofs.Maps.{Fresh, Distinct, pairs_back, pairs_weaker, distinct_back}
 use Rattle.dynamo_shape.proofs.Back.{back}
-use Rattle.dynamo_shape.specs.Shape as shape
-use Rattle.dynamo_de.specs.Source.{Text}
-use Rattle.dynamo_ser.specs.Datum.{Datum, map, Pairs, no_pairs, pair}
 use Rattle.dynamo_ser.specs.Key.{key_text}
-use Rattle.dynamo_shape.specs.Clear.{NearlyClear}
-use Rattle.dynamo_shape.specs.Conforms.{conforms}
-use Rattle.dynamo_shape.specs.ReadsBack.{count, count_pairs, KeepsCount}
-use Rattle.dynamo_shape.specs.Shape.{Shape}
-use Rattle.dynamo_value.specs.Av.{Av, members_of}
-use Rattle.dynamo_value.specs.View.{text_cmp}
-use Rattle.dynamo_write.specs.Collect.{collect, collect_onto}
-use Rattle.dynamo_write.specs.Written.{written, written_pairs}
 
 turned : (t u : Text) → bytes_eq t u ≡ false → bytes_eq u t ≡ false
 turned t u h = elim (cases_Bool (bytes_eq u t)) [ inl e ↦ absurd (true≢false (sym ((bytes_eq-Decides t u).1 (sym ((bytes_eq-Decides u t).0 e))) ∙ h)) | inr e ↦ e ]

@@ -1,10 +1,12 @@
 -- Being the same is symmetric and transitive.
 use Rattle.std.proofs.Common.{refl, sym, subst, inl, inr}
 use Rattle.dynamo_shape.proofs.Alike.{same_refl}
+use Rattle.dynamo_shape.proofs.Common.{Datum, some, newtype_struct, newtype_variant, seq, tuple}
+use Rattle.dynamo_shape.proofs.Common.{tuple_struct, tuple_variant, map, struct_variant, Pairs}
+use Rattle.dynamo_shape.proofs.Common.{no_pairs, pair, Fields, no_fields, field, Without, Same}
+use Rattle.dynamo_shape.proofs.Common.{SameElements, SamePairs, SameFields}
 use Rattle.dynamo_ser.specs.Datum as datum
-use Rattle.dynamo_ser.specs.Datum.{Datum, some, newtype_struct, newtype_variant, seq, tuple, tuple_struct, tuple_variant, map, struct, struct_variant, Pairs, no_pairs, pair, Fields, no_fields, field}
-use Rattle.dynamo_ser.specs.Without.{Without}
-use Rattle.dynamo_shape.specs.Same.{Same, SameElements, SamePairs, SameFields}
+use Rattle.dynamo_ser.specs.Datum.{struct}
 
 -- a pair put back on both sides
 same_back : (qs : Pairs) (l e : Datum) (rest : Pairs) (k d : Datum) (ps : Pairs) → Without qs l e rest → Same l k → Same e d → SamePairs rest ps → SamePairs qs (pair k d ps)

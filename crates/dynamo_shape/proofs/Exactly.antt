@@ -1,22 +1,10 @@
 -- What is read permits flat d, and only what is the same.
 use Rattle.std.proofs.Common.{◌≡◌, ◌↔◌, Result, Ok, Err, sym, ap, subst, ◌∙◌}
-use Rattle.dynamo_shape.proofs.Results.{ok_same}
+use Rattle.dynamo_value.proofs.Steps.{ok_same}
 use Rattle.dynamo_shape.proofs.Equivalence.{same_sym, same_trans}
 use Rattle.dynamo_shape.proofs.Back.{back}
-use Rattle.dynamo_de.specs.Answer.{value}
-use Rattle.dynamo_de.specs.Source.{attribute}
-use Rattle.dynamo_ser.specs.Datum.{Datum}
-use Rattle.dynamo_shape.specs.Clear.{NearlyClear}
-use Rattle.dynamo_shape.specs.Conforms.{conforms}
-use Rattle.dynamo_shape.specs.Kept.{kept}
-use Rattle.dynamo_shape.specs.Permits.{Permits}
-use Rattle.dynamo_shape.specs.Read.{read}
-use Rattle.dynamo_shape.specs.ReadsBack.{ReadsExactly}
-use Rattle.dynamo_shape.specs.Same.{Same}
-use Rattle.dynamo_shape.specs.Shape.{Shape}
-use Rattle.dynamo_value.specs.Av.{Av}
-use Rattle.dynamo_value.specs.Fault.{Fault}
-use Rattle.dynamo_write.specs.Written.{written}
+use Rattle.dynamo_shape.proofs.Common.{value, attribute, Datum, NearlyClear, conforms, kept}
+use Rattle.dynamo_shape.proofs.Common.{Permits, read, ReadsExactly, Same, Shape, Av, Fault, written}
 
 agree : (x y : Datum) (r : Result Datum Fault) → Same y x → (Permits Same (value x) r ↔ Permits Same (value y) r)
 agree x y (Ok z) h = ((λ k. same_trans y x z h k), λ k. same_trans x y z (same_sym y x h) k)

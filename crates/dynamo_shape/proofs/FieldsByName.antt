@@ -1,20 +1,16 @@
 -- A struct that is read by hand, entry by entry, each field by its name, reads as its shape says.
 use Rattle.std.proofs.Common.{◌≡◌, ℕ, zero, suc, true, false, cond, List, [], ◌∷◌, Option, Some, None, refl, sym, ap, ◌∙◌, Ok, Err}
-use Rattle.std.specs.Prelude.{⊤, if◌then◌else◌, bytes_eq}
-use Rattle.std.proofs.lemmas.Slice.Eq.{bytes_eq-Decides}
-use Rattle.dynamo_value.specs.Av.{Av}
+use Rattle.dynamo_value.proofs.Steps.{bind_in_turn}
+use Rattle.dynamo_shape.proofs.Common.{⊤, if◌then◌else◌, bytes_eq, bytes_eq-Decides, Av, Datum}
+use Rattle.dynamo_shape.proofs.Common.{Fields, Answer, value_or, ◌>>=◌, Source, Text, Entry}
+use Rattle.dynamo_shape.proofs.Common.{attribute, Absence, put_field, is_field, read, into}
+use Rattle.dynamo_shape.proofs.Common.{read_field, read_each_entry, last_of, missing, fields_among}
+use Rattle.dynamo_shape.proofs.Common.{fields_by_name, Shape, FieldShapes, no_field_shapes}
+use Rattle.dynamo_shape.proofs.Common.{field_shape}
 use Rattle.dynamo_ser.specs.Datum as datum
-use Rattle.dynamo_ser.specs.Datum.{Datum, Fields}
 use Rattle.dynamo_de.specs.Answer as answer
-use Rattle.dynamo_de.specs.Answer.{Answer, value_or}
-use Rattle.dynamo_value.specs.Steps.{◌>>=◌}
 use Rattle.dynamo_de.specs.Fields.{read_fields}
 use Rattle.dynamo_de.specs.Ignored.{ignore}
-use Rattle.dynamo_de.specs.Source.{Source, Text, Entry, attribute}
-use Rattle.dynamo_shape.specs.Absence.{Absence, put_field}
-use Rattle.dynamo_shape.specs.Clear.{is_field}
-use Rattle.dynamo_shape.specs.Read.{read, into, read_field, read_each_entry, last_of, missing, fields_among, fields_by_name}
-use Rattle.dynamo_shape.specs.Shape.{Shape, FieldShapes, no_field_shapes, field_shape}
 use Rattle.dynamo_shape.proofs.ByHand.{IsReadAs, Both, both_made, both_weaker, both_next}
 use Rattle.dynamo_shape.proofs.Found.{Unseen, unseen_none, unseen_more, or_false}
 
@@ -147,10 +143,6 @@ module _ {F S B : Type 0} (entry : F → S → Av → Answer S) (slots : S → S
   pushed t d (Ok l) os = ap (λ x. into make (close fs x)) (after_filled fs t d l os differ)
   pushed t d (Err f) os = refl
 
-  regrouped : {X Y : Type 0} (a : Answer X) (f : X → Answer Y) (g : Y → Answer B) → (a >>= λ x. f x >>= g) ≡ ((a >>= f) >>= g)
-  regrouped (Ok x) f g = refl
-  regrouped (Err e) f g = refl
-
   from_here : (es : List Entry) (u : S) → read_fields named entry finish u es ≡ (read_each_entry (read_field fs) es >>= λ l. closed l (slots u))
   unfolding read_fields Reads
   from_here [] u = finishes u ∙ ap (into make) (sym (close_none fs (slots u)))
@@ -158,7 +150,7 @@ module _ {F S B : Type 0} (entry : F → S → Av → Answer S) (slots : S → S
       both_next (λ new d. slots new ≡ fill_named fs e.0 d (slots u)) (λ new. read_fields named entry finish new es) (λ d. (read_each_entry (read_field fs) es >>= λ l. answer.value ((e.0, d) ∷ l)) >>= λ l. closed l (slots u))
       (λ new d h. from_here es new ∙ ap (λ os. read_each_entry (read_field fs) es >>= λ l. closed l os) h ∙ pushed e.0 d (read_each_entry (read_field fs) es) (slots u))
       (entry (named e.0) u e.1) (read_field fs e.0 e.1) (reads e.0 u e.1)
-      ∙ regrouped (read_field fs e.0 e.1) (λ d. read_each_entry (read_field fs) es >>= λ l. answer.value ((e.0, d) ∷ l)) (λ l. closed l (slots u))
+      ∙ sym (bind_in_turn (read_field fs e.0 e.1) (λ d. read_each_entry (read_field fs) es >>= λ l. answer.value ((e.0, d) ∷ l)) (λ l. closed l (slots u)))
 
   among : (rest : Answer (List (Text × Datum))) → (rest >>= λ l. closed l (empty fs)) ≡ into make (rest >>= fields_among fs [])
   among (Ok l) = ap (into make) (close_among fs [] l differ (unseen_none fs))

@@ -1,39 +1,18 @@
 -- Structs, sets and newtypes that tell the same data are the same by value, part by part, and the other way round.
 use Rattle.std.proofs.Common.{◌≡◌, Bool, true, false, cond, refl, sym, ap, subst, ◌∙◌}
-use Rattle.std.specs.Prelude.{⊤}
-use Rattle.std.proofs.lemmas.Bool.{true≢false}
-use Rattle.std.specs.declared.alloc.Global.{Global}
-use Rattle.std.specs.declared.vec.Vec.{Vec}
+use Rattle.dynamo_shape.proofs.Common.{⊤, true≢false, Global, Vec, Datum, Elements, Fields, SetKind}
+use Rattle.dynamo_shape.proofs.Common.{symbol, Text, Absence, is_left_out, put_field, SameEach}
+use Rattle.dynamo_shape.proofs.Common.{is_field, conforms, conform_fields, AllElements}
+use Rattle.dynamo_shape.proofs.Common.{IsToldByValue, ToldAlike, Same, SameFields, Shape}
+use Rattle.dynamo_shape.proofs.Common.{FieldShapes, no_field_shapes, field_shape}
 use Rattle.dynamo_ser.specs.Datum as datum
-use Rattle.dynamo_ser.specs.Datum.{Datum, Elements, Fields}
-use Rattle.dynamo_ser.specs.Symbols.{SetKind, symbol}
-use Rattle.dynamo_de.specs.Source.{Text}
-use Rattle.dynamo_shape.specs.Absence.{Absence, is_left_out, put_field}
-use Rattle.dynamo_shape.specs.ByValue.{SameEach}
-use Rattle.dynamo_shape.specs.Clear.{is_field}
-use Rattle.dynamo_shape.specs.Conforms.{conforms, conform_fields, AllElements}
-use Rattle.dynamo_shape.specs.Laws.{IsToldByValue, ToldAlike}
-use Rattle.dynamo_shape.specs.Same.{Same, SameFields}
 use Rattle.dynamo_shape.specs.Shape as shape
-use Rattle.dynamo_shape.specs.Shape.{Shape, FieldShapes, no_field_shapes, field_shape}
+use Rattle.dynamo_ser.specs.Parts.{content_in, elements_in, fields_in, first_in, others_in}
 use Rattle.dynamo_shape.proofs.Alike.{same_refl}
 use Rattle.dynamo_shape.proofs.Found.{is_first, is_later}
 use Rattle.dynamo_shape.proofs.LeftOut.{left_alike, one_left}
 use Rattle.dynamo_shape.proofs.ByValue.{list_told, list_alike}
 use Rattle.dynamo_shape.proofs.Lists.{told_each}
-
-abbrev fields_in : Datum → Fields
-fields_in (datum.struct name fs) = fs
-fields_in (datum.struct_variant v fs) = fs
-fields_in _ = datum.no_fields
-
-abbrev first_in : Fields → Datum
-first_in (datum.field name d fs) = d
-first_in datum.no_fields = datum.unit
-
-abbrev others_in : Fields → Fields
-others_in (datum.field name d fs) = fs
-others_in datum.no_fields = datum.no_fields
 
 -- ---- a field in front, unless it is left out
 
@@ -163,14 +142,6 @@ unfolding AreToldAlike
 struct_alike name fs fields same h v w c d e = (fields w, refl, h.1 v w (subst (conform_fields fs) (sym (ap fields_in c.1)) c.2) (subst (conform_fields fs) (sym (ap fields_in d.1)) d.2) e)
 
 -- ---- sets
-
-abbrev content_in : Datum → Datum
-content_in (datum.newtype_struct name d) = d
-content_in d = d
-
-abbrev elements_in : Datum → Elements
-elements_in (datum.newtype_struct name (datum.seq ds)) = ds
-elements_in _ = datum.no_elements
 
 in_set : (k : SetKind) (s : Shape) (ds : Elements) → conforms (shape.set k s) (datum.newtype_struct (symbol k) (datum.seq ds)) → conforms (shape.list s) (datum.seq ds)
 in_set k s ds c = (ds, refl, subst (AllElements (conforms s)) (sym (ap elements_in c.1)) c.2)

@@ -2,21 +2,28 @@
 use Rattle.std.proofs.Common.{◌≡◌, ℕ, suc, Bool, true, false, cond, List, Result, Ok, Err, Option, Some, None, refl, sym, ap, ◌∙◌, inl, inr}
 use Rattle.dynamo_shape.proofs.Keys.{key_back, units_back}
 use Rattle.dynamo_shape.proofs.Sets.{symbol_kind}
+use Rattle.dynamo_shape.proofs.Common.{Text, Datum, Pairs, no_pairs, pair, Fields, field, Variant}
+use Rattle.dynamo_shape.proofs.Common.{SetKind, strings, numbers, blobs, symbol, Absence, required}
+use Rattle.dynamo_shape.proofs.Common.{read_as, left_out, is_left_out, IsElement, AndLeftOut}
+use Rattle.dynamo_shape.proofs.Common.{NearlyClear, NearlyClearAll, NearlyClearFields}
+use Rattle.dynamo_shape.proofs.Common.{NearlyClearContent, NearlyClearVariants, NearlyClearTagged}
+use Rattle.dynamo_shape.proofs.Common.{NoneNested, NoneNestedAll, NoneNestedFields}
+use Rattle.dynamo_shape.proofs.Common.{NoneNestedContent, NoneNestedVariants, NoneNestedTagged}
+use Rattle.dynamo_shape.proofs.Common.{Nullable, Clear, AllElements, AllPairs, conforms}
+use Rattle.dynamo_shape.proofs.Common.{conform_each, conform_fields, conforms_content}
+use Rattle.dynamo_shape.proofs.Common.{conforms_variant, conforms_tagged, tagged_struct, is_null}
+use Rattle.dynamo_shape.proofs.Common.{kept, kept_elements, kept_pairs, kept_fields}
+use Rattle.dynamo_shape.proofs.Common.{is_written_null, Shape, boolean, char, string, bytes, unit}
+use Rattle.dynamo_shape.proofs.Common.{integer, unit_struct, option, newtype, list, set, struct}
+use Rattle.dynamo_shape.proofs.Common.{struct_by, enum, tagged, ordered, Shapes, no_shapes}
+use Rattle.dynamo_shape.proofs.Common.{FieldShapes, no_field_shapes, field_shape, Content, nothing}
+use Rattle.dynamo_shape.proofs.Common.{one, several, named, Variants, no_variants, variant, Tagged}
+use Rattle.dynamo_shape.proofs.Common.{no_tagged, tagged_variant, Av, L, Fault, ◌>>=◌, set_of}
+use Rattle.dynamo_shape.proofs.Common.{set_elements, written, written_elements, written_pairs}
+use Rattle.dynamo_shape.proofs.Common.{written_fields, shape}
 use Rattle.dynamo_ser.specs.Datum as datum
 use Rattle.dynamo_write.specs.Set as sets
-use Rattle.dynamo_de.specs.Source.{Text}
-use Rattle.dynamo_ser.specs.Datum.{Datum, Pairs, no_pairs, pair, Fields, field, Variant}
-use Rattle.dynamo_ser.specs.Symbols.{SetKind, strings, numbers, blobs, symbol}
-use Rattle.dynamo_shape.specs.Absence.{Absence, required, read_as, left_out, is_left_out}
-use Rattle.dynamo_shape.specs.Clear.{IsElement, AndLeftOut, NearlyClear, NearlyClearAll, NearlyClearFields, NearlyClearContent, NearlyClearVariants, NearlyClearTagged, NoneNested, NoneNestedAll, NoneNestedFields, NoneNestedContent, NoneNestedVariants, NoneNestedTagged, Nullable, Clear}
-use Rattle.dynamo_shape.specs.Conforms.{AllElements, AllPairs, conforms, conform_each, conform_fields, conforms_content, conforms_variant, conforms_tagged, tagged_struct}
-use Rattle.dynamo_shape.specs.Kept.{is_null, kept, kept_elements, kept_pairs, kept_fields, is_written_null}
-use Rattle.dynamo_shape.specs.Shape.{Shape, boolean, char, string, bytes, unit, integer, unit_struct, option, newtype, list, set, tuple, tuple_struct, map, struct, struct_by, enum, tagged, ordered, Shapes, no_shapes, shape, FieldShapes, no_field_shapes, field_shape, Content, nothing, one, several, named, Variants, no_variants, variant, Tagged, no_tagged, tagged_variant}
-use Rattle.dynamo_value.specs.Av.{Av, L}
-use Rattle.dynamo_value.specs.Fault.{Fault}
-use Rattle.dynamo_value.specs.Steps.{◌>>=◌}
-use Rattle.dynamo_write.specs.Set.{set_of, set_elements}
-use Rattle.dynamo_write.specs.Written.{written, written_elements, written_pairs, written_fields}
+use Rattle.dynamo_shape.specs.Shape.{tuple, tuple_struct, map}
 
 some_null : {A : Type 0} (r : Result A Fault) (f : A → Av) → ((x : A) → is_null (f x) ≡ false) → is_written_null (r >>= λ x. Ok (f x)) ≡ false
 some_null (Ok x) f h = h x

@@ -1,15 +1,9 @@
 -- A struct's entries and their names.
 use Rattle.std.proofs.Common.{◌≡◌, Bool, true, false, ◌||◌, List, [], ◌∷◌, Some, refl, sym, ap, ◌∙◌, inl, inr}
-use Rattle.std.specs.Prelude.{⊤, bytes_eq}
-use Rattle.std.specs.List.{list_any, AllByRecursion}
-use Rattle.std.proofs.lemmas.Bool.{true≢false, cases_Bool}
-use Rattle.std.proofs.lemmas.Slice.Eq.{bytes_eq-Decides}
+use Rattle.dynamo_shape.proofs.Common.{⊤, bytes_eq, list_any, AllByRecursion, true≢false}
+use Rattle.dynamo_shape.proofs.Common.{cases_Bool, bytes_eq-Decides, Text, Absence, is_field, Shape}
+use Rattle.dynamo_shape.proofs.Common.{FieldShapes, no_field_shapes, field_shape, Av, Members}
 use Rattle.dynamo_shape.proofs.Members.{get_member}
-use Rattle.dynamo_de.specs.Source.{Text}
-use Rattle.dynamo_shape.specs.Absence.{Absence}
-use Rattle.dynamo_shape.specs.Clear.{is_field}
-use Rattle.dynamo_shape.specs.Shape.{Shape, FieldShapes, no_field_shapes, field_shape}
-use Rattle.dynamo_value.specs.Av.{Av, Members}
 
 pub or_false : (a b : Bool) → (a || b) ≡ false → (a ≡ false) × (b ≡ false)
 or_false true b h = absurd (true≢false h)

@@ -1,16 +1,11 @@
 -- The members of a hashed set, in their order: they ascend, and are the same members.
 use Rattle.std.proofs.Common.{◌≡◌, Bool, true, false, ◌||◌, List, [], ◌∷◌, refl, sym, ap, subst, ◌∙◌}
 use Rattle.std.specs.BTreeSet.{insert_key}
-use Rattle.std.specs.Cmp.{IsTotalOrder}
-use Rattle.std.specs.Cmp.Derive.{one_truth}
-use Rattle.std.specs.List.{AllByRecursion, list_any}
+use Rattle.dynamo_shape.proofs.Common.{IsTotalOrder, one_truth, AllByRecursion, list_any, eq_by_cmp}
+use Rattle.dynamo_shape.proofs.Common.{is_eq, match_ordering, ordering_reverse, Ordering, Less}
+use Rattle.dynamo_shape.proofs.Common.{Equal, Greater, Datum, EqualAsTold}
 use Rattle.std.specs.List.Sorted.{IsStrictlySortedBy}
-use Rattle.std.specs.Ordering.{eq_by_cmp, is_eq, match_ordering, ordering_reverse}
-use Rattle.std.specs.declared.cmp.Ordering.{Ordering}
-use Rattle.std.specs.declared.cmp.Ordering.TheVariants.{Less, Equal, Greater}
-use Rattle.dynamo_ser.specs.Datum.{Datum}
 use Rattle.dynamo_ser.specs.Members.{members_onto, members_in_order}
-use Rattle.dynamo_shape.specs.Laws.{EqualAsTold}
 use Rattle.dynamo_shape.proofs.Lists.{told_each}
 use Rattle.dynamo_shape.proofs.Ordered.{HasElement}
 use Rattle.dynamo_shape.proofs.SetsTold.{told_is, any_told, told_any}

@@ -1,15 +1,11 @@
 -- Fields that are read by hand, one after another, read as their shapes say.
 use Rattle.std.proofs.Common.{◌≡◌, List, [], ◌∷◌, refl, sym, ◌∙◌, Ok, Err}
+use Rattle.dynamo_shape.proofs.Common.{Datum, Fields, Answer, ◌>>=◌, Source, Text, Absence}
+use Rattle.dynamo_shape.proofs.Common.{put_field, into, fields_in_order, Shape, FieldShapes}
+use Rattle.dynamo_shape.proofs.Common.{no_field_shapes, field_shape}
 use Rattle.dynamo_ser.specs.Datum as datum
-use Rattle.dynamo_ser.specs.Datum.{Datum, Fields}
 use Rattle.dynamo_de.specs.Answer as answer
-use Rattle.dynamo_de.specs.Answer.{Answer}
-use Rattle.dynamo_value.specs.Steps.{◌>>=◌}
 use Rattle.dynamo_de.specs.Fields.{read_first}
-use Rattle.dynamo_de.specs.Source.{Source, Text}
-use Rattle.dynamo_shape.specs.Absence.{Absence, put_field}
-use Rattle.dynamo_shape.specs.Read.{into, fields_in_order}
-use Rattle.dynamo_shape.specs.Shape.{Shape, FieldShapes, no_field_shapes, field_shape}
 use Rattle.dynamo_shape.proofs.ByHand.{IsReadAs, into_into}
 
 made_next : {A B C D E : Type 0} (make : A → B) (r : Answer A) (next : A → Answer E) (rest : Answer C) (join : B → C → D) (f : D → E) → ((x : A) → next x ≡ into (λ y. f (join (make x) y)) rest) → r >>= next ≡ into f (into make r >>= λ d. rest >>= λ y. answer.value (join d y))

@@ -1,23 +1,16 @@
 -- What is written for a key of a clear key shape reads back as that key alone.
 use Rattle.std.proofs.Common.{◌≡◌, ℕ, suc, Bool, true, false, Ok, None, refl, sym, ap, subst, ◌∙◌, inl, inr}
-use Rattle.std.specs.Prelude.{encode_utf8, bytes_eq}
-use Rattle.std.specs.Fmt.{signed_decimal}
-use Rattle.dynamo_de.proofs.Decimals.{parse_back}
-use Rattle.dynamo_shape.proofs.Found.{or_false, same_bytes}
-use Rattle.dynamo_shape.proofs.Results.{ok_same, value_same, chars-encode}
+use Rattle.dynamo_shape.proofs.Common.{encode_utf8, bytes_eq, signed_decimal, parse_back, value}
+use Rattle.dynamo_shape.proofs.Common.{Text, Datum, bool_text, IsKey, AreUnits, is_variant}
+use Rattle.dynamo_shape.proofs.Common.{conforms, conforms_variant, kept, read, read_one_of, Shape}
+use Rattle.dynamo_shape.proofs.Common.{boolean, char, string, integer, newtype, enum, nothing}
+use Rattle.dynamo_shape.proofs.Common.{Variants, no_variants, variant, S, written}
 use Rattle.dynamo_ser.specs.Datum as datum
-use Rattle.dynamo_de.specs.Answer.{value}
+use Rattle.dynamo_shape.proofs.Found.{or_false, same_bytes}
+use Rattle.dynamo_value.proofs.Steps.{ok_same}
+use Rattle.dynamo_shape.proofs.Results.{value_same, chars-encode}
 use Rattle.dynamo_de.specs.Source as source
-use Rattle.dynamo_de.specs.Source.{Text}
-use Rattle.dynamo_ser.specs.Datum.{Datum}
-use Rattle.dynamo_ser.specs.Key.{key_text, bool_text}
-use Rattle.dynamo_shape.specs.Clear.{IsKey, AreUnits, is_variant}
-use Rattle.dynamo_shape.specs.Conforms.{conforms, conforms_variant}
-use Rattle.dynamo_shape.specs.Kept.{kept}
-use Rattle.dynamo_shape.specs.Read.{read, read_one_of}
-use Rattle.dynamo_shape.specs.Shape.{Shape, boolean, char, string, integer, newtype, enum, nothing, Variants, no_variants, variant}
-use Rattle.dynamo_value.specs.Av.{S}
-use Rattle.dynamo_write.specs.Written.{written}
+use Rattle.dynamo_ser.specs.Key.{key_text}
 
 abbrev pub KeyBack : Shape → Datum → Type 0
 KeyBack k l = (t : Text) × (key_text l ≡ Ok t) × (kept l ≡ l) × (read k (source.key_text t) ≡ value l)

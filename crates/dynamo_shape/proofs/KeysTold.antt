@@ -1,36 +1,14 @@
 -- Keys are equal exactly where they tell the same datum.
-use Rattle.std.proofs.Common.{◌≡◌, ℕ, ℤ, pos, Bool, true, false, cond, refl, List, [], String, Global, string_bytes, sym, ap, ◌∙◌}
+use Rattle.std.proofs.Common.{◌≡◌, ℕ, pos, Bool, true, false, cond, refl, List, String, Global, string_bytes, sym, ap, ◌∙◌}
 use Rattle.std.proofs.lemmas.Bool.Decides.{Decides-eqb, Decides-int_eq}
-use Rattle.std.specs.Cmp.{booleans_Decides}
-use Rattle.std.specs.Cmp.Lexicographic.{pointwise, bytes_decides}
-use Rattle.std.specs.Ordering.{eq_by_cmp, int_eq, is_eq, is_lt, nat_cmp}
-use Rattle.std.specs.Bool.{beq}
-use Rattle.std.specs.Prelude.{nat_eq, nat_lt}
-use Rattle.std.specs.String.{string_eq}
-use Rattle.std.specs.declared.cmp.Ordering.{Ordering}
-use Rattle.std.specs.declared.cmp.Ordering.TheVariants.{Less, Equal, Greater}
-use Rattle.dynamo_value.specs.Integer.{IntegerKind}
+use Rattle.dynamo_shape.proofs.Common.{booleans_Decides, pointwise, bytes_decides, eq_by_cmp}
+use Rattle.dynamo_shape.proofs.Common.{int_eq, is_eq, is_lt, nat_cmp, nat_eq, nat_lt, Ordering}
+use Rattle.dynamo_shape.proofs.Common.{Less, Equal, Greater, IntegerKind, Datum, BelowAsTold}
+use Rattle.dynamo_shape.proofs.Common.{EqualAsTold}
 use Rattle.dynamo_ser.specs.Datum as datum
-use Rattle.dynamo_ser.specs.Datum.{Datum}
-use Rattle.dynamo_shape.specs.Laws.{BelowAsTold, EqualAsTold}
-
-abbrev bool_in : Datum → Bool
-bool_in (datum.boolean b) = b
-bool_in _ = true
-
-abbrev number_in : Datum → ℕ
-number_in (datum.integer k (pos n)) = n
-number_in (datum.char c) = c
-number_in _ = 0
-
-abbrev integer_in : Datum → ℤ
-integer_in (datum.integer k z) = z
-integer_in _ = pos 0
-
-abbrev text_in : Datum → List ℕ
-text_in (datum.string t) = t
-text_in (datum.bytes t) = t
-text_in _ = []
+use Rattle.dynamo_ser.specs.Parts.{bool_in, integer_in, number_in, text_in}
+use Rattle.std.specs.Bool.{beq}
+use Rattle.std.specs.String.{string_eq}
 
 pub bool_equal : EqualAsTold datum.boolean beq
 bool_equal a b = let d = booleans_Decides a b in (λ t. ap datum.boolean (d.0 t), λ e. d.1 (ap bool_in e))

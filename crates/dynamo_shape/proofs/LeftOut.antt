@@ -1,21 +1,12 @@
 -- Which data a field is left out for.
 use Rattle.std.proofs.Common.{◌≡◌, ℕ, suc, Bool, true, false, ◌&&◌, refl, sym, ap, subst, ◌∙◌, inl, inr}
-use Rattle.std.specs.Prelude.{bytes_eq}
-use Rattle.std.proofs.lemmas.Bool.{true≢false, and_parts}
-use Rattle.std.proofs.lemmas.Slice.Eq.{bytes_eq-Decides}
+use Rattle.dynamo_shape.proofs.Common.{bytes_eq, true≢false, and_parts, bytes_eq-Decides, Datum}
+use Rattle.dynamo_shape.proofs.Common.{Elements, Pairs, symbol, Text, value, Absence, required}
+use Rattle.dynamo_shape.proofs.Common.{read_as, left_out, same_default, is_left_out, NearlyClear}
+use Rattle.dynamo_shape.proofs.Common.{MayBeLeftOut, AndLeftOut, conforms, conforms_variant, kept}
+use Rattle.dynamo_shape.proofs.Common.{missing, Same, Shape, Variants}
 use Rattle.dynamo_ser.specs.Datum as datum
-use Rattle.dynamo_ser.specs.Datum.{Datum, Elements, Pairs, Fields}
-use Rattle.dynamo_ser.specs.Symbols.{symbol}
-use Rattle.dynamo_de.specs.Source.{Text}
-use Rattle.dynamo_de.specs.Answer.{value}
-use Rattle.dynamo_shape.specs.Absence.{Absence, required, read_as, left_out, same_default, is_left_out}
-use Rattle.dynamo_shape.specs.Clear.{NearlyClear, MayBeLeftOut, AndLeftOut}
-use Rattle.dynamo_shape.specs.Conforms.{conforms, conforms_variant}
-use Rattle.dynamo_shape.specs.Kept.{kept}
-use Rattle.dynamo_shape.specs.Read.{missing}
-use Rattle.dynamo_shape.specs.Same.{Same}
 use Rattle.dynamo_shape.specs.Shape as shape
-use Rattle.dynamo_shape.specs.Shape.{Shape, FieldShapes, no_field_shapes, field_shape, Variants}
 use Rattle.dynamo_shape.proofs.Equivalence.{same_sym}
 use Rattle.dynamo_shape.proofs.Flat.{not_null}
 use Rattle.dynamo_shape.proofs.Found.{same_bytes}

@@ -5,6 +5,7 @@ pub mod Back
 pub mod Below
 pub mod ByHand
 pub mod ByValue
+mod Common
 pub mod Counts
 pub mod Equivalence
 pub mod Exactly

@@ -1,33 +1,19 @@
 -- What lists, options, boxes and tuples read, by what is inside of them.
 use Rattle.std.proofs.lemmas.List.{take_more}
 use Rattle.std.proofs.Common.{◌≡◌, ◌∙◌, ℕ, ◌+◌, ◌<◌, List, [], ◌∷◌, ◌++◌, length, take, get_or, map, Option, Some, None, Result, Ok, Err, refl, sym, ap, subst, inl, inr}
-use Rattle.std.specs.Prelude.{⊤}
-use Rattle.std.specs.declared.alloc.Global.{Global}
-use Rattle.std.specs.declared.vec.Vec.{Vec}
-use Rattle.dynamo_value.specs.Fault.{Fault}
+use Rattle.dynamo_shape.proofs.Common.{⊤, Global, Vec, Fault, Datum, Elements, elements_of}
+use Rattle.dynamo_shape.proofs.Common.{option_tells, After, ◌>>=◌, read_content, read_elements}
+use Rattle.dynamo_shape.proofs.Common.{Through, ReadsOption, ReadsEach, ReadsList, Source, conforms}
+use Rattle.dynamo_shape.proofs.Common.{AllElements, AnswersByShape, ReadsByShape, read, read_list}
+use Rattle.dynamo_shape.proofs.Common.{read_some, Same, SameElements, Shape}
 use Rattle.dynamo_ser.specs.Datum as datum
-use Rattle.dynamo_ser.specs.Datum.{Datum, Elements, elements_of}
-use Rattle.dynamo_ser.specs.Options.{option_tells}
 use Rattle.dynamo_de.specs.Answer as answer
-use Rattle.dynamo_de.specs.Answer.{After}
-use Rattle.dynamo_value.specs.Steps.{◌>>=◌}
-use Rattle.dynamo_de.specs.Reading.{read_content, read_elements}
-use Rattle.dynamo_de.specs.Reads.{Through, ReadsOption, ReadsEach, ReadsList}
-use Rattle.dynamo_de.specs.Source.{Source}
-use Rattle.dynamo_shape.specs.Conforms.{conforms, AllElements}
-use Rattle.dynamo_shape.specs.Laws.{AnswersByShape, ReadsByShape}
-use Rattle.dynamo_shape.specs.Read.{read, read_list, read_some}
-use Rattle.dynamo_shape.specs.Same.{Same, SameElements}
 use Rattle.dynamo_shape.specs.Shape as shape
-use Rattle.dynamo_shape.specs.Shape.{Shape}
+use Rattle.dynamo_ser.specs.Parts.{content_in, elements_in}
 use Rattle.dynamo_shape.proofs.Answered.{stops, made, after}
 use Rattle.dynamo_shape.proofs.Scalars.{no_fault}
 
 -- ---- lists
-
-abbrev elements_in : Datum → Elements
-elements_in (datum.seq ds) = ds
-elements_in _ = datum.no_elements
 
 abbrev pub told_each : {T : Type 0} → (T → Datum) → List T → Elements
 told_each tells vs = elements_of (map tells vs)
@@ -72,10 +58,6 @@ pub one_more : {T : Type 0} (P : Datum → Type 0) (tells : T → Datum) (vs : L
 one_more P tells vs i x lt at h p = subst (λ us. AllElements P (told_each tells us)) (sym (take_more vs i x lt ∙ ap (λ y. take i vs ++ y ∷ []) (sym at))) (all_append P tells (take i vs) x h p)
 
 -- ---- options
-
-abbrev content_in : Datum → Datum
-content_in (datum.some d) = d
-content_in d = d
 
 abbrev IsSome : Datum → Type 0
 IsSome (datum.some d) = ⊤

@@ -1,33 +1,21 @@
 -- What is written for a map reads back.
 use Rattle.std.proofs.Common.{◌≡◌, ◌⊎◌, false, cond, List, [], ◌∷◌, Ok, Some, refl, sym, ap, subst, ◌∙◌, inl, inr}
-use Rattle.std.specs.Prelude.{⊤, bytes_eq}
-use Rattle.std.specs.List.{AllByRecursion}
-use Rattle.std.specs.FinMap.Entries.{put, find, find-put}
-use Rattle.std.specs.Cmp.Lexicographic.{nat_list_cmp_total}
-use Rattle.std.proofs.lemmas.Bool.{cases_Bool}
-use Rattle.std.proofs.lemmas.Map.Text.{is_eq-slice_cmp}
-use Rattle.std.proofs.lemmas.Slice.Eq.{bytes_eq-Decides}
+use Rattle.dynamo_shape.proofs.Common.{⊤, bytes_eq, AllByRecursion, put, find, find-put}
+use Rattle.dynamo_shape.proofs.Common.{nat_list_cmp_total, cases_Bool, is_eq-slice_cmp}
+use Rattle.dynamo_shape.proofs.Common.{bytes_eq-Decides, value, Text, attribute, key_text}
+use Rattle.dynamo_shape.proofs.Common.{entries_of, Datum, Pairs, no_pairs, pair, AllPairs, HasKey}
+use Rattle.dynamo_shape.proofs.Common.{PairsDiffer, kept, kept_pairs, read, read_pairs, ReadsBack}
+use Rattle.dynamo_shape.proofs.Common.{Same, SamePairs, put_pair, Shape, Av, M, Members, no_members}
+use Rattle.dynamo_shape.proofs.Common.{member, members_of, text_cmp, collect, collect_onto}
+use Rattle.dynamo_shape.proofs.Common.{written_pairs}
+use Rattle.dynamo_ser.specs.Datum as datum
 use Rattle.dynamo_shape.proofs.Results.{value_same}
 use Rattle.dynamo_shape.proofs.Members.{SomeMember, EachMember, get_member, get_find, get_each, each_weaker, meets, Each, collected}
 use Rattle.dynamo_shape.proofs.Found.{Found, same_bytes}
 use Rattle.dynamo_shape.proofs.Keys.{KeyBack}
 use Rattle.dynamo_shape.proofs.Pairs.{Has, has_key, read_self, put_has, put_here, put_keeps, put_differ, same_pairs}
 use Rattle.dynamo_shape.proofs.Alike.{same_refl}
-use Rattle.dynamo_ser.specs.Datum as datum
-use Rattle.dynamo_de.specs.Answer.{value}
-use Rattle.dynamo_de.specs.Source.{Text, attribute, key_text, entries_of}
-use Rattle.dynamo_ser.specs.Datum.{Datum, Pairs, no_pairs, pair}
-use Rattle.dynamo_shape.specs.Conforms.{AllPairs, HasKey, PairsDiffer}
-use Rattle.dynamo_shape.specs.Kept.{kept, kept_pairs}
-use Rattle.dynamo_shape.specs.Read.{read, read_pairs}
-use Rattle.dynamo_shape.specs.ReadsBack.{ReadsBack}
-use Rattle.dynamo_shape.specs.Same.{Same, SamePairs}
-use Rattle.dynamo_shape.specs.SameKey.{put_pair}
-use Rattle.dynamo_shape.specs.Shape.{Shape, map}
-use Rattle.dynamo_value.specs.Av.{Av, M, Members, no_members, member, members_of}
-use Rattle.dynamo_value.specs.View.{text_cmp}
-use Rattle.dynamo_write.specs.Collect.{collect, collect_onto}
-use Rattle.dynamo_write.specs.Written.{written_pairs}
+use Rattle.dynamo_shape.specs.Shape.{map}
 
 abbrev pub Fresh : Text → List (Text × Av) → Type 0
 Fresh t es = AllByRecursion (λ e. bytes_eq t e.0 ≡ false) es

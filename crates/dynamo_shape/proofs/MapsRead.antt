@@ -1,36 +1,24 @@
 -- What maps read, by what their keys and values read.
 use Rattle.std.proofs.Common.{◌≡◌, Bool, true, false, cond, List, [], ◌∷◌, map, Option, Some, None, Result, Ok, Err, refl, sym, ap, subst, ◌∙◌, inl, inr}
-use Rattle.std.specs.Prelude.{⊤}
-use Rattle.std.specs.Map.{lookup, update, update_all}
-use Rattle.std.proofs.lemmas.Bool.{true≢false, cases_Bool}
-use Rattle.std.proofs.lemmas.Option.{none-some, same_Some}
-use Rattle.dynamo_value.specs.Fault.{Fault}
+use Rattle.dynamo_shape.proofs.Common.{⊤, true≢false, cases_Bool, none-some, same_Some, Fault}
+use Rattle.dynamo_shape.proofs.Common.{Datum, Pairs, no_pairs, pair, pairs_of, After, ◌>>=◌}
+use Rattle.dynamo_shape.proofs.Common.{read_entries, ReadsEach, Source, Entry, attribute, key_text}
+use Rattle.dynamo_shape.proofs.Common.{conforms, AllPairs, HasKey, PairsDiffer, AnswersByShape}
+use Rattle.dynamo_shape.proofs.Common.{ReadsByShape, EqualAsTold, Permits, read, read_pairs, Same}
+use Rattle.dynamo_shape.proofs.Common.{SamePairs, same_key, put_pair, Shape}
+use Rattle.dynamo_de.specs.Reads.{ReadsMap}
 use Rattle.dynamo_ser.specs.Datum as datum
-use Rattle.dynamo_ser.specs.Datum.{Datum, Pairs, no_pairs, pair, pairs_of}
-use Rattle.dynamo_de.specs.Access.{ReadsPair}
 use Rattle.dynamo_de.specs.Answer as answer
-use Rattle.dynamo_de.specs.Answer.{Answer, After}
-use Rattle.dynamo_value.specs.Steps.{◌>>=◌}
-use Rattle.dynamo_de.specs.Reading.{read_entries}
-use Rattle.dynamo_de.specs.Reads.{ReadsEach, ReadsMap}
-use Rattle.dynamo_de.specs.Source.{Source, Entry, attribute, key_text}
-use Rattle.dynamo_shape.specs.Conforms.{conforms, AllPairs, HasKey, PairsDiffer}
-use Rattle.dynamo_shape.specs.Laws.{AnswersByShape, ReadsByShape, EqualAsTold}
-use Rattle.dynamo_shape.specs.Permits.{Permits}
-use Rattle.dynamo_shape.specs.Read.{read, read_pairs}
-use Rattle.dynamo_shape.specs.Same.{Same, SamePairs}
-use Rattle.dynamo_shape.specs.SameKey.{same_key, put_pair}
 use Rattle.dynamo_shape.specs.Shape as shape
-use Rattle.dynamo_shape.specs.Shape.{Shape}
+use Rattle.dynamo_ser.specs.Parts.{pairs_in}
+use Rattle.std.specs.Map.{lookup, update, update_all}
+use Rattle.dynamo_de.specs.Access.{ReadsPair}
+use Rattle.dynamo_value.proofs.Steps.{bind_in_turn}
 use Rattle.dynamo_shape.proofs.Alike.{same_refl}
 use Rattle.dynamo_shape.proofs.Answered.{stops, after}
 use Rattle.dynamo_shape.proofs.Pairs.{Has, has_key, IsKeyDatum, equal_keys, read_self, put_has, put_here, put_keeps, put_differ, same_pairs}
 
 -- ---- pairs
-
-abbrev pairs_in : Datum → Pairs
-pairs_in (datum.map ps) = ps
-pairs_in _ = no_pairs
 
 pub key_has : (l : Datum) (ps : Pairs) → HasKey l ps → (y : Datum) × Has l y ps
 key_has l no_pairs h = absurd h
@@ -56,10 +44,6 @@ put_there l e (pair k c ps) s d y h =
       | true ↦ λ t g. elim g [ inl x ↦ x.1 | inr x ↦ absurd (d.0 (subst (λ m. HasKey m ps) (equal_keys l k t) (has_key l y ps x))) ]
       | false ↦ λ t g. elim g [ inl x ↦ absurd (true≢false (sym s ∙ ap (same_key l) x.0 ∙ t)) | inr x ↦ put_there l e ps s d.1 y x ]
     ] refl h
-
-in_turn : {A B C : Type 0} (a : Answer A) (f : A → Answer B) (g : B → Answer C) → ((a >>= f) >>= g) ≡ (a >>= λ x. f x >>= g)
-in_turn (Ok x) f g = refl
-in_turn (Err e) f g = refl
 
 -- ---- what a map tells, and what it has at a key
 
@@ -230,5 +214,5 @@ module _ {K V : Type 0} (eq : K → K → Bool) (tk : K → Datum) (tv : V → D
 
     pub map_permitted : {M : Type 0} (entries : M → List (K × V)) (get : M → K → Option V) → ((m : M) (q : K) → get m q ≡ lookup (eq q) (entries m)) → ReadsByShape (shape.map k s) (λ m. datum.map (told (entries m))) (λ source. After (read_entries source) (ReadsMap get eq keys values))
     map_permitted {M} entries get gets source r a =
-        subst (λ x. AnswersByShape (conforms (shape.map k s)) Same (λ m. datum.map (told (entries m))) x r) (sym (in_turn (read_entries source) (read_pairs (read k) (read s) no_pairs) (λ ps. answer.value (datum.map ps))))
+        subst (λ x. AnswersByShape (conforms (shape.map k s)) Same (λ m. datum.map (told (entries m))) x r) (sym (bind_in_turn (read_entries source) (read_pairs (read k) (read s) no_pairs) (λ ps. answer.value (datum.map ps))))
         (after (conforms (shape.map k s)) Same (λ m. datum.map (told (entries m))) (ReadsMap get eq keys values) (λ es. read_pairs (read k) (read s) no_pairs es >>= λ ps. answer.value (datum.map ps)) (map_answered entries get gets) (read_entries source) r a)

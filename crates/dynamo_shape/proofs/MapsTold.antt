@@ -1,17 +1,14 @@
 -- Maps that tell the same are the same at each key, and maps that are the same at each key tell the same.
 use Rattle.std.proofs.Common.{◌≡◌, Bool, false, List, [], ◌∷◌, Option, Some, None, refl, sym, ap, subst, ◌∙◌, inl, inr}
-use Rattle.std.specs.List.{IsDistinct, AllByRecursion}
-use Rattle.std.specs.Map.{lookup, keys_of}
-use Rattle.std.proofs.lemmas.Bool.{true≢false}
-use Rattle.std.proofs.lemmas.Option.{none-some, same_Some}
+use Rattle.dynamo_shape.proofs.Common.{AllByRecursion, true≢false, none-some, same_Some, Datum}
+use Rattle.dynamo_shape.proofs.Common.{Pairs, no_pairs, pair, SameMap, SameOption, conforms}
+use Rattle.dynamo_shape.proofs.Common.{AllPairs, HasKey, PairsDiffer, EqualAsTold, ToldApart}
+use Rattle.dynamo_shape.proofs.Common.{IsToldByValue, ToldAlike, Same, SamePairs, Shape}
+use Rattle.std.specs.List.{IsDistinct}
 use Rattle.dynamo_ser.specs.Datum as datum
-use Rattle.dynamo_ser.specs.Datum.{Datum, Pairs, no_pairs, pair}
-use Rattle.dynamo_shape.specs.ByValue.{SameMap, SameOption}
-use Rattle.dynamo_shape.specs.Conforms.{conforms, AllPairs, HasKey, PairsDiffer}
-use Rattle.dynamo_shape.specs.Laws.{EqualAsTold, ToldApart, IsToldByValue, ToldAlike}
-use Rattle.dynamo_shape.specs.Same.{Same, SamePairs}
 use Rattle.dynamo_shape.specs.Shape as shape
-use Rattle.dynamo_shape.specs.Shape.{Shape}
+use Rattle.dynamo_ser.specs.Parts.{pairs_in}
+use Rattle.std.specs.Map.{lookup, keys_of}
 use Rattle.dynamo_shape.proofs.Alike.{same_refl}
 use Rattle.dynamo_shape.proofs.Equivalence.{same_sym}
 use Rattle.dynamo_shape.proofs.MapsRead.{told, found, own, a_key, key_has, value_conforms}
@@ -24,10 +21,6 @@ like_it (pair k d ps) qs (m, z, others, w, key, value, rest) l y (inl g) = (m, z
 like_it (pair k d ps) qs (m, z, others, w, key, value, rest) l y (inr g) =
     let t = like_it ps others rest l y g in
     (t.0, t.1, rest_in qs m z others w t.0 t.1 t.2, t.3, t.4)
-
-abbrev pairs_in : Datum → Pairs
-pairs_in (datum.map ps) = ps
-pairs_in _ = no_pairs
 
 pairs_of_maps : (ps qs : Pairs) → Same (datum.map ps) (datum.map qs) → SamePairs ps qs
 pairs_of_maps ps qs h = subst (SamePairs ps) (sym (ap pairs_in h.1)) h.2

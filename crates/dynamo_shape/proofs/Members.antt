@@ -1,16 +1,10 @@
 -- Members by their key texts.
 use Rattle.std.proofs.Common.{◌≡◌, ◌⊎◌, true, false, cond, List, [], ◌∷◌, Option, Some, None, Less, Equal, Greater, refl, sym, subst, inl, inr}
-use Rattle.std.specs.Prelude.{⊤, bytes_eq}
-use Rattle.std.specs.List.{AllByRecursion}
+use Rattle.dynamo_shape.proofs.Common.{⊤, bytes_eq, AllByRecursion, put, find, by_order, none-some}
+use Rattle.dynamo_shape.proofs.Common.{same_Some, is_eq-slice_cmp, bytes_eq-Decides, Text, Av}
+use Rattle.dynamo_shape.proofs.Common.{Members, no_members, member, members_of, text_cmp, collect}
+use Rattle.dynamo_shape.proofs.Common.{collect_onto}
 use Rattle.std.specs.FinMap.{slice_cmp-IsAntisymmetric, nat_cmp-IsAntisymmetric}
-use Rattle.std.specs.FinMap.Entries.{put, find, by_order}
-use Rattle.std.proofs.lemmas.Option.{none-some, same_Some}
-use Rattle.std.proofs.lemmas.Map.Text.{is_eq-slice_cmp}
-use Rattle.std.proofs.lemmas.Slice.Eq.{bytes_eq-Decides}
-use Rattle.dynamo_de.specs.Source.{Text}
-use Rattle.dynamo_value.specs.Av.{Av, Members, no_members, member, members_of}
-use Rattle.dynamo_value.specs.View.{text_cmp}
-use Rattle.dynamo_write.specs.Collect.{collect, collect_onto}
 
 abbrev pub SomeMember : (Text → Av → Type 0) → Members → Type 0
 SomeMember P no_members = ⊥

@@ -1,18 +1,9 @@
 -- Two permitted results are one answer.
 use Rattle.std.proofs.Common.{◌++◌, Result, Ok, Err, sym, subst, ◌∙◌, inl, inr}
-use Rattle.std.specs.Prelude.{IfOk}
+use Rattle.dynamo_shape.proofs.Common.{IfOk, Answer, Source, Datum, conforms, AnswersByShape}
+use Rattle.dynamo_shape.proofs.Common.{IsToldByValue, Permits, SameAnswer, FaultsOrSame, read}
+use Rattle.dynamo_shape.proofs.Common.{IsDetermined, WalksAgree, Same, Shape, Fault}
 use Rattle.dynamo_shape.proofs.Equivalence.{same_sym, same_trans}
-use Rattle.dynamo_de.specs.Answer.{Answer}
-use Rattle.dynamo_de.specs.Source.{Source}
-use Rattle.dynamo_ser.specs.Datum.{Datum}
-use Rattle.dynamo_shape.specs.Conforms.{conforms}
-use Rattle.dynamo_shape.specs.Laws.{AnswersByShape, IsToldByValue}
-use Rattle.dynamo_shape.specs.Permits.{Permits, SameAnswer, FaultsOrSame}
-use Rattle.dynamo_shape.specs.Read.{read}
-use Rattle.dynamo_shape.specs.ReadsBack.{IsDetermined, WalksAgree}
-use Rattle.dynamo_shape.specs.Same.{Same}
-use Rattle.dynamo_shape.specs.Shape.{Shape}
-use Rattle.dynamo_value.specs.Fault.{Fault}
 use Rattle.dynamo_value.specs.Refusal.{fault, begins, contains, any_message}
 
 one : (x : Answer Datum) (r q : Result Datum Fault) → Permits Same x r → Permits Same x q → SameAnswer Same r q

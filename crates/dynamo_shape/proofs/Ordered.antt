@@ -1,13 +1,11 @@
 -- Lists and sets in order.
 use Rattle.std.proofs.Common.{◌≡◌, ◌⊎◌, Bool, true, false, cond, refl, sym, ap, subst, ◌∙◌, inl, inr}
-use Rattle.std.proofs.lemmas.Bool.{true≢false}
+use Rattle.dynamo_shape.proofs.Common.{true≢false, Datum, Elements, no_elements, element, kept}
+use Rattle.dynamo_shape.proofs.Common.{kept_elements, is_written_null, is_below, IsBelowEach}
+use Rattle.dynamo_shape.proofs.Common.{AreAscending, IsAscending, put_element, sorted_elements}
+use Rattle.dynamo_shape.proofs.Common.{sorted, Same, SameElements, written}
 use Rattle.dynamo_ser.specs.Datum as datum
-use Rattle.dynamo_ser.specs.Datum.{Datum, Elements, no_elements, element}
-use Rattle.dynamo_shape.specs.Kept.{kept, kept_elements, is_written_null}
-use Rattle.dynamo_shape.specs.Order.{is_below, IsBelowEach, AreAscending, IsAscending, put_element, sorted_elements, sorted}
-use Rattle.dynamo_shape.specs.Same.{Same, SameElements}
 use Rattle.dynamo_shape.proofs.Below.{below_chain, below_itself, below_keys, below_alike, key_kept}
-use Rattle.dynamo_write.specs.Written.{written}
 
 -- ---- what is sorted ascends
 

@@ -1,27 +1,20 @@
 -- Pairs of which each key stands once.
 use Rattle.std.proofs.Common.{◌≡◌, ◌⊎◌, ℕ, ℤ, pos, negsuc, Bool, true, false, cond, ◌&&◌, ◌==◌, Option, Some, None, refl, sym, ap, subst, ◌∙◌, inl, inr, arith, Ok, Err}
-use Rattle.std.specs.Prelude.{⊤, bytes_eq, codes}
-use Rattle.std.proofs.lemmas.Bool.{true≢false, and_parts}
-use Rattle.std.proofs.lemmas.Bool.Decides.{nat_tests}
-use Rattle.std.proofs.lemmas.Slice.Eq.{bytes_eq-Decides}
-use Rattle.dynamo_shape.proofs.Found.{same_bytes}
+use Rattle.dynamo_shape.proofs.Common.{⊤, bytes_eq, codes, true≢false, and_parts, bytes_eq-Decides}
+use Rattle.dynamo_shape.proofs.Common.{Answer, value, fault, refused, value_or, taken, Text}
+use Rattle.dynamo_shape.proofs.Common.{key_text, expected_string, expected_num, Variant, Datum}
+use Rattle.dynamo_shape.proofs.Common.{Pairs, no_pairs, pair, HasKey, PairsDiffer, sorted, into}
+use Rattle.dynamo_shape.proofs.Common.{read, read_inside, read_one_of, Without, Same, SamePairs}
+use Rattle.dynamo_shape.proofs.Common.{same_kind, same_integer, same_bool, same_variant, same_key}
+use Rattle.dynamo_shape.proofs.Common.{put_pair, Shape, boolean, char, string, bytes, integer}
+use Rattle.dynamo_shape.proofs.Common.{newtype, enum, ordered, Content, nothing, one, several}
+use Rattle.dynamo_shape.proofs.Common.{named, Variants, no_variants, variant, IntegerKind}
 use Rattle.dynamo_ser.specs.Datum as datum
-use Rattle.dynamo_de.specs.Answer.{Answer, value, fault, refused, value_or}
+use Rattle.std.proofs.lemmas.Bool.Decides.{nat_tests}
+use Rattle.dynamo_shape.proofs.Found.{same_bytes}
 use Rattle.dynamo_de.specs.Number.{parse}
-use Rattle.dynamo_de.specs.Reading.{taken}
 use Rattle.dynamo_de.specs.Sight as sight
 use Rattle.dynamo_de.specs.Visitors.{one_char, claims_bool, take_bool}
-use Rattle.dynamo_de.specs.Source.{Text, key_text}
-use Rattle.dynamo_value.specs.Fault.{expected_string, expected_num}
-use Rattle.dynamo_ser.specs.Datum.{Variant, Datum, Pairs, no_pairs, pair}
-use Rattle.dynamo_shape.specs.Conforms.{HasKey, PairsDiffer}
-use Rattle.dynamo_shape.specs.Order.{sorted}
-use Rattle.dynamo_shape.specs.Read.{into, read, read_inside, read_one_of}
-use Rattle.dynamo_ser.specs.Without.{Without}
-use Rattle.dynamo_shape.specs.Same.{Same, SamePairs}
-use Rattle.dynamo_shape.specs.SameKey.{same_kind, same_integer, same_bool, same_variant, same_key, put_pair}
-use Rattle.dynamo_shape.specs.Shape.{Shape, boolean, char, string, bytes, integer, newtype, enum, ordered, Content, nothing, one, several, named, Variants, no_variants, variant}
-use Rattle.dynamo_value.specs.Integer.{IntegerKind}
 
 -- ---- equal keys
 

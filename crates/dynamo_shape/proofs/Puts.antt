@@ -1,14 +1,12 @@
 -- For callers: a pair is put onto pairs that are told in another order.
 use Rattle.std.proofs.Common.{◌≡◌, ◌⊎◌, true, false, cond, refl, sym, ap, subst, ◌∙◌, inl, inr}
-use Rattle.std.specs.Prelude.{bytes_eq}
-use Rattle.std.proofs.lemmas.Bool.{true≢false, and_parts}
+use Rattle.dynamo_shape.proofs.Common.{bytes_eq, true≢false, and_parts, Datum, some, newtype_struct}
+use Rattle.dynamo_shape.proofs.Common.{newtype_variant, seq, tuple, tuple_struct, tuple_variant}
+use Rattle.dynamo_shape.proofs.Common.{map, struct_variant, Pairs, no_pairs, pair, AllPairs, HasKey}
+use Rattle.dynamo_shape.proofs.Common.{PairsDiffer, Without, Same, SamePairs, same_key, put_pair}
 use Rattle.dynamo_shape.proofs.Alike.{same_refl}
 use Rattle.dynamo_shape.proofs.Pairs.{IsKeyDatum, Has, has_key, equal_keys, put_differ, put_keys, taken_in, key_of_rest, same_pairs}
-use Rattle.dynamo_ser.specs.Datum.{Datum, some, newtype_struct, newtype_variant, seq, tuple, tuple_struct, tuple_variant, map, struct, struct_variant, Pairs, no_pairs, pair}
-use Rattle.dynamo_shape.specs.Conforms.{AllPairs, HasKey, PairsDiffer}
-use Rattle.dynamo_ser.specs.Without.{Without}
-use Rattle.dynamo_shape.specs.Same.{Same, SamePairs}
-use Rattle.dynamo_shape.specs.SameKey.{same_key, put_pair}
+use Rattle.dynamo_ser.specs.Datum.{struct}
 
 -- keys are the same only where they are equal
 pub same_keys : (k x : Datum) → IsKeyDatum k → Same k x → k ≡ x

@@ -1,20 +1,21 @@
 -- Worked rows of reading, by computation.
 use Rattle.std.proofs.Common.{◌≡◌, ℕ, pos, ◌-◌, ◌^◌, true, false, [], ◌∷◌, Ok, refl}
+use Rattle.dynamo_shape.proofs.Common.{codes, value, fault, refused, Text, attribute, Variant}
+use Rattle.dynamo_shape.proofs.Common.{Datum, no_pairs, pair, no_fields, field, written, required}
+use Rattle.dynamo_shape.proofs.Common.{read_as, left_out, read, Shape, boolean, char, string, unit}
+use Rattle.dynamo_shape.proofs.Common.{integer, option, newtype, list, struct, enum, no_shapes}
+use Rattle.dynamo_shape.proofs.Common.{no_field_shapes, field_shape, nothing, one, several, named}
+use Rattle.dynamo_shape.proofs.Common.{no_variants, variant, tagged, no_tagged, tagged_variant, Av}
+use Rattle.dynamo_shape.proofs.Common.{N, S, Null, Ss, Ns, L, M, no_members, member}
+use Rattle.dynamo_shape.proofs.Common.{failed_to_parse_int, failed_to_parse_float, expected_num}
+use Rattle.dynamo_shape.proofs.Common.{expected_map, expected_string, expected_unit, expected_enum}
+use Rattle.dynamo_shape.proofs.Common.{expected_char, expected_seq, expected_single_key, i64, i128}
+use Rattle.dynamo_shape.proofs.Common.{u8, u64, u128, shape}
 use Rattle.std.specs.Fmt.{digits}
-use Rattle.std.specs.Prelude.{codes}
-use Rattle.std.specs.Str.{chars}
 use Rattle.dynamo_value.specs.Av as av
 use Rattle.dynamo_ser.specs.Datum as datum
-use Rattle.dynamo_de.specs.Answer.{value, fault, refused}
-use Rattle.dynamo_de.specs.Source.{Text, attribute}
-use Rattle.dynamo_ser.specs.Datum.{Variant, Datum, no_pairs, pair, no_fields, field}
-use Rattle.dynamo_write.specs.Written.{written}
-use Rattle.dynamo_shape.specs.Absence.{required, read_as, left_out}
-use Rattle.dynamo_shape.specs.Read.{read}
-use Rattle.dynamo_shape.specs.Shape.{Shape, boolean, char, string, unit, integer, option, newtype, list, tuple, map, struct, enum, no_shapes, shape, no_field_shapes, field_shape, nothing, one, several, named, no_variants, variant, tagged, no_tagged, tagged_variant}
-use Rattle.dynamo_value.specs.Av.{Av, N, S, Null, Ss, Ns, L, M, no_members, member}
-use Rattle.dynamo_value.specs.Fault.{failed_to_parse_int, failed_to_parse_float, expected_num, expected_map, expected_string, expected_unit, expected_enum, expected_char, expected_seq, expected_single_key}
-use Rattle.dynamo_value.specs.Integer.{i64, i128, u8, u64, u128}
+use Rattle.std.specs.Str.{chars}
+use Rattle.dynamo_shape.specs.Shape.{tuple, map}
 
 abbrev byte : ℕ → Datum
 byte n = datum.integer u8 (pos n)

@@ -1,25 +1,13 @@
 -- What is written for the fields of a struct reads back by its rules: no entry of it is refused.
 use Rattle.std.proofs.Common.{◌≡◌, true, false, List, [], ◌∷◌, ◌++◌, Ok, Err, refl, sym, ap, ◌∙◌, append_assoc}
-use Rattle.std.specs.Prelude.{T, bytes_eq}
-use Rattle.std.specs.List.{list_any, AllByRecursion}
-use Rattle.std.specs.Ordering.{is_eq}
-use Rattle.std.specs.FinMap.Entries.{is_sorted, below_all}
-use Rattle.std.proofs.lemmas.Map.Text.{is_eq-slice_cmp}
-use Rattle.dynamo_value.specs.Av.{Av, members_of}
-use Rattle.dynamo_value.specs.Steps.{◌>>=◌}
-use Rattle.dynamo_value.specs.View.{text_cmp}
-use Rattle.dynamo_ser.specs.Datum.{Datum, Fields}
-use Rattle.dynamo_de.specs.Answer.{Answer, value}
-use Rattle.dynamo_de.specs.Source.{Text, Entry, entries_of}
-use Rattle.dynamo_write.specs.Collect.{collect}
-use Rattle.dynamo_write.specs.Written.{written_fields}
-use Rattle.dynamo_write.proofs.Collected.{less, halves, nothing_more, sorted-collect}
-use Rattle.dynamo_shape.specs.Clear.{is_field, AliasesApart, NearlyClearFields}
-use Rattle.dynamo_shape.specs.Kept.{kept_fields}
+use Rattle.dynamo_shape.proofs.Common.{T, bytes_eq, list_any, AllByRecursion, is_eq, is_sorted}
+use Rattle.dynamo_shape.proofs.Common.{below_all, is_eq-slice_cmp, Av, members_of, ◌>>=◌, text_cmp}
+use Rattle.dynamo_shape.proofs.Common.{Datum, Fields, Answer, value, Text, Entry, entries_of}
+use Rattle.dynamo_shape.proofs.Common.{collect, written_fields, less, halves, nothing_more}
+use Rattle.dynamo_shape.proofs.Common.{sorted-collect, is_field, AliasesApart, NearlyClearFields}
+use Rattle.dynamo_shape.proofs.Common.{kept_fields, into, read_field, read_each_entry, fields_among}
+use Rattle.dynamo_shape.proofs.Common.{entry_by_rules, read_by_rules, SameFields, FieldShapes}
 use Rattle.dynamo_shape.specs.NameRules.{NameRules, own_name}
-use Rattle.dynamo_shape.specs.Read.{into, read_field, read_each_entry, fields_among, entry_by_rules, read_by_rules}
-use Rattle.dynamo_shape.specs.Same.{SameFields}
-use Rattle.dynamo_shape.specs.Shape.{FieldShapes}
 use Rattle.dynamo_shape.proofs.FieldsByName.{not_turned}
 use Rattle.dynamo_shape.proofs.Found.{KeysIn, differs, or_false}
 use Rattle.dynamo_shape.proofs.Members.{EachMember, collected}

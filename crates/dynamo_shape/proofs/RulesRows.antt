@@ -1,17 +1,12 @@
 -- Worked rows of a struct that is read by rules, by computation.
 use Rattle.std.proofs.Common.{◌≡◌, true, false, [], ◌∷◌, refl}
-use Rattle.std.specs.Prelude.{Bool, codes}
+use Rattle.dynamo_shape.proofs.Common.{codes, N, S, L, M, no_members, member, expected_string}
+use Rattle.dynamo_shape.proofs.Common.{Datum, no_fields, field, value, fault, refused, Text}
+use Rattle.dynamo_shape.proofs.Common.{attribute, required, NearlyClear, read, Shape, string}
+use Rattle.dynamo_shape.proofs.Common.{option, struct_by, no_field_shapes, field_shape}
 use Rattle.dynamo_value.specs.Av as av
-use Rattle.dynamo_value.specs.Av.{N, S, L, M, no_members, member}
-use Rattle.dynamo_value.specs.Fault.{expected_string}
 use Rattle.dynamo_ser.specs.Datum as datum
-use Rattle.dynamo_ser.specs.Datum.{Datum, no_fields, field}
-use Rattle.dynamo_de.specs.Answer.{value, fault, refused}
-use Rattle.dynamo_de.specs.Source.{Text, attribute}
-use Rattle.dynamo_shape.specs.Absence.{required}
-use Rattle.dynamo_shape.specs.Clear.{NearlyClear}
-use Rattle.dynamo_shape.specs.Read.{read}
-use Rattle.dynamo_shape.specs.Shape.{Shape, string, option, struct_by, no_field_shapes, field_shape}
+use Rattle.std.specs.Prelude.{Bool}
 
 -- a struct of an id and perhaps a phone number, which has this other name
 abbrev contact : Text → Bool → Shape

@@ -1,30 +1,22 @@
 -- What is lost is not written, and order is not written.
 use Rattle.std.proofs.Common.{◌≡◌, Bool, true, false, cond, List, [], ◌∷◌, Result, Ok, Err, Option, Some, None, refl, sym, ap, subst, ◌∙◌, inl, inr}
-use Rattle.std.specs.Prelude.{⊤}
-use Rattle.std.specs.Ordering.{eq_by_cmp}
-use Rattle.std.specs.Cmp.Lexicographic.{nat_list_cmp_total}
-use Rattle.std.specs.FinMap.{slice_cmp-IsAntisymmetric, nat_cmp-IsAntisymmetric}
-use Rattle.std.specs.FinMap.Entries.{same_entries}
-use Rattle.std.proofs.lemmas.Bool.{true≢false}
-use Rattle.dynamo_shape.proofs.Results.{ok_same, bind_ok}
-use Rattle.dynamo_write.proofs.Collected.{sorted-collect}
-use Rattle.dynamo_write.proofs.Orders.{OutOf, AnyOrder, Fresh, last, find_last, last_out, last_here, fresh_out}
+use Rattle.dynamo_shape.proofs.Common.{⊤, eq_by_cmp, nat_list_cmp_total, same_entries, true≢false}
+use Rattle.dynamo_shape.proofs.Common.{sorted-collect, Text, Datum, none, some, newtype_struct}
+use Rattle.dynamo_shape.proofs.Common.{newtype_variant, seq, tuple, tuple_struct, tuple_variant}
+use Rattle.dynamo_shape.proofs.Common.{map, struct_variant, Pairs, no_pairs, pair, Fields}
+use Rattle.dynamo_shape.proofs.Common.{no_fields, field, is_written_null, kept, kept_elements}
+use Rattle.dynamo_shape.proofs.Common.{kept_pairs, kept_fields, Without, Same, SameElements}
+use Rattle.dynamo_shape.proofs.Common.{SamePairs, SameFields, Av, Null, L, M, members_of, Fault}
+use Rattle.dynamo_shape.proofs.Common.{◌>>=◌, text_cmp, collect, set_kind, written}
+use Rattle.dynamo_shape.proofs.Common.{written_elements, written_pairs, written_fields, one_member}
 use Rattle.dynamo_value.specs.Av as av
 use Rattle.dynamo_ser.specs.Datum as datum
+use Rattle.std.specs.FinMap.{slice_cmp-IsAntisymmetric, nat_cmp-IsAntisymmetric}
+use Rattle.dynamo_value.proofs.Steps.{ok_same, bind_ok}
+use Rattle.dynamo_write.proofs.Orders.{OutOf, AnyOrder, Fresh, last, find_last, last_out, last_here, fresh_out}
 use Rattle.dynamo_write.specs.Set as sets
-use Rattle.dynamo_de.specs.Source.{Text}
-use Rattle.dynamo_ser.specs.Datum.{Datum, none, some, newtype_struct, newtype_variant, seq, tuple, tuple_struct, tuple_variant, map, struct, struct_variant, Pairs, no_pairs, pair, Fields, no_fields, field}
+use Rattle.dynamo_ser.specs.Datum.{struct}
 use Rattle.dynamo_ser.specs.Key.{key_text}
-use Rattle.dynamo_shape.specs.Kept.{is_written_null, kept, kept_elements, kept_pairs, kept_fields}
-use Rattle.dynamo_ser.specs.Without.{Without}
-use Rattle.dynamo_shape.specs.Same.{Same, SameElements, SamePairs, SameFields}
-use Rattle.dynamo_value.specs.Av.{Av, Null, L, M, members_of}
-use Rattle.dynamo_value.specs.Fault.{Fault}
-use Rattle.dynamo_value.specs.Steps.{◌>>=◌}
-use Rattle.dynamo_value.specs.View.{text_cmp}
-use Rattle.dynamo_write.specs.Collect.{collect}
-use Rattle.dynamo_write.specs.Set.{set_kind}
-use Rattle.dynamo_write.specs.Written.{written, written_elements, written_pairs, written_fields, one_member}
 
 -- ---- flat
 

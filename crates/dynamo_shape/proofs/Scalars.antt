@@ -1,18 +1,12 @@
 -- What the scalar types read is permitted by reading at their shapes, and what they tell tells them apart, and nothing else does.
-use Rattle.std.proofs.Common.{◌≡◌, ℕ, ℤ, pos, Bool, true, List, [], Result, Ok, Err, refl, sym, ap, subst}
-use Rattle.std.specs.Prelude.{is_ok, ⊤}
-use Rattle.std.proofs.lemmas.Bool.{true≢false}
-use Rattle.dynamo_value.specs.Fault.{Fault}
-use Rattle.dynamo_value.specs.Integer.{IntegerKind}
+use Rattle.std.proofs.Common.{◌≡◌, ℕ, pos, List, Result, Ok, Err, refl, sym, ap, subst}
+use Rattle.dynamo_shape.proofs.Common.{is_ok, ⊤, true≢false, Fault, IntegerKind, Datum, Answer}
+use Rattle.dynamo_shape.proofs.Common.{Gives, read_bool, read_integer, read_char, read_string}
+use Rattle.dynamo_shape.proofs.Common.{read_bytes, read_unit, conforms, AnswersByShape}
+use Rattle.dynamo_shape.proofs.Common.{ReadsByShape, IsToldByValue, ToldAlike, into, Same}
 use Rattle.dynamo_ser.specs.Datum as datum
-use Rattle.dynamo_ser.specs.Datum.{Datum}
-use Rattle.dynamo_de.specs.Answer.{Answer, Gives}
-use Rattle.dynamo_de.specs.Reading.{read_bool, read_integer, read_char, read_string, read_bytes, read_unit}
-use Rattle.dynamo_shape.specs.Conforms.{conforms}
-use Rattle.dynamo_shape.specs.Laws.{AnswersByShape, ReadsByShape, IsToldByValue, ToldAlike}
-use Rattle.dynamo_shape.specs.Read.{into}
-use Rattle.dynamo_shape.specs.Same.{Same}
 use Rattle.dynamo_shape.specs.Shape as shape
+use Rattle.dynamo_ser.specs.Parts.{bool_in, integer_in, number_in, text_in}
 use Rattle.dynamo_shape.proofs.Alike.{same_refl}
 
 pub no_fault : {T : Type 0} {v : T} {f : Fault} → ◌≡◌ {A = Result T Fault} (Ok v) (Err f) → ⊥
@@ -26,27 +20,6 @@ given C seen make (Err f) (Ok v) h = absurd h
 given C seen make (Err f) (Err g) h = h
 
 -- ---- what a scalar's datum holds
-
-abbrev bool_in : Datum → Bool
-bool_in (datum.boolean b) = b
-bool_in _ = true
-
-abbrev integer_in : Datum → ℤ
-integer_in (datum.integer k z) = z
-integer_in _ = pos 0
-
-abbrev number_in : ℤ → ℕ
-number_in (pos n) = n
-number_in _ = 0
-
-abbrev char_in : Datum → ℕ
-char_in (datum.char c) = c
-char_in _ = 0
-
-abbrev bytes_in : Datum → List ℕ
-bytes_in (datum.string text) = text
-bytes_in (datum.bytes bytes) = bytes
-bytes_in _ = []
 
 -- ---- the types
 
@@ -72,7 +45,7 @@ pub unsigned_permitted : (k : IntegerKind) → ReadsByShape (shape.integer k) (�
 unsigned_permitted k s r h = given (conforms (shape.integer k)) pos (datum.integer k) (read_integer k s) r h
 
 pub unsigned_told : (k : IntegerKind) → IsToldByValue (shape.integer k) (λ n. datum.integer k (pos n)) (λ a b. a ≡ b)
-unsigned_told k a b _ _ h = ap (λ d. number_in (integer_in d)) h
+unsigned_told k a b _ _ h = ap number_in h
 
 pub unsigned_alike : (k : IntegerKind) → ToldAlike (shape.integer k) (λ n. datum.integer k (pos n)) (λ a b. a ≡ b)
 unsigned_alike k a b _ _ h = ap (λ n. datum.integer k (pos n)) h
@@ -81,7 +54,7 @@ pub char_permitted : ReadsByShape shape.char datum.char (λ s. Gives (λ c. c) (
 char_permitted s r h = given (conforms shape.char) (λ c. c) datum.char (read_char s) r h
 
 pub char_told : IsToldByValue shape.char datum.char (λ a b. a ≡ b)
-char_told a b _ _ h = ap char_in h
+char_told a b _ _ h = ap number_in h
 
 pub char_alike : ToldAlike shape.char datum.char (λ a b. a ≡ b)
 char_alike a b _ _ h = ap datum.char h
@@ -90,7 +63,7 @@ pub text_permitted : {T : Type 0} (seen : T → List ℕ) → ReadsByShape shape
 text_permitted seen s r h = given (conforms shape.string) seen datum.string (read_string s) r h
 
 pub text_told : {T : Type 0} (seen : T → List ℕ) → IsToldByValue shape.string (λ t. datum.string (seen t)) (λ a b. seen a ≡ seen b)
-text_told seen a b _ _ h = ap bytes_in h
+text_told seen a b _ _ h = ap text_in h
 
 pub text_alike : {T : Type 0} (seen : T → List ℕ) → ToldAlike shape.string (λ t. datum.string (seen t)) (λ a b. seen a ≡ seen b)
 text_alike seen a b _ _ h = ap datum.string h
@@ -99,7 +72,7 @@ pub bytes_permitted : {T : Type 0} (seen : T → List ℕ) → ReadsByShape shap
 bytes_permitted seen s r h = given (conforms shape.bytes) seen datum.bytes (read_bytes s) r h
 
 pub bytes_told : {T : Type 0} (seen : T → List ℕ) → IsToldByValue shape.bytes (λ t. datum.bytes (seen t)) (λ a b. seen a ≡ seen b)
-bytes_told seen a b _ _ h = ap bytes_in h
+bytes_told seen a b _ _ h = ap text_in h
 
 pub bytes_alike : {T : Type 0} (seen : T → List ℕ) → ToldAlike shape.bytes (λ t. datum.bytes (seen t)) (λ a b. seen a ≡ seen b)
 bytes_alike seen a b _ _ h = ap datum.bytes h

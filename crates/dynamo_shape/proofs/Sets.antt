@@ -1,28 +1,18 @@
 -- What is written for a set reads back.
 use Rattle.std.proofs.Common.{◌≡◌, List, [], ◌∷◌, Ok, Some, refl, sym, subst}
-use Rattle.std.specs.Prelude.{encode_utf8}
-use Rattle.std.specs.Fmt.{signed_decimal}
-use Rattle.dynamo_de.proofs.Decimals.{parse_back}
+use Rattle.dynamo_shape.proofs.Common.{encode_utf8, signed_decimal, parse_back, value}
+use Rattle.dynamo_shape.proofs.Common.{read_elements, Text, Source, attribute, plain_text}
+use Rattle.dynamo_shape.proofs.Common.{number_text, byte_string, each, Datum, SetKind, strings}
+use Rattle.dynamo_shape.proofs.Common.{numbers, blobs, symbol, IsElement, AllElements, conforms}
+use Rattle.dynamo_shape.proofs.Common.{kept, kept_elements, read_list, read, ReadsBack, Same}
+use Rattle.dynamo_shape.proofs.Common.{SameElements, Shape, char, string, bytes, integer, set, enum}
+use Rattle.dynamo_shape.proofs.Common.{Av, N, S, B, set_kind, set_of, set_element, set_elements}
+use Rattle.dynamo_shape.proofs.Common.{written, written_elements}
+use Rattle.dynamo_value.specs.Av as av
+use Rattle.dynamo_ser.specs.Datum as datum
 use Rattle.dynamo_shape.proofs.Alike.{data_refl}
 use Rattle.dynamo_shape.proofs.Keys.{units_back}
 use Rattle.dynamo_shape.proofs.Results.{chars-encode}
-use Rattle.dynamo_value.specs.Av as av
-use Rattle.dynamo_ser.specs.Datum as datum
-use Rattle.dynamo_de.specs.Answer.{value}
-use Rattle.dynamo_de.specs.Reading.{read_elements}
-use Rattle.dynamo_de.specs.Source.{Text, Source, attribute, plain_text, number_text, byte_string, each}
-use Rattle.dynamo_ser.specs.Datum.{Datum}
-use Rattle.dynamo_ser.specs.Symbols.{SetKind, strings, numbers, blobs, symbol}
-use Rattle.dynamo_shape.specs.Clear.{IsElement}
-use Rattle.dynamo_shape.specs.Conforms.{AllElements, conforms}
-use Rattle.dynamo_shape.specs.Kept.{kept, kept_elements}
-use Rattle.dynamo_shape.specs.Read.{read_list, read}
-use Rattle.dynamo_shape.specs.ReadsBack.{ReadsBack}
-use Rattle.dynamo_shape.specs.Same.{Same, SameElements}
-use Rattle.dynamo_shape.specs.Shape.{Shape, char, string, bytes, integer, set, enum}
-use Rattle.dynamo_value.specs.Av.{Av, N, S, B}
-use Rattle.dynamo_write.specs.Set.{set_kind, set_of, set_element, set_elements}
-use Rattle.dynamo_write.specs.Written.{written, written_elements}
 
 abbrev source_of : SetKind → Text → Source
 source_of strings = plain_text

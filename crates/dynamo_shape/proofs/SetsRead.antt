@@ -1,23 +1,14 @@
 -- What sets read is permitted by reading at their shapes: the members are put in order.
 use Rattle.std.proofs.Common.{◌≡◌, ◌↔◌, Bool, true, List, Result, Ok, Err, refl, sym, ap, subst, ◌∙◌, inl, inr}
-use Rattle.std.specs.List.{list_any}
-use Rattle.dynamo_value.specs.Fault.{Fault}
-use Rattle.dynamo_ser.specs.Datum as datum
-use Rattle.dynamo_ser.specs.Datum.{Datum, Elements, no_elements, element}
-use Rattle.dynamo_ser.specs.Symbols.{SetKind, symbol}
-use Rattle.dynamo_de.specs.Answer as answer
-use Rattle.dynamo_de.specs.Answer.{Answer, After}
-use Rattle.dynamo_value.specs.Steps.{◌>>=◌}
-use Rattle.dynamo_de.specs.Reading.{read_elements}
+use Rattle.dynamo_shape.proofs.Common.{list_any, Fault, Datum, Elements, no_elements, element}
+use Rattle.dynamo_shape.proofs.Common.{SetKind, symbol, Answer, After, ◌>>=◌, read_elements, Source}
+use Rattle.dynamo_shape.proofs.Common.{AllElements, conforms, AnswersByShape, EqualAsTold}
+use Rattle.dynamo_shape.proofs.Common.{ReadsByShape, AreAscending, sorted_elements, sorted, read}
+use Rattle.dynamo_shape.proofs.Common.{into, read_list, Same, SameElements, Shape}
 use Rattle.dynamo_de.specs.Reads.{ReadsSet}
-use Rattle.dynamo_de.specs.Source.{Source}
-use Rattle.dynamo_shape.specs.Conforms.{AllElements, conforms}
-use Rattle.dynamo_shape.specs.Laws.{AnswersByShape, EqualAsTold, ReadsByShape}
-use Rattle.dynamo_shape.specs.Order.{AreAscending, sorted_elements, sorted}
-use Rattle.dynamo_shape.specs.Read.{read, into, read_list}
-use Rattle.dynamo_shape.specs.Same.{Same, SameElements}
+use Rattle.dynamo_ser.specs.Datum as datum
+use Rattle.dynamo_de.specs.Answer as answer
 use Rattle.dynamo_shape.specs.Shape as shape
-use Rattle.dynamo_shape.specs.Shape.{Shape}
 use Rattle.dynamo_shape.proofs.Answered.{stops, after}
 use Rattle.dynamo_shape.proofs.Lists.{told_each, each_answered}
 use Rattle.dynamo_shape.proofs.Ordered.{HasElement, sorts_to, sorted_alike}

@@ -1,22 +1,14 @@
 -- Sets whose members are told in order tell the same data exactly where they have the same members.
 use Rattle.std.proofs.Common.{◌≡◌, ◌↔◌, Bool, true, false, ◌||◌, List, [], ◌∷◌, refl, sym, ap, subst, ◌∙◌, inl, inr}
-use Rattle.std.specs.List.{AllByRecursion, list_any}
-use Rattle.std.specs.List.Sorted.{IsStrictlySortedBy}
-use Rattle.std.specs.Cmp.Derive.{one_truth}
-use Rattle.std.specs.Ordering.{is_lt}
-use Rattle.std.specs.declared.cmp.Ordering.{Ordering}
-use Rattle.std.specs.declared.cmp.Ordering.TheVariants.{Less}
-use Rattle.std.proofs.lemmas.Bool.{true≢false}
+use Rattle.dynamo_shape.proofs.Common.{AllByRecursion, list_any, one_truth, is_lt, Ordering, Less}
+use Rattle.dynamo_shape.proofs.Common.{true≢false, Datum, Elements, no_elements, element, SetKind}
+use Rattle.dynamo_shape.proofs.Common.{symbol, SameSet, AllElements, conforms, BelowAsTold}
+use Rattle.dynamo_shape.proofs.Common.{EqualAsTold, ToldApart, IsToldByValue, ToldAlike}
+use Rattle.dynamo_shape.proofs.Common.{IsBelowEach, AreAscending, Same, SameElements, Shape}
 use Rattle.dynamo_ser.specs.Datum as datum
-use Rattle.dynamo_ser.specs.Datum.{Datum, Elements, no_elements, element}
-use Rattle.dynamo_ser.specs.Symbols.{SetKind, symbol}
-use Rattle.dynamo_shape.specs.ByValue.{SameSet}
-use Rattle.dynamo_shape.specs.Conforms.{AllElements, conforms}
-use Rattle.dynamo_shape.specs.Laws.{BelowAsTold, EqualAsTold, ToldApart, IsToldByValue, ToldAlike}
-use Rattle.dynamo_shape.specs.Order.{IsBelowEach, AreAscending}
-use Rattle.dynamo_shape.specs.Same.{Same, SameElements}
 use Rattle.dynamo_shape.specs.Shape as shape
-use Rattle.dynamo_shape.specs.Shape.{Shape}
+use Rattle.dynamo_ser.specs.Parts.{content_in, elements_in}
+use Rattle.std.specs.List.Sorted.{IsStrictlySortedBy}
 use Rattle.dynamo_shape.proofs.Alike.{data_refl}
 use Rattle.dynamo_shape.proofs.ByValue.{parts}
 use Rattle.dynamo_shape.proofs.Lists.{told_each}
@@ -76,15 +68,6 @@ module _ {T : Type 0} (tells : T → Datum) where
       λ i. element (a i) (b i)
 
 -- ---- sets, by their members
-
-abbrev elements_in : Datum → Elements
-elements_in (datum.seq ds) = ds
-elements_in (datum.newtype_struct name d) = elements_in d
-elements_in _ = no_elements
-
-abbrev content_in : Datum → Datum
-content_in (datum.newtype_struct name d) = d
-content_in d = d
 
 -- as a list, and as a set of this kind
 abbrev pub told_list : {T M : Type 0} → (T → Datum) → (M → List T) → M → Datum

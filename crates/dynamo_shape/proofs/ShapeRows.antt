@@ -1,19 +1,14 @@
 -- Worked rows of what conforms, what is kept, and which shapes are clear, by computation.
 use Rattle.std.proofs.Common.{◌≡◌, pos, refl, inl, inr}
-use Rattle.std.specs.Prelude.{codes}
-use Rattle.std.proofs.lemmas.Bool.{true≢false}
-use Rattle.dynamo_shape.proofs.FieldsTold.{told_alone}
+use Rattle.dynamo_shape.proofs.Common.{codes, true≢false, Datum, strings, numbers, symbol, left_out}
+use Rattle.dynamo_shape.proofs.Common.{IsKey, IsElement, NearlyClear, NearlyClearFields, NoneNested}
+use Rattle.dynamo_shape.proofs.Common.{conforms, conform_fields, kept, Same, put_pair, boolean}
+use Rattle.dynamo_shape.proofs.Common.{char, string, unit, integer, option, newtype, list, set}
+use Rattle.dynamo_shape.proofs.Common.{enum, nothing, one, no_variants, variant, FieldShapes}
+use Rattle.dynamo_shape.proofs.Common.{no_field_shapes, field_shape, tagged, no_tagged}
+use Rattle.dynamo_shape.proofs.Common.{tagged_variant, u8, u64}
 use Rattle.dynamo_ser.specs.Datum as datum
-use Rattle.dynamo_ser.specs.Datum.{Datum}
-use Rattle.dynamo_ser.specs.Symbols.{strings, numbers, symbol}
-use Rattle.dynamo_shape.specs.Absence.{left_out}
-use Rattle.dynamo_shape.specs.Clear.{IsKey, IsElement, NearlyClear, NearlyClearFields, NoneNested}
-use Rattle.dynamo_shape.specs.Conforms.{conforms, conform_fields}
-use Rattle.dynamo_shape.specs.Kept.{kept}
-use Rattle.dynamo_shape.specs.Same.{Same}
-use Rattle.dynamo_shape.specs.SameKey.{put_pair}
-use Rattle.dynamo_shape.specs.Shape.{boolean, char, string, unit, integer, option, newtype, list, set, enum, nothing, one, no_variants, variant, FieldShapes, no_field_shapes, field_shape, tagged, no_tagged, tagged_variant}
-use Rattle.dynamo_value.specs.Integer.{u8, u64}
+use Rattle.dynamo_shape.proofs.FieldsTold.{told_alone}
 
 abbrev seven : Datum
 seven = datum.integer u8 (pos 7)

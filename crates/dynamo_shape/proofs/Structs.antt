@@ -1,32 +1,21 @@
 -- What is written for fields reads back by their names.
 use Rattle.std.proofs.Common.{◌≡◌, true, false, cond, List, [], ◌∷◌, Option, Ok, Some, None, refl, sym, ap, subst, ◌∙◌, inl, inr}
-use Rattle.std.specs.Prelude.{⊤, bytes_eq}
-use Rattle.std.specs.List.{AllByRecursion}
-use Rattle.std.proofs.lemmas.Bool.{true≢false, cases_Bool}
-use Rattle.std.proofs.lemmas.Map.Text.{is_eq-slice_cmp}
-use Rattle.std.specs.FinMap.Entries.{find}
-use Rattle.std.proofs.lemmas.Slice.Eq.{bytes_eq-Decides}
+use Rattle.dynamo_shape.proofs.Common.{⊤, bytes_eq, AllByRecursion, true≢false, cases_Bool}
+use Rattle.dynamo_shape.proofs.Common.{is_eq-slice_cmp, find, bytes_eq-Decides, collect_twice}
+use Rattle.dynamo_shape.proofs.Common.{text_cmp, Answer, value, value_or, Text, attribute}
+use Rattle.dynamo_shape.proofs.Common.{entries_of, Datum, Fields, no_fields, field, Absence}
+use Rattle.dynamo_shape.proofs.Common.{is_left_out, put_field, is_field, NearlyClearFields}
+use Rattle.dynamo_shape.proofs.Common.{kept_fields, read, into, missing, read_field}
+use Rattle.dynamo_shape.proofs.Common.{read_each_entry, last_of, read_tag, read_tag_of}
+use Rattle.dynamo_shape.proofs.Common.{fields_among, fields_by_name, ReadsBack, SameFields, Shape}
+use Rattle.dynamo_shape.proofs.Common.{FieldShapes, no_field_shapes, field_shape, Av, S, M, Members}
+use Rattle.dynamo_shape.proofs.Common.{no_members, member, members_of, collect, written_fields}
+use Rattle.dynamo_shape.proofs.Common.{map_of_entries, ◌>>=◌}
+use Rattle.dynamo_ser.specs.Datum as datum
 use Rattle.dynamo_shape.proofs.Members.{EachMember, collected}
 use Rattle.dynamo_write.proofs.Orders.{last, find_last}
-use Rattle.dynamo_write.proofs.Collected.{collect_twice}
-use Rattle.dynamo_value.specs.View.{text_cmp}
 use Rattle.dynamo_shape.proofs.Found.{same_bytes, or_false, KeysIn, keys_weaker, differs, is_first, is_later, Unseen, unseen_none, unseen_more}
-use Rattle.dynamo_de.specs.Answer.{Answer, value, value_or}
-use Rattle.dynamo_de.specs.Source.{Text, attribute, entries_of}
-use Rattle.dynamo_ser.specs.Datum.{Datum, Fields, no_fields, field}
-use Rattle.dynamo_shape.specs.Absence.{Absence, is_left_out, put_field}
-use Rattle.dynamo_shape.specs.Clear.{is_field, NearlyClearFields}
-use Rattle.dynamo_shape.specs.Kept.{kept_fields}
-use Rattle.dynamo_shape.specs.Read.{read, into, missing, read_field, read_each_entry, last_of, read_tag, read_tag_of, fields_among, fields_by_name}
-use Rattle.dynamo_shape.specs.ReadsBack.{ReadsBack}
-use Rattle.dynamo_shape.specs.Same.{SameFields}
-use Rattle.dynamo_shape.specs.Shape.{Shape, FieldShapes, no_field_shapes, field_shape}
-use Rattle.dynamo_value.specs.Av.{Av, S, M, Members, no_members, member, members_of}
-use Rattle.dynamo_write.specs.Collect.{collect}
-use Rattle.dynamo_write.specs.Written.{written_fields, map_of_entries}
-use Rattle.dynamo_value.specs.Steps.{◌>>=◌}
 use Rattle.dynamo_de.specs.Ignored.{ignore}
-use Rattle.dynamo_ser.specs.Datum as datum
 
 -- ---- fields by what is read under their names
 

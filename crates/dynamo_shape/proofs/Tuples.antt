@@ -1,38 +1,20 @@
 -- What tuples read, by what is inside of them.
 use Rattle.std.proofs.Common.{◌≡◌, List, [], ◌∷◌, Result, Ok, Err, refl, sym, ap, subst, ◌∙◌, inl, inr}
-use Rattle.dynamo_value.specs.Fault.{Fault}
+use Rattle.dynamo_shape.proofs.Common.{Fault, Datum, Elements, elements_of, After, ◌>>=◌}
+use Rattle.dynamo_shape.proofs.Common.{read_elements, ReadsTwo, ReadsThree, ReadsFour, Source}
+use Rattle.dynamo_shape.proofs.Common.{conforms, conform_each, AnswersByShape, ReadsByShape, read}
+use Rattle.dynamo_shape.proofs.Common.{read_each, Same, SameElements, Shape, Shapes, no_shapes}
+use Rattle.dynamo_de.specs.Reads.{ReadsFirst}
 use Rattle.dynamo_ser.specs.Datum as datum
-use Rattle.dynamo_ser.specs.Datum.{Datum, Elements, elements_of}
 use Rattle.dynamo_de.specs.Answer as answer
-use Rattle.dynamo_de.specs.Answer.{After}
-use Rattle.dynamo_value.specs.Steps.{◌>>=◌}
-use Rattle.dynamo_de.specs.Reading.{read_elements}
-use Rattle.dynamo_de.specs.Reads.{ReadsFirst, ReadsTwo, ReadsThree, ReadsFour}
-use Rattle.dynamo_de.specs.Source.{Source}
-use Rattle.dynamo_shape.specs.Conforms.{conforms, conform_each}
-use Rattle.dynamo_shape.specs.Laws.{AnswersByShape, ReadsByShape}
-use Rattle.dynamo_shape.specs.Read.{read, read_each}
-use Rattle.dynamo_shape.specs.Same.{Same, SameElements}
 use Rattle.dynamo_shape.specs.Shape as shape
-use Rattle.dynamo_shape.specs.Shape.{Shape, Shapes, no_shapes}
+use Rattle.dynamo_ser.specs.Parts.{elements_in, head_in, tail_in}
 use Rattle.dynamo_shape.proofs.Answered.{stops, made, after}
 use Rattle.dynamo_shape.proofs.Scalars.{no_fault}
 
 abbrev value_or : {A : Type 0} → Result A Fault → A → A
 value_or (Ok x) y = x
 value_or (Err f) y = y
-
-abbrev elements_in : Datum → Elements
-elements_in (datum.tuple ds) = ds
-elements_in _ = datum.no_elements
-
-abbrev head_in : Elements → Datum
-head_in (datum.element d ds) = d
-head_in datum.no_elements = datum.unit
-
-abbrev tail_in : Elements → Elements
-tail_in (datum.element d ds) = ds
-tail_in datum.no_elements = datum.no_elements
 
 -- what holds of whatever the rest answers holds of the whole
 reaches : {A V : Type 0} (reads : Source → Result A Fault → Type 0) (next : A → List Source → Result V Fault → Type 0) (P : V → Type 0) → ((x : A) (rest : List Source) (v : V) → next x rest (Ok v) → P v) → (ss : List Source) (v : V) → ReadsFirst reads next ss (Ok v) → P v

@@ -1,18 +1,13 @@
 -- Structs and newtypes that are read by hand: what they read is permitted by reading at their shapes.
 use Rattle.std.proofs.Common.{◌≡◌, List, Result, refl, sym, ap, subst}
-use Rattle.dynamo_value.specs.Fault.{Fault}
+use Rattle.dynamo_shape.proofs.Common.{Fault, Datum, Answer, After, Gives, read_newtype, read_parts}
+use Rattle.dynamo_shape.proofs.Common.{Source, Text, Entry, conforms, ReadsByShape, read, into}
+use Rattle.dynamo_shape.proofs.Common.{read_field, fields_by_name, fields_in_order, fields_of}
+use Rattle.dynamo_shape.proofs.Common.{Shape, FieldShapes, struct, Same}
 use Rattle.dynamo_ser.specs.Datum as datum
-use Rattle.dynamo_ser.specs.Datum.{Datum}
-use Rattle.dynamo_de.specs.Answer.{Answer, After, Gives}
-use Rattle.dynamo_de.specs.Reading.{read_newtype, read_parts}
-use Rattle.dynamo_de.specs.Visitors.{Parts, by_name, in_order}
-use Rattle.dynamo_de.specs.Source.{Source, Text, Entry}
-use Rattle.dynamo_shape.specs.Conforms.{conforms}
-use Rattle.dynamo_shape.specs.Laws.{ReadsByShape}
-use Rattle.dynamo_shape.specs.Read.{read, into, read_field, fields_by_name, fields_in_order, fields_of}
 use Rattle.dynamo_shape.specs.Shape as shape
-use Rattle.dynamo_shape.specs.Shape.{Shape, FieldShapes, struct}
-use Rattle.dynamo_shape.specs.Same.{Same}
+use Rattle.dynamo_ser.specs.Parts.{content_in}
+use Rattle.dynamo_de.specs.Visitors.{Parts, by_name, in_order}
 use Rattle.dynamo_shape.proofs.Answered.{made, after}
 use Rattle.dynamo_shape.proofs.ByHand.{same_next, by_steps}
 use Rattle.dynamo_shape.proofs.InOrder.{ListsFields}
@@ -36,7 +31,3 @@ newtype_permitted name s tells reads h source r a =
     after (conforms (shape.newtype name s)) Same (λ v. datum.newtype_struct name (tells v)) reads (λ c. into (datum.newtype_struct name) (read s c))
     (λ c r b. made (conforms s) Same (conforms (shape.newtype name s)) Same tells (datum.newtype_struct name) (λ d k. subst (conforms s) (sym (ap content_in k.1)) k.2) (λ d e same. (e, refl, same)) (read s c) r (h c r b))
     (read_newtype source) r a
-  where
-    content_in : Datum → Datum
-    content_in (datum.newtype_struct other d) = d
-    content_in d = d

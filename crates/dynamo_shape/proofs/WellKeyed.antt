@@ -1,7 +1,22 @@
 -- Conforming data write the same exactly where they are the same but for what is lost.
 use Rattle.std.proofs.Common.{◌≡◌, ◌↔◌, ℕ, suc, Bool, true, false, cond, List, [], ◌∷◌, sym, ap, subst, ◌∙◌, inl, inr}
-use Rattle.std.proofs.lemmas.Map.Text.{is_eq-slice_cmp}
-use Rattle.dynamo_shape.proofs.Results.{ok_same, value_same}
+use Rattle.dynamo_shape.proofs.Common.{is_eq-slice_cmp, Text, attribute, Datum, Pairs, no_pairs}
+use Rattle.dynamo_shape.proofs.Common.{pair, Fields, Variant, SetKind, strings, numbers, blobs}
+use Rattle.dynamo_shape.proofs.Common.{is_left_out, IsElement, AreUnits, NearlyClear}
+use Rattle.dynamo_shape.proofs.Common.{NearlyClearAll, NearlyClearFields, NearlyClearContent}
+use Rattle.dynamo_shape.proofs.Common.{NearlyClearVariants, NearlyClearTagged, AllElements}
+use Rattle.dynamo_shape.proofs.Common.{AllPairs, conforms, conform_each, conform_fields}
+use Rattle.dynamo_shape.proofs.Common.{conforms_content, conforms_variant, conforms_tagged, kept}
+use Rattle.dynamo_shape.proofs.Common.{kept_elements, kept_pairs, kept_fields, is_written_null}
+use Rattle.dynamo_shape.proofs.Common.{read, Same, Shape, boolean, char, string, bytes, unit}
+use Rattle.dynamo_shape.proofs.Common.{integer, unit_struct, option, newtype, list, set, struct}
+use Rattle.dynamo_shape.proofs.Common.{struct_by, enum, tagged, ordered, Shapes, no_shapes}
+use Rattle.dynamo_shape.proofs.Common.{FieldShapes, no_field_shapes, field_shape, Content, nothing}
+use Rattle.dynamo_shape.proofs.Common.{one, several, named, Variants, no_variants, variant, Tagged}
+use Rattle.dynamo_shape.proofs.Common.{no_tagged, tagged_variant, Av, written, shape}
+use Rattle.dynamo_ser.specs.Datum as datum
+use Rattle.dynamo_value.proofs.Steps.{ok_same}
+use Rattle.dynamo_shape.proofs.Results.{value_same}
 use Rattle.dynamo_write.proofs.Orders as any
 use Rattle.dynamo_shape.proofs.Maps as own
 use Rattle.dynamo_shape.proofs.Maps.{pairs_back, pairs_weaker, distinct_back}
@@ -10,19 +25,7 @@ use Rattle.dynamo_shape.proofs.Back.{back}
 use Rattle.dynamo_shape.proofs.Flat.{shape_clear}
 use Rattle.dynamo_shape.proofs.Equivalence.{same_sym, same_trans}
 use Rattle.dynamo_shape.proofs.Same.{Distinct, WellKeyed, WellKeyedAll, WellKeyedPairs, WellKeyedFields, enc_flat, pairs_flat, same_enc}
-use Rattle.dynamo_ser.specs.Datum as datum
-use Rattle.dynamo_de.specs.Source.{Text, attribute}
-use Rattle.dynamo_ser.specs.Datum.{Datum, Pairs, no_pairs, pair, Fields, Variant}
-use Rattle.dynamo_ser.specs.Symbols.{SetKind, strings, numbers, blobs}
-use Rattle.dynamo_shape.specs.Absence.{is_left_out}
-use Rattle.dynamo_shape.specs.Clear.{IsElement, AreUnits, NearlyClear, NearlyClearAll, NearlyClearFields, NearlyClearContent, NearlyClearVariants, NearlyClearTagged}
-use Rattle.dynamo_shape.specs.Conforms.{AllElements, AllPairs, conforms, conform_each, conform_fields, conforms_content, conforms_variant, conforms_tagged}
-use Rattle.dynamo_shape.specs.Kept.{kept, kept_elements, kept_pairs, kept_fields, is_written_null}
-use Rattle.dynamo_shape.specs.Read.{read}
-use Rattle.dynamo_shape.specs.Same.{Same}
-use Rattle.dynamo_shape.specs.Shape.{Shape, boolean, char, string, bytes, unit, integer, unit_struct, option, newtype, list, set, tuple, tuple_struct, map, struct, struct_by, enum, tagged, ordered, Shapes, no_shapes, shape, FieldShapes, no_field_shapes, field_shape, Content, nothing, one, several, named, Variants, no_variants, variant, Tagged, no_tagged, tagged_variant}
-use Rattle.dynamo_value.specs.Av.{Av}
-use Rattle.dynamo_write.specs.Written.{written}
+use Rattle.dynamo_shape.specs.Shape.{tuple, tuple_struct, map}
 
 fresh : (t : Text) (es : List (Text × Av)) → own.Fresh t es → any.Fresh t es
 fresh t [] h = tt

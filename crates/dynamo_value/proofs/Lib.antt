@@ -2,4 +2,5 @@ mod Copied
 mod Equal
 pub mod Members
 pub mod Reordered
+pub mod Steps
 pub mod Views

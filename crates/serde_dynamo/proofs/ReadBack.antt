@@ -17,7 +17,7 @@ use Rattle.dynamo_de.specs.Source.{Source, attribute}
 use Rattle.dynamo_json.specs.Json.{json_of}
 use Rattle.dynamo_json.specs.Parsed.{parsed}
 use Rattle.dynamo_json.proofs.ReadBack.{value_back}
-use Rattle.dynamo_json.proofs.Results.{the_same, no_value}
+use Rattle.dynamo_value.proofs.Steps.{ok_same, err_ok}
 use Rattle.dynamo_shape.specs.Clear.{Clear, NearlyClear}
 use Rattle.dynamo_shape.specs.Conforms.{conforms}
 use Rattle.dynamo_shape.specs.Kept.{kept}
@@ -34,7 +34,7 @@ use Rattle.dynamo_record.specs.About.{About}
 
 -- what is read of the JSON value is the attribute value that it was made of
 pub passes : (j : Data) (a b : Av) → HasBytes a → j ≡ json_of a → parsed j ≡ Ok b → b ≡ a
-passes j a b h e r = the_same (sym r ∙ ap parsed e ∙ value_back a h)
+passes j a b h e r = ok_same (sym r ∙ ap parsed e ∙ value_back a h)
 
 -- and nothing is refused
 pub passes_always : (j : Data) (a : Av) (f : Fault) → HasBytes a → j ≡ json_of a → Refused (refusal_in (parsed j)) f → f ≡ out_of_memory
@@ -46,7 +46,7 @@ passes_always j a f h e r =
 
 -- what conforms is written
 pub writes_always : {W : Type 0} (s : Shape) (d : Datum) (e : Error) → NearlyClear s → conforms s d → Writes fault_of W AnswersDatum d (Err e) → fault_of e ≡ out_of_memory
-writes_always s d e n c (inl (inl is)) = absurd (no_value (sym is ∙ (back s d n c).2))
+writes_always s d e n c (inl (inl is)) = absurd (err_ok (sym is ∙ (back s d n c).2))
 writes_always s d e n c (inl (inr x)) = x.1
 writes_always s d e n c (inr x) = x.1
 

@@ -1,13 +1,6 @@
 use Rattle.std.proofs.Common.{rules, ◌≡◌, List, [], ◌∷◌, ◌++◌, map, sym, ap, ◌∙◌, subst, append_assoc}
-use Rattle.std.proofs.lemmas.List.{take_all}
-use Rattle.std.specs.List.{AllByRecursion, IsDistinct}
-use Rattle.std.specs.Map.{keys_of}
-use Rattle.std.specs.String.{string_eq}
-use Rattle.dynamo_value.proofs.Members.{Entry}
-use Rattle.dynamo_value.specs.HasBytes.{HasBytes}
-use Rattle.dynamo_value.specs.View.{view}
-use Rattle.dynamo_value.specs.declared.attribute_value.AttributeValue.{AttributeValue}
-use Rattle.dynamo_json.specs.KeysDiffer.{KeysDiffer}
+use Rattle.dynamo_json.proofs.Common.{take_all, AllByRecursion, IsDistinct, keys_of, string_eq}
+use Rattle.dynamo_json.proofs.Common.{Entry, HasBytes, view, AttributeValue, KeysDiffer}
 use Rattle.dynamo_json.proofs.Differ.{one_more, elements_differ, entries_differ}
 use Rattle.dynamo_json.proofs.Written.{written_bytes, elements_have_bytes}
 use Rattle.dynamo_json.proofs.conforms.+walk.Goals as goal

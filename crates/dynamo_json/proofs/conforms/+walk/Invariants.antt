@@ -1,9 +1,6 @@
 use Rattle.std.proofs.Common.{◌≡◌, List, ◌++◌, map, take}
-use Rattle.std.specs.List.{AllByRecursion}
-use Rattle.dynamo_value.proofs.Members.{Entry}
-use Rattle.dynamo_value.specs.HasBytes.{HasBytes, MembersHaveBytes}
-use Rattle.dynamo_value.specs.View.{view, members_view}
-use Rattle.dynamo_json.specs.KeysDiffer.{KeysDiffer}
+use Rattle.dynamo_json.proofs.Common.{AllByRecursion, Entry, HasBytes, MembersHaveBytes, view}
+use Rattle.dynamo_json.proofs.Common.{members_view, KeysDiffer}
 use Rattle.dynamo_json.proofs.Differ.{EachDiffers}
 use Rattle.dynamo_json.proofs.conforms.+walk.Given as goal
 

@@ -1,6 +1,5 @@
 use Rattle.std.proofs.Common.{map, take}
-use Rattle.std.specs.List.{AllByRecursion}
-use Rattle.base64.specs.GeneralPurpose.{IsBytes}
+use Rattle.dynamo_json.proofs.Common.{AllByRecursion, IsBytes}
 use Rattle.dynamo_json.proofs.conforms.blobs.Given as goal
 
 abbrev pub invariant-loop-bytes : goal.invariant-loop-bytes

@@ -1,17 +1,12 @@
 use Rattle.std.proofs.Common.{◌≡◌, List, [], ◌∷◌, ◌++◌, Ok, ap, sym, subst, ◌∙◌, append_assoc, append-nil, rules, string_bytes}
-use Rattle.std.specs.List.Sorted.{IsStrictlySortedBy}
-use Rattle.std.specs.Map.{keys_of}
-use Rattle.std.specs.String.{string_cmp}
+use Rattle.dynamo_json.proofs.Common.{IsStrictlySortedBy, keys_of, string_cmp, view-Array}
+use Rattle.dynamo_json.proofs.Common.{view-Object, fault_of, Refused, refusal_in, ◌>>=◌, view}
+use Rattle.dynamo_json.proofs.Common.{entries_view, inserted, parsed_content, parsed_elements}
+use Rattle.dynamo_json.proofs.Common.{parsed_members}
 use Rattle.serde_json.specs.Data as json
 use Rattle.serde_json.specs.View as sj
-use Rattle.serde_json.proofs.Views.{Entry, view-Array, view-Object}
-use Rattle.dynamo_value.specs.Kind.{fault_of}
+use Rattle.serde_json.proofs.Views.{Entry}
 use Rattle.dynamo_value.specs.PrefixView.{prefix_view}
-use Rattle.dynamo_value.specs.Refusal.{Refused, refusal_in}
-use Rattle.dynamo_value.specs.Steps.{◌>>=◌}
-use Rattle.dynamo_value.specs.View.{view, entries_view}
-use Rattle.dynamo_value.proofs.Members.{inserted}
-use Rattle.dynamo_json.specs.Parsed.{parsed_content, parsed_elements, parsed_members}
 use Rattle.dynamo_json.proofs.Each.{goes_on, goes_on_at, stops, stops_at, all_done}
 use Rattle.dynamo_json.proofs.Reading.{value_in, elements_refused, elements_read, member_in, members_refused, members_read, member_refused, put_last, map_refused, list_refused, no_next, single_member}
 use Rattle.dynamo_json.proofs.from_json.+read.Goals as goal

@@ -1,6 +1,6 @@
 use Rattle.std.proofs.Common.{◌≡◌, List, ◌++◌, Ok, map, take}
+use Rattle.dynamo_json.proofs.Common.{view, entries_view}
 use Rattle.serde_json.proofs.Views.{Entry}
-use Rattle.dynamo_value.specs.View.{view, entries_view}
 use Rattle.dynamo_json.proofs.Each.{each}
 use Rattle.dynamo_json.proofs.Reading.{value_in, member_in}
 use Rattle.dynamo_json.proofs.from_json.+read.Given as goal

@@ -1,11 +1,7 @@
 use Rattle.std.proofs.Common.{ap, ◌∙◌, rules, Vec, Global, ℕ}
+use Rattle.dynamo_json.proofs.Common.{Value, bytes_of_base64, fault_of, Refused, refusal_in, ◌>>=◌}
+use Rattle.dynamo_json.proofs.Common.{each_in, blob_in, string_in}
 use Rattle.serde_json.specs.View as sj
-use Rattle.serde_json.specs.declared.value.Value.{Value}
-use Rattle.dynamo_value.specs.Base64.{bytes_of_base64}
-use Rattle.dynamo_value.specs.Kind.{fault_of}
-use Rattle.dynamo_value.specs.Refusal.{Refused, refusal_in}
-use Rattle.dynamo_value.specs.Steps.{◌>>=◌}
-use Rattle.dynamo_json.specs.Parsed.{each_in, blob_in, string_in}
 use Rattle.dynamo_json.proofs.Each.{goes_on_at, stops_at, all_done, refused_as}
 use Rattle.dynamo_json.proofs.Reading.{each_in-items_view}
 use Rattle.dynamo_json.proofs.from_json.blobs.Goals as goal

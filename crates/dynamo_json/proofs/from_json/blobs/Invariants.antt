@@ -1,6 +1,6 @@
 use Rattle.std.proofs.Common.{◌≡◌, Ok, map, take}
+use Rattle.dynamo_json.proofs.Common.{blob_in}
 use Rattle.serde_json.specs.View as sj
-use Rattle.dynamo_json.specs.Parsed.{blob_in}
 use Rattle.dynamo_json.proofs.Each.{each}
 use Rattle.dynamo_json.proofs.from_json.blobs.Given as goal
 

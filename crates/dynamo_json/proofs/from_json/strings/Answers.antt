@@ -1,9 +1,6 @@
 use Rattle.std.proofs.Common.{string_bytes, sym, ap, ◌∙◌, rules, Ok}
+use Rattle.dynamo_json.proofs.Common.{Value, fault_of, Refused, refusal_in, each_in, string_in}
 use Rattle.serde_json.specs.View as sj
-use Rattle.serde_json.specs.declared.value.Value.{Value}
-use Rattle.dynamo_value.specs.Kind.{fault_of}
-use Rattle.dynamo_value.specs.Refusal.{Refused, refusal_in}
-use Rattle.dynamo_json.specs.Parsed.{each_in, string_in}
 use Rattle.dynamo_json.proofs.Each.{goes_on_at, stops_at, all_done}
 use Rattle.dynamo_json.proofs.Reading.{each_in-items_view}
 use Rattle.dynamo_json.proofs.from_json.strings.Goals as goal

@@ -1,21 +1,17 @@
 use Rattle.std.proofs.Common.{◌≡◌, ◌-◌, ◌∷◌, Some, None, Err, map, string_bytes, refl, subst, sym, ap, ◌∙◌, rules, arith}
-use Rattle.std.proofs.lemmas.Result.{err_from_is_err_and}
+use Rattle.dynamo_json.proofs.Common.{err_from_is_err_and, after_end_array, read_key, HasBytes}
+use Rattle.dynamo_json.proofs.Common.{prefix_of, prefixes, fault_of, view, entries_view}
+use Rattle.dynamo_json.proofs.Common.{members_view, N, S, B, Null, L, Ss, Ns, Bs, the_lemmas}
+use Rattle.dynamo_json.proofs.Common.{inserted, ValueIsNext, ContentIsNext, MembersAreNext, json_of}
+use Rattle.dynamo_json.proofs.Common.{members_json}
 use Rattle.json.specs.Token as token
-use Rattle.json.specs.Json.{after_end_array, read_key}
-use Rattle.json.specs.Reads.{token_of}
 use Rattle.serde_json.specs.Data as json
 use Rattle.dynamo_value.specs.Av as av
-use Rattle.dynamo_value.specs.HasBytes.{HasBytes}
-use Rattle.dynamo_value.specs.Prefix.{prefix_of, prefixes}
+use Rattle.json.specs.Reads.{token_of}
 use Rattle.dynamo_value.specs.PrefixView.{prefix_view}
-use Rattle.dynamo_value.specs.Kind.{fault_of}
-use Rattle.dynamo_value.specs.View.{view, entries_view, members_view}
 use Rattle.dynamo_value.specs.declared.prefix.Prefix.{Prefix}
-use Rattle.dynamo_value.specs.declared.attribute_value.AttributeValue.{N, S, Bool, B, Null, L, Ss, Ns, Bs, the_lemmas}
-use Rattle.dynamo_value.proofs.Members.{inserted}
+use Rattle.dynamo_value.specs.declared.attribute_value.AttributeValue.{Bool}
 use Rattle.dynamo_value.proofs.Views.{view_list, view_map, view_strings, view_numbers, view_blobs}
-use Rattle.dynamo_json.specs.Followed.{ValueIsNext, ContentIsNext, MembersAreNext}
-use Rattle.dynamo_json.specs.Json.{json_of, members_json}
 use Rattle.dynamo_json.proofs.Followed.{stops, stops_for_memory, Inside, content_decodes, element_next, elements_left, member_next, members_left, value_of_member, begun, keyed, content_next, not_closed}
 use Rattle.dynamo_json.proofs.InText.{text_stands, flag_stands, list_stands, map_stands, items_next, items_done, members_next, members_done, pushed, all_and, single}
 use Rattle.dynamo_json.proofs.ReadBack.{among}

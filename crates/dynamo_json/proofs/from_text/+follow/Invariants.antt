@@ -1,9 +1,7 @@
 use Rattle.std.proofs.Common.{◌+◌, ◌*◌, length, map}
-use Rattle.std.specs.List.{AllByRecursion}
-use Rattle.dynamo_value.specs.HasBytes.{HasBytes, MembersHaveBytes}
-use Rattle.dynamo_value.specs.View.{view, members_view}
-use Rattle.dynamo_json.specs.Followed.{ElementsAreNext, MembersAreNext}
-use Rattle.dynamo_json.specs.Json.{json_of, members_json}
+use Rattle.dynamo_json.proofs.Common.{AllByRecursion, HasBytes, MembersHaveBytes, view}
+use Rattle.dynamo_json.proofs.Common.{members_view, ElementsAreNext, MembersAreNext, json_of}
+use Rattle.dynamo_json.proofs.Common.{members_json}
 use Rattle.dynamo_json.proofs.InText.{ItemsLeft, MembersLeft}
 use Rattle.dynamo_json.proofs.from_text.+follow.Given as goal
 

@@ -1,8 +1,6 @@
 use Rattle.std.proofs.Common.{◌≡◌, ◌∷◌, sym, ◌∙◌, arith}
-use Rattle.json.specs.Lex.{tokens}
+use Rattle.dynamo_json.proofs.Common.{tokens, members_view, item_json, members_json}
 use Rattle.json.specs.Token as token
-use Rattle.dynamo_value.specs.View.{members_view}
-use Rattle.dynamo_json.specs.Json.{item_json, members_json}
 use Rattle.dynamo_json.proofs.InText.{object_stands, whole}
 use Rattle.dynamo_json.proofs.from_text.attributes.Goals as goal
 

@@ -1,13 +1,8 @@
 use Rattle.std.proofs.Common.{◌≡◌, ◌<◌, [], ◌∷◌, length, IfErr, sym, subst, ◌∙◌, arith}
-use Rattle.std.proofs.lemmas.Result.{err_from_is_err_and}
-use Rattle.json.specs.Lex.{tokens}
+use Rattle.dynamo_json.proofs.Common.{err_from_is_err_and, tokens, Members, members_view}
+use Rattle.dynamo_json.proofs.Common.{SpellsItem, item_json, members_json}
 use Rattle.json.specs.Token as token
-use Rattle.json.specs.Token.{Token}
 use Rattle.serde_json.specs.Data as json
-use Rattle.dynamo_value.specs.Av.{Members}
-use Rattle.dynamo_value.specs.View.{members_view}
-use Rattle.dynamo_json.specs.Followed.{SpellsItem}
-use Rattle.dynamo_json.specs.Json.{item_json, members_json}
 use Rattle.dynamo_json.specs.OneMember.{one_member}
 use Rattle.dynamo_json.specs.declared.from_text.Stop.{Stop}
 use Rattle.dynamo_json.proofs.Followed.{item_ends}

@@ -1,12 +1,7 @@
 use Rattle.std.proofs.Common.{◌≡◌, ◌<◌, None, length, map, Vec, Global, ℕ, refl, sym, ◌∙◌, arith}
-use Rattle.std.proofs.lemmas.Result.{err_from_is_err_and}
-use Rattle.json.specs.Json.{after_end_array}
+use Rattle.dynamo_json.proofs.Common.{err_from_is_err_and, after_end_array, string, IsBytes}
+use Rattle.dynamo_json.proofs.Common.{base64_text, fault_of, BlobsAreNext}
 use Rattle.json.proofs.Grammar.{after_end_array-shorter}
-use Rattle.serde_json.specs.Data.{string}
-use Rattle.base64.specs.GeneralPurpose.{IsBytes}
-use Rattle.dynamo_value.specs.Base64.{base64_text}
-use Rattle.dynamo_value.specs.Kind.{fault_of}
-use Rattle.dynamo_json.specs.Followed.{BlobsAreNext}
 use Rattle.dynamo_json.proofs.Followed.{stops, stops_for_memory, BlobIsNext, blob_next, blob_begins, blob_text, blob_decodes}
 use Rattle.dynamo_json.proofs.InText.{string_stands, items_next, items_done, pushed, all_and}
 use Rattle.dynamo_json.proofs.from_text.blobs.Goals as goal

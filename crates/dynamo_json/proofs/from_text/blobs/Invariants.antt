@@ -1,9 +1,5 @@
 use Rattle.std.proofs.Common.{ℕ, length, map}
-use Rattle.std.specs.List.{AllByRecursion}
-use Rattle.base64.specs.GeneralPurpose.{IsBytes}
-use Rattle.serde_json.specs.Data.{string}
-use Rattle.dynamo_value.specs.Base64.{base64_text}
-use Rattle.dynamo_json.specs.Followed.{BlobsAreNext}
+use Rattle.dynamo_json.proofs.Common.{AllByRecursion, IsBytes, string, base64_text, BlobsAreNext}
 use Rattle.dynamo_json.proofs.InText.{ItemsLeft}
 use Rattle.dynamo_json.proofs.from_text.blobs.Given as goal
 

@@ -1,9 +1,6 @@
 use Rattle.std.proofs.Common.{◌≡◌, ◌<◌, None, length, map, string_bytes, refl, sym, ◌∙◌, arith}
-use Rattle.std.proofs.lemmas.Result.{err_from_is_err_and}
-use Rattle.json.specs.Json.{after_end_array}
+use Rattle.dynamo_json.proofs.Common.{err_from_is_err_and, after_end_array, string, TextsAreNext}
 use Rattle.json.proofs.Grammar.{after_end_array-shorter}
-use Rattle.serde_json.specs.Data.{string}
-use Rattle.dynamo_json.specs.Followed.{TextsAreNext}
 use Rattle.dynamo_json.proofs.Followed.{stops, text_next, texts_left}
 use Rattle.dynamo_json.proofs.InText.{string_stands, items_next, items_done, pushed}
 use Rattle.dynamo_json.proofs.from_text.strings.Goals as goal

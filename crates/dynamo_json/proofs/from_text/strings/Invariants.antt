@@ -1,6 +1,5 @@
 use Rattle.std.proofs.Common.{ℕ, length, map, string_bytes}
-use Rattle.serde_json.specs.Data.{string}
-use Rattle.dynamo_json.specs.Followed.{TextsAreNext}
+use Rattle.dynamo_json.proofs.Common.{string, TextsAreNext}
 use Rattle.dynamo_json.proofs.InText.{ItemsLeft}
 use Rattle.dynamo_json.proofs.from_text.strings.Given as goal
 

@@ -1,11 +1,7 @@
 use Rattle.std.proofs.Common.{rules, ◌≡◌, ◌∙◌, ap, sym, subst, List, map, arith}
-use Rattle.std.specs.List.{IsDistinct}
-use Rattle.std.specs.Map.{keys_of}
-use Rattle.std.specs.String.{string_eq}
+use Rattle.dynamo_json.proofs.Common.{IsDistinct, keys_of, string_eq, Entry, members_view, Lent}
+use Rattle.dynamo_json.proofs.Common.{shown}
 use Rattle.std.proofs.lemmas.List.Sorted.{answers_always}
-use Rattle.dynamo_value.proofs.Members.{Entry}
-use Rattle.dynamo_value.specs.View.{members_view}
-use Rattle.dynamo_json.specs.Tokens.{Lent, shown}
 use Rattle.dynamo_json.proofs.InTurn.{Rising, lent_in_turn}
 use Rattle.dynamo_json.proofs.json_text.by_key.Goals as goal
 

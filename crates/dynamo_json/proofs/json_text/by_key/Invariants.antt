@@ -1,5 +1,5 @@
 use Rattle.std.proofs.Common.{◌≡◌, ◌++◌, map}
-use Rattle.dynamo_json.specs.Tokens.{shown}
+use Rattle.dynamo_json.proofs.Common.{shown}
 use Rattle.dynamo_json.proofs.json_text.by_key.Given as goal
 
 abbrev pub invariant-loop-key : goal.invariant-loop-key

@@ -1,6 +1,5 @@
 use Rattle.std.proofs.Common.{◌∙◌}
-use Rattle.dynamo_value.specs.View.{members_view}
-use Rattle.dynamo_json.specs.Json.{item_json}
+use Rattle.dynamo_json.proofs.Common.{members_view, item_json}
 use Rattle.dynamo_json.proofs.Appended.{appended}
 use Rattle.dynamo_json.proofs.json_text.push_members.Goals as goal
 

@@ -1,6 +1,5 @@
 use Rattle.std.proofs.Common.{◌∙◌}
-use Rattle.dynamo_value.specs.View.{view}
-use Rattle.dynamo_json.specs.Json.{json_of}
+use Rattle.dynamo_json.proofs.Common.{view, json_of}
 use Rattle.dynamo_json.proofs.Appended.{appended}
 use Rattle.dynamo_json.proofs.json_text.push_value.Goals as goal
 

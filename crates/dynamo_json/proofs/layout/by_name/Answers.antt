@@ -1,12 +1,8 @@
 use Rattle.std.proofs.Common.{◌≡◌, ◌∙◌, List, [], ◌∷◌, ◌++◌, length, refl, sym, ap, subst, rules, arith, append_assoc, append-nil}
-use Rattle.std.specs.List.{IsDistinct}
-use Rattle.std.specs.List.Sorted.{IsPermutation}
-use Rattle.std.specs.Map.{keys_of}
-use Rattle.std.specs.String.{string_eq}
+use Rattle.dynamo_json.proofs.Common.{IsDistinct, IsPermutation, keys_of, string_eq, Entry, copied}
+use Rattle.dynamo_json.proofs.Common.{members_view}
 use Rattle.std.specs.Vec.Iter.{into_iter_items}
-use Rattle.dynamo_value.proofs.Members.{Entry, copied}
 use Rattle.dynamo_value.proofs.Reordered.{distinct, same_members}
-use Rattle.dynamo_value.specs.View.{members_view}
 use Rattle.dynamo_json.proofs.layout.by_name.Goals as goal
 
 none : (es : List Entry) → length es ≡ 0 → es ≡ []

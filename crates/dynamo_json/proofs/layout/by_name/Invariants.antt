@@ -1,7 +1,6 @@
 use Rattle.std.proofs.Common.{◌≡◌, ◌++◌, List}
 use Rattle.std.specs.Vec.Iter.{into_iter_items}
-use Rattle.dynamo_value.proofs.Members.{Entry}
-use Rattle.dynamo_value.specs.View.{members_view}
+use Rattle.dynamo_json.proofs.Common.{Entry, members_view}
 use Rattle.dynamo_json.proofs.layout.by_name.Given as goal
 
 abbrev pub invariant-loop-entry : goal.invariant-loop-entry

@@ -1,15 +1,8 @@
 use Rattle.std.proofs.Common.{rules, ◌≡◌, List, [], ◌∷◌, ◌++◌, map, sym, ap, ◌∙◌, subst, append_assoc}
-use Rattle.std.proofs.lemmas.List.{take_all}
-use Rattle.std.specs.List.{AllByRecursion, IsDistinct}
-use Rattle.std.specs.Map.{keys_of}
-use Rattle.std.specs.String.{string_eq}
+use Rattle.dynamo_json.proofs.Common.{take_all, AllByRecursion, IsDistinct, keys_of, string_eq}
+use Rattle.dynamo_json.proofs.Common.{Entry, HasBytes, view, elements_view, AttributeValue, json_of}
+use Rattle.dynamo_json.proofs.Common.{elements_json, KeysDiffer}
 use Rattle.serde_json.specs.View as sj
-use Rattle.dynamo_value.proofs.Members.{Entry}
-use Rattle.dynamo_value.specs.HasBytes.{HasBytes}
-use Rattle.dynamo_value.specs.View.{view, elements_view}
-use Rattle.dynamo_value.specs.declared.attribute_value.AttributeValue.{AttributeValue}
-use Rattle.dynamo_json.specs.Json.{json_of, elements_json}
-use Rattle.dynamo_json.specs.KeysDiffer.{KeysDiffer}
 use Rattle.dynamo_json.proofs.Differ.{one_more, elements_differ, entries_differ}
 use Rattle.dynamo_json.proofs.Written.{written, written_bytes, elements_have_bytes, elements_json-elements_of}
 use Rattle.dynamo_json.proofs.to_json.+write.Goals as goal

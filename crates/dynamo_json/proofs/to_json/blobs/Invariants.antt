@@ -1,9 +1,7 @@
 use Rattle.std.proofs.Common.{◌≡◌, map, take}
-use Rattle.std.specs.List.{AllByRecursion}
-use Rattle.base64.specs.GeneralPurpose.{IsBytes}
+use Rattle.dynamo_json.proofs.Common.{AllByRecursion, IsBytes, base64_text}
 use Rattle.serde_json.specs.Data as json
 use Rattle.serde_json.specs.View as sj
-use Rattle.dynamo_value.specs.Base64.{base64_text}
 use Rattle.dynamo_json.proofs.to_json.blobs.Given as goal
 
 abbrev pub invariant-loop-bytes : goal.invariant-loop-bytes

@@ -1,7 +1,7 @@
 use Rattle.std.proofs.Common.{List, sym, subst}
+use Rattle.dynamo_json.proofs.Common.{MembersAreJson}
 use Rattle.serde_json.specs.View as sj
 use Rattle.serde_json.proofs.Views.{Entry}
-use Rattle.dynamo_json.specs.JsonBack.{MembersAreJson}
 use Rattle.dynamo_json.proofs.WithoutFloats.{names_in_order}
 use Rattle.dynamo_json.proofs.without_floats.+walk.Goals as goal
 

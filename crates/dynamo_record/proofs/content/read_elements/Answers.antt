@@ -1,7 +1,6 @@
 use Rattle.std.proofs.Common.{[], subst}
+use Rattle.dynamo_record.proofs.Common.{Makes, read_fields}
 use Rattle.dynamo_de.specs.Answer as answer
-use Rattle.dynamo_record.specs.Listed.{Makes}
-use Rattle.dynamo_record.specs.Fields.{read_fields}
 use Rattle.dynamo_record.proofs.Inside.{all_made, too_few}
 use Rattle.dynamo_record.proofs.content.read_elements.Goals as goal
 

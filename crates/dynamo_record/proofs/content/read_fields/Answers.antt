@@ -1,6 +1,5 @@
 use Rattle.std.proofs.Common.{rules}
-use Rattle.dynamo_de.proofs.Meets.{stops_before}
-use Rattle.dynamo_record.specs.InOrder.{ReadsInOrder}
+use Rattle.dynamo_record.proofs.Common.{stops_before, ReadsInOrder}
 use Rattle.dynamo_record.proofs.content.read_fields.Goals as goal
 
 pub returns-in_err-elements : goal.returns-in_err-elements

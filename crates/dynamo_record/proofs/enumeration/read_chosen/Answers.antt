@@ -1,6 +1,5 @@
 use Rattle.std.proofs.Common.{[]}
-use Rattle.std.proofs.lemmas.Result.{err_from_is_err_and}
-use Rattle.dynamo_record.specs.Enums.{of_variants}
+use Rattle.dynamo_record.proofs.Common.{err_from_is_err_and, of_variants}
 use Rattle.dynamo_record.proofs.Chosen.{named_as, place_fits, enum_made, enum_fails, tag_fails}
 use Rattle.dynamo_record.proofs.enumeration.read_chosen.Goals as goal
 

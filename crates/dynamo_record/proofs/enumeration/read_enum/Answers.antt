@@ -1,4 +1,4 @@
-use Rattle.dynamo_record.specs.Enums.{of_variants}
+use Rattle.dynamo_record.proofs.Common.{of_variants}
 use Rattle.dynamo_record.proofs.Chosen.{named_as, enum_by_source}
 use Rattle.dynamo_record.proofs.enumeration.read_enum.Goals as goal
 

@@ -1,5 +1,5 @@
 use Rattle.std.proofs.Common.{sym, ap, ◌∙◌}
-use Rattle.std.specs.Prelude.{bytes_eq}
+use Rattle.dynamo_record.proofs.Common.{bytes_eq}
 use Rattle.dynamo_record.proofs.HeldEntries.{named_more, other_more}
 use Rattle.dynamo_record.proofs.held.held_entries.Goals.{then-eq, else-eq}
 use Rattle.dynamo_record.proofs.held.held_entries.Goals as goal

@@ -1,6 +1,5 @@
 use Rattle.std.proofs.Common.{refl, sym, subst, ◌∙◌}
-use Rattle.std.proofs.lemmas.Result.{err_from_is_err_and}
-use Rattle.std.specs.Vec.Iter.{into_iter_items}
+use Rattle.dynamo_record.proofs.Common.{err_from_is_err_and, into_iter_items}
 use Rattle.dynamo_de.specs.declared.ignored_any.IgnoredAny.{IgnoredAny}
 use Rattle.dynamo_record.specs.Held.{Holds}
 use Rattle.dynamo_record.proofs.HeldStructs.{Leads, leads_on, leads_fails, leads_end, none_left}

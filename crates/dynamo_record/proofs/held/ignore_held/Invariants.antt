@@ -1,6 +1,5 @@
 use Rattle.std.proofs.Common.{List}
-use Rattle.std.specs.Vec.Iter.{into_iter_items}
-use Rattle.dynamo_de.specs.Source.{Entry}
+use Rattle.dynamo_record.proofs.Common.{into_iter_items, Entry}
 use Rattle.dynamo_record.specs.Held.{Holds}
 use Rattle.dynamo_record.proofs.HeldStructs.{Leads}
 use Rattle.dynamo_record.proofs.held.ignore_held.Given as goal

@@ -1,8 +1,6 @@
 use Rattle.std.proofs.Common.{List, ℕ, [], Bor, map, sym, subst, ◌∙◌}
-use Rattle.std.specs.Vec.Iter.{into_iter_items}
-use Rattle.dynamo_record.specs.Fields.{missed_name}
+use Rattle.dynamo_record.proofs.Common.{into_iter_items, missed_name, listed}
 use Rattle.dynamo_record.specs.Held as held
-use Rattle.dynamo_record.specs.Records.{listed}
 use Rattle.dynamo_record.proofs.HeldStructs.{HeldSoFar, held_read, held_fails, held_made, held_missed, none_left}
 use Rattle.dynamo_record.proofs.Structs.{starts}
 use Rattle.dynamo_record.proofs.held.read_held.Goals as goal

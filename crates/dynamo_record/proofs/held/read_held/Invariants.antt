@@ -1,8 +1,6 @@
 use Rattle.std.proofs.Common.{List}
-use Rattle.std.specs.Vec.Iter.{into_iter_items}
-use Rattle.dynamo_de.specs.Source.{Entry}
+use Rattle.dynamo_record.proofs.Common.{into_iter_items, Entry, listed, AreNamed}
 use Rattle.dynamo_record.specs.Held as held
-use Rattle.dynamo_record.specs.Records.{listed, AreNamed}
 use Rattle.dynamo_record.proofs.HeldStructs.{HeldSoFar}
 use Rattle.dynamo_record.proofs.held.read_held.Given as goal
 

@@ -1,5 +1,5 @@
 use Rattle.std.proofs.Common.{◌≡◌, map, drop}
-use Rattle.dynamo_shape.specs.NameRules.{own_name}
+use Rattle.dynamo_record.proofs.Common.{own_name}
 use Rattle.dynamo_record.proofs.names.own_name.Given as goal
 
 -- none of the other names before is the name

@@ -1,5 +1,5 @@
 use Rattle.std.proofs.Common.{◌≡◌, map, drop}
-use Rattle.dynamo_record.specs.Names.{place_of}
+use Rattle.dynamo_record.proofs.Common.{place_of}
 use Rattle.dynamo_record.proofs.names.place_of.Given as goal
 
 -- none of the names before is the key

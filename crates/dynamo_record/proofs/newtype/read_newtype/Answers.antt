@@ -1,8 +1,6 @@
-use Rattle.dynamo_de.specs.Answer.{After}
-use Rattle.dynamo_de.specs.Reading.{read_newtype}
-use Rattle.dynamo_de.proofs.Meets.{meets_more}
+use Rattle.dynamo_record.proofs.Common.{After, read_newtype, meets_more, named_newtype}
+use Rattle.dynamo_record.specs.Newtypes.{ReadsAs}
 use Rattle.dynamo_shape.proofs.TypesByHand.{newtype_permitted}
-use Rattle.dynamo_record.specs.Newtypes.{named_newtype, ReadsAs}
 use Rattle.dynamo_record.proofs.newtype.read_newtype.Goals as goal
 
 pub returns : goal.returns

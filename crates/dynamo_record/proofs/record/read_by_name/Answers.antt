@@ -1,8 +1,5 @@
 use Rattle.std.proofs.Common.{rules, ◌∙◌}
-use Rattle.dynamo_de.specs.Reading.{read_entries}
-use Rattle.dynamo_de.specs.Visitors.{by_name}
-use Rattle.dynamo_de.proofs.Meets.{stops_before}
-use Rattle.dynamo_record.specs.Records.{listed, FromParts}
+use Rattle.dynamo_record.proofs.Common.{read_entries, by_name, stops_before, listed, FromParts}
 use Rattle.dynamo_record.proofs.Answering.{goes_on}
 use Rattle.dynamo_record.proofs.record.read_by_name.Goals as goal
 

@@ -1,6 +1,5 @@
 use Rattle.std.proofs.Common.{List, ℕ, [], Bor, map}
-use Rattle.dynamo_record.specs.Fields.{missed_name}
-use Rattle.dynamo_record.specs.Records.{listed}
+use Rattle.dynamo_record.proofs.Common.{missed_name, listed}
 use Rattle.dynamo_record.proofs.Structs.{starts, entry_read, entry_fails, all_made, one_missed}
 use Rattle.dynamo_record.proofs.record.read_entries.Goals as goal
 

@@ -1,6 +1,5 @@
 use Rattle.std.proofs.Common.{length}
-use Rattle.dynamo_record.specs.Entries.{StructSoFar}
-use Rattle.dynamo_record.specs.Records.{listed}
+use Rattle.dynamo_record.proofs.Common.{StructSoFar, listed}
 use Rattle.dynamo_record.proofs.record.read_entries.Given as goal
 
 -- what is answered on what is left, after the fields that were read, is answered on the whole

@@ -1,5 +1,5 @@
 use Rattle.std.proofs.Common.{◌≡◌, ◌∙◌}
-use Rattle.dynamo_record.specs.Records.{listed, record_fields, place_in}
+use Rattle.dynamo_record.proofs.Common.{listed, record_fields, place_in}
 use Rattle.dynamo_record.proofs.OneEntry.{key_read}
 use Rattle.dynamo_record.proofs.Structs.{place_named}
 use Rattle.dynamo_record.proofs.record.read_entry.Goals as goal

@@ -1,10 +1,7 @@
 use Rattle.std.proofs.Common.{[], subst, inl, inr}
-use Rattle.std.proofs.lemmas.Result.{err_from_is_err_and}
+use Rattle.dynamo_record.proofs.Common.{err_from_is_err_and, read_fields, Makes, too_few_text}
+use Rattle.dynamo_record.proofs.Common.{listed}
 use Rattle.dynamo_de.specs.Answer as answer
-use Rattle.dynamo_record.specs.Fields.{read_fields}
-use Rattle.dynamo_record.specs.Listed.{Makes}
-use Rattle.dynamo_record.specs.Names.{too_few_text}
-use Rattle.dynamo_record.specs.Records.{listed}
 use Rattle.dynamo_record.proofs.Structs.{listed_made, listed_short, listed_fails}
 use Rattle.dynamo_record.proofs.record.read_in_order.Goals as goal
 

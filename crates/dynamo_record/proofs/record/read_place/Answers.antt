@@ -1,13 +1,7 @@
 use Rattle.std.proofs.Common.{◌≡◌, ◌<◌, ◌≤◌, ◌+◌, ◌^◌, [], Ok, Err, length, ap, sym, subst, ◌∙◌, arith}
-use Rattle.std.proofs.lemmas.List.{length-map}
-use Rattle.std.proofs.lemmas.Result.{err_from_is_err_and}
-use Rattle.dynamo_de.specs.Meets.{Meets}
+use Rattle.dynamo_record.proofs.Common.{length-map, err_from_is_err_and, Meets, attribute}
+use Rattle.dynamo_record.proofs.Common.{meets_more, FillsAt, Fills, listed, record_fields}
 use Rattle.dynamo_de.specs.declared.ignored_any.IgnoredAny.{IgnoredAny}
-use Rattle.dynamo_de.specs.Source.{attribute}
-use Rattle.dynamo_de.proofs.Meets.{meets_more}
-use Rattle.dynamo_record.specs.Entries.{FillsAt}
-use Rattle.dynamo_record.specs.Listed.{Fills}
-use Rattle.dynamo_record.specs.Records.{listed, record_fields}
 use Rattle.dynamo_record.proofs.OneEntry.{fills_there, Ignored, ignored, not_ignored}
 use Rattle.dynamo_record.proofs.record.read_place.Goals as goal
 

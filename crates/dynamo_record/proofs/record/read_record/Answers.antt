@@ -1,4 +1,4 @@
-use Rattle.dynamo_record.specs.Records.{listed}
+use Rattle.dynamo_record.proofs.Common.{listed}
 use Rattle.dynamo_record.proofs.Described.{by_source}
 use Rattle.dynamo_record.proofs.record.read_record.Goals as goal
 

@@ -1,6 +1,5 @@
 use Rattle.std.proofs.Common.{[], refl}
-use Rattle.dynamo_record.specs.Fields.{named_fields}
-use Rattle.dynamo_record.specs.Told.{fields_conform}
+use Rattle.dynamo_record.proofs.Common.{named_fields, fields_conform}
 use Rattle.dynamo_record.proofs.record.record_conforms.Goals as goal
 
 pub returns : goal.returns

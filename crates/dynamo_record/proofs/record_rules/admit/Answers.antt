@@ -1,7 +1,5 @@
 use Rattle.std.proofs.Common.{◌≡◌, ◌<◌, ◌≤◌, ◌+◌, ◌^◌, [], length, ap, sym, ◌∙◌, inl, inr, arith}
-use Rattle.std.proofs.lemmas.List.{length-map}
-use Rattle.dynamo_record.specs.ByRules.{duplicate_text}
-use Rattle.dynamo_record.specs.Records.{listed}
+use Rattle.dynamo_record.proofs.Common.{length-map, duplicate_text, listed}
 use Rattle.dynamo_record.proofs.ByRules.{of_field, of_none}
 use Rattle.dynamo_record.proofs.record_rules.admit.Goals as goal
 

@@ -1,8 +1,5 @@
 use Rattle.std.proofs.Common.{List, ℕ, [], Bor, map}
-use Rattle.dynamo_de.specs.Visitors.{by_name}
-use Rattle.dynamo_record.specs.Fields.{missed_name}
-use Rattle.dynamo_record.specs.Records.{listed}
-use Rattle.dynamo_record.specs.ByRules.{FromPartsByRules, struct_left}
+use Rattle.dynamo_record.proofs.Common.{by_name, missed_name, listed, FromPartsByRules, struct_left}
 use Rattle.dynamo_record.proofs.ByRules.{starts, entry_read, entry_fails, ends, whole}
 use Rattle.dynamo_record.proofs.Closing.{all_made, one_missed}
 use Rattle.dynamo_record.proofs.record_rules.read_entries.Goals as goal

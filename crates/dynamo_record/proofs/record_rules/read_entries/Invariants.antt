@@ -1,6 +1,5 @@
 use Rattle.std.proofs.Common.{length}
-use Rattle.dynamo_record.specs.ByRules.{RulesSoFar}
-use Rattle.dynamo_record.specs.Records.{listed}
+use Rattle.dynamo_record.proofs.Common.{RulesSoFar, listed}
 use Rattle.dynamo_record.proofs.record_rules.read_entries.Given as goal
 
 -- what is answered on what is left, after the fields that were read, is answered on the whole

@@ -1,9 +1,6 @@
 use Rattle.std.proofs.Common.{◌≡◌, false, sym, ap, ◌∙◌, inl, inr}
-use Rattle.std.proofs.lemmas.Result.{err_from_is_err_and}
-use Rattle.dynamo_shape.specs.NameRules.{own_name}
-use Rattle.dynamo_shape.specs.Read.{is_refused}
-use Rattle.dynamo_record.specs.Names.{place_of}
-use Rattle.dynamo_record.specs.Records.{listed, record_fields, names_apart}
+use Rattle.dynamo_record.proofs.Common.{err_from_is_err_and, own_name, is_refused, place_of, listed}
+use Rattle.dynamo_record.proofs.Common.{record_fields, names_apart}
 use Rattle.dynamo_record.proofs.ByRules.{at_place, entered, refused_entry}
 use Rattle.dynamo_record.proofs.OneEntry.{key_read}
 use Rattle.dynamo_record.proofs.Renaming.{own_as, place_as}

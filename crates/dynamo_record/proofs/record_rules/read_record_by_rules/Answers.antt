@@ -1,4 +1,4 @@
-use Rattle.dynamo_record.specs.Records.{listed}
+use Rattle.dynamo_record.proofs.Common.{listed}
 use Rattle.dynamo_record.proofs.ByRules.{by_source}
 use Rattle.dynamo_record.proofs.record_rules.read_record_by_rules.Goals as goal
 

@@ -1,9 +1,6 @@
 use Rattle.std.proofs.Common.{◌<◌, Some, Err, sym, subst}
-use Rattle.std.proofs.lemmas.Result.{err_from_is_err_and}
-use Rattle.dynamo_de.specs.Reading.{read_entries}
-use Rattle.dynamo_de.proofs.Meets.{stops_before}
-use Rattle.dynamo_record.specs.Held.{IsLast}
-use Rattle.dynamo_record.specs.TaggedEnums.{of_tagged, FromEntries}
+use Rattle.dynamo_record.proofs.Common.{err_from_is_err_and, read_entries, stops_before, IsLast}
+use Rattle.dynamo_record.proofs.Common.{of_tagged, FromEntries}
 use Rattle.dynamo_record.proofs.Answering.{goes_on}
 use Rattle.dynamo_record.proofs.HeldEntries.{last_inside}
 use Rattle.dynamo_record.proofs.TaggedRead.{tagged_by_source}

@@ -1,8 +1,5 @@
 use Rattle.std.proofs.Common.{[], ◌++◌, Ok, Err}
-use Rattle.std.specs.Prelude.{string_bytes}
-use Rattle.std.proofs.lemmas.Result.{err_from_is_err_and}
-use Rattle.dynamo_de.specs.Source.{attribute}
-use Rattle.dynamo_record.specs.TaggedEnums.{of_tagged}
+use Rattle.dynamo_record.proofs.Common.{string_bytes, err_from_is_err_and, attribute, of_tagged}
 use Rattle.dynamo_record.proofs.HeldEntries.{last_held, others_held}
 use Rattle.dynamo_record.proofs.TaggedRead.{names_same, tag_fails, tag_text, unknown_fails, variant_fails, variant_inside, variant_made}
 use Rattle.dynamo_record.proofs.tagged_enum.read_variant.Goals as goal

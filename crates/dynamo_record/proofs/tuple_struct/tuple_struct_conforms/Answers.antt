@@ -1,6 +1,5 @@
 use Rattle.std.proofs.Common.{[], refl}
-use Rattle.dynamo_ser.specs.Datum.{elements_of}
-use Rattle.dynamo_record.specs.InOrder.{elements_conform}
+use Rattle.dynamo_record.proofs.Common.{elements_of, elements_conform}
 use Rattle.dynamo_record.proofs.tuple_struct.tuple_struct_conforms.Goals as goal
 
 pub returns : goal.returns

@@ -1,5 +1,5 @@
 use Rattle.std.proofs.Common.{◌≡◌, ◌≤◌, length, sym, ap, subst, ◌∙◌, inl, inr}
-use Rattle.dynamo_record.specs.Names.{place_of}
+use Rattle.dynamo_record.proofs.Common.{place_of}
 use Rattle.dynamo_record.specs.UnitEnums.{IsNumber}
 use Rattle.dynamo_record.proofs.Variants.{name_read, name_refused}
 use Rattle.dynamo_record.proofs.unit_enum.named.Goals as goal

@@ -1,4 +1,4 @@
-use Rattle.std.proofs.lemmas.Result.{err_from_is_err_and}
+use Rattle.dynamo_record.proofs.Common.{err_from_is_err_and}
 use Rattle.dynamo_record.proofs.Variants.{variant_read, variant_fails}
 use Rattle.dynamo_record.proofs.unit_enum.read_chosen.Goals as goal
 

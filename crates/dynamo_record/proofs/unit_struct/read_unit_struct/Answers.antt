@@ -1,12 +1,8 @@
-use Rattle.std.specs.Prelude.{⊤}
+use Rattle.dynamo_record.proofs.Common.{⊤, Gives, read_unit_struct, meets_more, conforms}
+use Rattle.dynamo_record.specs.Newtypes.{ReadsUnitStruct}
 use Rattle.dynamo_ser.specs.Datum as datum
-use Rattle.dynamo_de.specs.Answer.{Gives}
-use Rattle.dynamo_de.specs.Reading.{read_unit_struct}
-use Rattle.dynamo_de.proofs.Meets.{meets_more}
-use Rattle.dynamo_shape.specs.Conforms.{conforms}
 use Rattle.dynamo_shape.specs.Shape as shape
 use Rattle.dynamo_shape.proofs.Scalars.{given}
-use Rattle.dynamo_record.specs.Newtypes.{ReadsUnitStruct}
 use Rattle.dynamo_record.proofs.unit_struct.read_unit_struct.Goals as goal
 
 pub returns : goal.returns

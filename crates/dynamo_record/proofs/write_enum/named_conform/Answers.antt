@@ -1,9 +1,7 @@
 use Rattle.std.proofs.Common.{[], refl}
+use Rattle.dynamo_record.proofs.Common.{field_shapes, named_fields, fields_conform, tag}
 use Rattle.dynamo_ser.specs.Datum as datum
 use Rattle.dynamo_shape.specs.Shape as shape
-use Rattle.dynamo_record.specs.Fields.{field_shapes, named_fields}
-use Rattle.dynamo_record.specs.Told.{fields_conform}
-use Rattle.dynamo_record.specs.Variants.{tag}
 use Rattle.dynamo_record.proofs.OneVariant.{variant_conforms}
 use Rattle.dynamo_record.proofs.write_enum.named_conform.Goals as goal
 

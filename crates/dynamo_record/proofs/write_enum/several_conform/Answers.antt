@@ -1,9 +1,7 @@
 use Rattle.std.proofs.Common.{[], refl}
+use Rattle.dynamo_record.proofs.Common.{shapes_of, elements_conform, tag}
 use Rattle.dynamo_ser.specs.Datum as datum
 use Rattle.dynamo_shape.specs.Shape as shape
-use Rattle.dynamo_record.specs.Fields.{shapes_of}
-use Rattle.dynamo_record.specs.InOrder.{elements_conform}
-use Rattle.dynamo_record.specs.Variants.{tag}
 use Rattle.dynamo_record.proofs.OneVariant.{variant_conforms}
 use Rattle.dynamo_record.proofs.write_enum.several_conform.Goals as goal
 

@@ -1,6 +1,5 @@
 use Rattle.std.proofs.Common.{[]}
-use Rattle.dynamo_record.specs.Fields.{field_shapes, named_fields}
-use Rattle.dynamo_record.specs.Told.{fields_conform}
+use Rattle.dynamo_record.proofs.Common.{field_shapes, named_fields, fields_conform}
 use Rattle.dynamo_record.proofs.TaggedTold.{tagged_conforms}
 use Rattle.dynamo_record.proofs.write_tagged.tagged_inner_conforms.Goals as goal
 

@@ -1,6 +1,6 @@
 use Rattle.std.proofs.Common.{refl}
+use Rattle.dynamo_record.proofs.Common.{no_field_shapes}
 use Rattle.dynamo_ser.specs.Datum as datum
-use Rattle.dynamo_shape.specs.Shape.{no_field_shapes}
 use Rattle.dynamo_record.proofs.TaggedTold.{tagged_conforms}
 use Rattle.dynamo_record.proofs.write_tagged.tagged_unit_conforms.Goals as goal
 

@@ -1,5 +1,5 @@
+use Rattle.dynamo_json.proofs.Common.{view}
 use Rattle.serde_json.specs.View as sj
-use Rattle.dynamo_value.specs.View.{view}
 use Rattle.dynamo_json.proofs.ReadBack.{value_is}
 use Rattle.dynamo_json.proofs.Results.{if_ok}
 use Rattle.dynamo_json.proofs.Texts.{has_texts}

@@ -1,4 +1,4 @@
-use Rattle.dynamo_value.specs.View.{view}
+use Rattle.dynamo_json.proofs.Common.{view}
 use Rattle.dynamo_json.proofs.ReadBack.{value_back}
 use Rattle.dynamo_json.proofs.dynamo.AttributeValueDynamoJson.from_json_text.Goals as goal
 

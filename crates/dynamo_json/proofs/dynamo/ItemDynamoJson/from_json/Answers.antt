@@ -1,10 +1,8 @@
 use Rattle.std.proofs.Common.{◌≡◌, ap, sym, ◌∙◌, subst}
+use Rattle.dynamo_json.proofs.Common.{view-Object, members_view, item_json}
 use Rattle.serde_json.specs.Data as json
 use Rattle.serde_json.specs.View as sj
-use Rattle.serde_json.proofs.Views.{view-Object}
 use Rattle.dynamo_value.specs.Table.{Table}
-use Rattle.dynamo_value.specs.View.{members_view}
-use Rattle.dynamo_json.specs.Json.{item_json}
 use Rattle.dynamo_json.specs.Texts.{HasTexts}
 use Rattle.dynamo_json.proofs.ReadBack.{members_are}
 use Rattle.dynamo_json.proofs.Texts.{has_texts}

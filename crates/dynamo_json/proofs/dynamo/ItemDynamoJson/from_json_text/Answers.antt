@@ -1,8 +1,6 @@
 use Rattle.std.proofs.Common.{◌≡◌, Ok, sym, subst}
 use Rattle.dynamo_value.specs.Table.{Table}
-use Rattle.dynamo_value.specs.View.{members_view}
-use Rattle.dynamo_json.specs.Json.{item_json}
-use Rattle.dynamo_json.specs.Parsed.{parsed_item}
+use Rattle.dynamo_json.proofs.Common.{members_view, item_json, parsed_item}
 use Rattle.dynamo_json.proofs.ReadBack.{members_back}
 use Rattle.dynamo_json.proofs.dynamo.ItemDynamoJson.from_json_text.Goals as goal
 

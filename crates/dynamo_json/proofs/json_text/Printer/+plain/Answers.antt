@@ -1,14 +1,9 @@
 use Rattle.std.proofs.Common.{◌≡◌, ◌∙◌, ◌<◌, List, [], ◌∷◌, ◌++◌, None, Err, Some, drop, ap, sym, subst, rules, arith, string_bytes}
-use Rattle.std.proofs.lemmas.List.{drop_all}
-use Rattle.std.proofs.lemmas.Result.{err_from_is_err_and}
-use Rattle.json.specs.Token.{key}
-use Rattle.dynamo_value.specs.Av.{Members}
-use Rattle.dynamo_value.specs.View.{view, elements_view, entries_view, members_view}
-use Rattle.dynamo_value.specs.declared.attribute_value.AttributeValue.{AttributeValue}
-use Rattle.dynamo_value.proofs.Members.{view_sorted}
+use Rattle.dynamo_json.proofs.Common.{drop_all, err_from_is_err_and, key, Members, view}
+use Rattle.dynamo_json.proofs.Common.{elements_view, entries_view, members_view, AttributeValue}
+use Rattle.dynamo_json.proofs.Common.{view_sorted, Prints, plain_members, Lent, lent_view}
 use Rattle.dynamo_value.proofs.Views.{view_map}
-use Rattle.dynamo_json.specs.StoredText.{Prints, plain, plain_elements, plain_members}
-use Rattle.dynamo_json.specs.Tokens.{Lent, lent_view}
+use Rattle.dynamo_json.specs.StoredText.{plain, plain_elements}
 use Rattle.dynamo_json.proofs.Stored.{next_of, stopped}
 use Rattle.dynamo_json.proofs.Unstored.{elements_behind, element_read, element_refused, elements_begun, members_behind}
 use Rattle.dynamo_json.proofs.Unstored.{member_read, member_refused, members_begun, map_read}

@@ -1,6 +1,5 @@
 use Rattle.std.proofs.Common.{◌≡◌, drop}
-use Rattle.dynamo_value.specs.View.{view, elements_view, members_view}
-use Rattle.dynamo_json.specs.Tokens.{lent_view}
+use Rattle.dynamo_json.proofs.Common.{view, elements_view, members_view, lent_view}
 use Rattle.dynamo_json.proofs.Unstored.{elements_behind, members_behind}
 use Rattle.dynamo_json.proofs.Weight.{weight, elements_weight, members_weight}
 use Rattle.dynamo_json.proofs.json_text.Printer.+plain.Given as goal

@@ -1,8 +1,6 @@
 use Rattle.std.proofs.Common.{◌≡◌, ◌∙◌, ◌<◌, List, ap, sym, subst, rules, arith}
-use Rattle.dynamo_value.specs.Av.{Members}
-use Rattle.dynamo_value.specs.View.{view, elements_view, members_view}
-use Rattle.dynamo_value.specs.declared.attribute_value.AttributeValue.{AttributeValue}
-use Rattle.dynamo_json.specs.Tokens.{Lent, lent_view}
+use Rattle.dynamo_json.proofs.Common.{Members, view, elements_view, members_view, AttributeValue}
+use Rattle.dynamo_json.proofs.Common.{Lent, lent_view}
 use Rattle.dynamo_json.proofs.Weight.{weight, elements_weight, members_weight, element_weighs_less, member_weighs_less}
 use Rattle.dynamo_json.proofs.json_text.Printer.+print.Goals as goal
 

@@ -1,5 +1,5 @@
 use Rattle.std.proofs.Common.{◌≡◌, ◌++◌, drop}
-use Rattle.dynamo_value.specs.View.{view, elements_view, members_view}
+use Rattle.dynamo_json.proofs.Common.{view, elements_view, members_view}
 use Rattle.dynamo_json.proofs.Rest.{elements_left, members_left}
 use Rattle.dynamo_json.proofs.Weight.{weight, elements_weight, members_weight}
 use Rattle.dynamo_json.proofs.json_text.Printer.+print.Given as goal

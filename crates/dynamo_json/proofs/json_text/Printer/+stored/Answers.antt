@@ -1,8 +1,7 @@
 use Rattle.std.proofs.Common.{◌≡◌, ◌∙◌, List, [], ◌∷◌, ◌++◌, Some, ap, sym, rules, string_bytes}
-use Rattle.json.specs.Token.{key}
+use Rattle.dynamo_json.proofs.Common.{key, stored}
 use Rattle.serde_json.specs.View.{view, members_view}
 use Rattle.serde_json.proofs.Views.{Entry}
-use Rattle.dynamo_json.specs.StoredText.{stored}
 use Rattle.dynamo_json.proofs.Stored.{stored_pairs, member_stored, in_order}
 use Rattle.dynamo_json.proofs.WithoutFloats.{names_in_order}
 use Rattle.dynamo_json.proofs.json_text.Printer.+stored.Goals as goal

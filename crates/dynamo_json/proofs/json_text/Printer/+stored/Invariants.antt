@@ -1,6 +1,6 @@
 use Rattle.std.proofs.Common.{◌≡◌, drop}
-use Rattle.serde_json.specs.View.{items_view, members_view}
-use Rattle.dynamo_json.specs.StoredText.{stored_items}
+use Rattle.dynamo_json.proofs.Common.{items_view, stored_items}
+use Rattle.serde_json.specs.View.{members_view}
 use Rattle.dynamo_json.proofs.Stored.{stored_pairs}
 use Rattle.dynamo_json.proofs.json_text.Printer.+stored.Given as goal
 

@@ -1,5 +1,5 @@
 use Rattle.std.proofs.Common.{◌≡◌, ◌++◌, drop, map}
-use Rattle.dynamo_value.specs.Base64.{base64_text}
+use Rattle.dynamo_json.proofs.Common.{base64_text}
 use Rattle.dynamo_json.proofs.Rest.{texts_left}
 use Rattle.dynamo_json.proofs.json_text.Printer.blobs.Given as goal
 

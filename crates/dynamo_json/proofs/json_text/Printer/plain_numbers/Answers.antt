@@ -1,6 +1,5 @@
 use Rattle.std.proofs.Common.{◌≡◌, ◌∙◌, None, Err, Some, map, drop, sym, ap, arith, string_bytes}
-use Rattle.std.proofs.lemmas.Result.{err_from_is_err_and}
-use Rattle.dynamo_json.specs.StoredText.{plain_number, plain_numbers}
+use Rattle.dynamo_json.proofs.Common.{err_from_is_err_and, plain_number, plain_numbers}
 use Rattle.dynamo_json.proofs.Stored.{next_of, stopped}
 use Rattle.dynamo_json.proofs.Unstored.{numbers_behind, number_read, number_refused, numbers_begun}
 use Rattle.dynamo_json.proofs.json_text.Printer.plain_numbers.Goals as goal

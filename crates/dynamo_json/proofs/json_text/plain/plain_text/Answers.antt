@@ -1,5 +1,5 @@
 use Rattle.std.proofs.Common.{◌∙◌}
-use Rattle.dynamo_value.specs.View.{view}
+use Rattle.dynamo_json.proofs.Common.{view}
 use Rattle.dynamo_de.specs.ReadJson.{read_value}
 use Rattle.dynamo_json.proofs.Stored.{text_of}
 use Rattle.dynamo_json.proofs.json_text.plain.plain_text.Goals as goal

@@ -1,8 +1,6 @@
 use Rattle.std.proofs.Common.{◌∙◌}
+use Rattle.dynamo_json.proofs.Common.{json_datum, written, json_of}
 use Rattle.serde_json.specs.View.{view}
-use Rattle.dynamo_ser.specs.JsonValue.{json_datum}
-use Rattle.dynamo_write.specs.Written.{written}
-use Rattle.dynamo_json.specs.Json.{json_of}
 use Rattle.dynamo_json.proofs.Stored.{text_of}
 use Rattle.dynamo_json.proofs.json_text.stored.stored_text.Goals as goal
 

@@ -1,7 +1,6 @@
 use Rattle.std.proofs.Common.{Ok, refl}
+use Rattle.dynamo_record.proofs.Common.{about_nothing, tag}
 use Rattle.dynamo_ser.specs.Datum as datum
-use Rattle.dynamo_record.specs.Contents.{about_nothing}
-use Rattle.dynamo_record.specs.Variants.{tag}
 use Rattle.dynamo_record.specs.declared.content.Nothing.{Nothing}
 use Rattle.dynamo_record.proofs.Inside.{content_read}
 use Rattle.dynamo_record.proofs.content.NothingVariantList.read.Goals as goal

@@ -1,6 +1,5 @@
 use Rattle.std.proofs.Common.{Ok, Err, refl}
-use Rattle.dynamo_record.specs.Contents.{about_one}
-use Rattle.dynamo_record.specs.Variants.{tag}
+use Rattle.dynamo_record.proofs.Common.{about_one, tag}
 use Rattle.dynamo_record.specs.declared.content.One.{One}
 use Rattle.dynamo_record.proofs.Inside.{content_read, value_read, value_fails}
 use Rattle.dynamo_record.proofs.content.OneVariantList.read.Goals as goal

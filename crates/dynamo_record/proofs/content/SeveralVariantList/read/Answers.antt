@@ -1,6 +1,5 @@
 use Rattle.std.proofs.Common.{Ok, Err, refl}
-use Rattle.dynamo_record.specs.Contents.{about_several}
-use Rattle.dynamo_record.specs.Variants.{tag}
+use Rattle.dynamo_record.proofs.Common.{about_several, tag}
 use Rattle.dynamo_record.specs.declared.content.Several.{Several}
 use Rattle.dynamo_record.proofs.Inside.{content_read, values_read, values_fail}
 use Rattle.dynamo_record.proofs.content.SeveralVariantList.read.Goals as goal

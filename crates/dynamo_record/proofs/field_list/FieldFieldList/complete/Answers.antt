@@ -1,8 +1,6 @@
 use Rattle.std.proofs.Common.{◌≡◌, ◌⊎◌, ℕ, List, Bor, Ok, map, subst}
-use Rattle.dynamo_value.specs.Fault.{message, out_of_memory}
+use Rattle.dynamo_record.proofs.Common.{message, out_of_memory, HoldsField, missing_text}
 use Rattle.dynamo_record.specs.About.{IsAbsent}
-use Rattle.dynamo_record.specs.Listed.{HoldsField}
-use Rattle.dynamo_record.specs.Names.{missing_text}
 use Rattle.dynamo_record.proofs.OneField.{field_there, field_absent, field_missed}
 use Rattle.dynamo_record.proofs.field_list.FieldFieldList.complete.Goals as goal
 

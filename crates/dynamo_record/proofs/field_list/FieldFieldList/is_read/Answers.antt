@@ -1,5 +1,5 @@
 use Rattle.std.proofs.Common.{◌≡◌, ap, ◌∙◌, arith}
-use Rattle.dynamo_record.specs.Listed.{is_filled}
+use Rattle.dynamo_record.proofs.Common.{is_filled}
 use Rattle.dynamo_record.proofs.OneField.{there_alike}
 use Rattle.dynamo_record.proofs.field_list.FieldFieldList.is_read.Goals as goal
 

@@ -1,5 +1,5 @@
 use Rattle.std.proofs.Common.{map}
-use Rattle.dynamo_record.specs.Fields.{complete, missed_name}
+use Rattle.dynamo_record.proofs.Common.{complete, missed_name}
 use Rattle.dynamo_record.proofs.BothLists.{both_completed, second_stops}
 use Rattle.dynamo_record.proofs.field_list.Tuple2FieldList.complete.Goals as goal
 

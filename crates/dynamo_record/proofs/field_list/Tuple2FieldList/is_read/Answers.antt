@@ -1,5 +1,5 @@
 use Rattle.std.proofs.Common.{◌≡◌, ◌<◌, ◌+◌, ◌-◌, ◌^◌, sym, ap, ◌∙◌, arith}
-use Rattle.dynamo_record.specs.Listed.{is_filled}
+use Rattle.dynamo_record.proofs.Common.{is_filled}
 use Rattle.dynamo_record.proofs.field_list.Tuple2FieldList.is_read.Goals as goal
 
 pub returns-then-place-first : goal.returns-then-place-first

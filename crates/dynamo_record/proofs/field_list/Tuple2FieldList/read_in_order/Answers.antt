@@ -1,6 +1,5 @@
 use Rattle.std.proofs.Common.{Some, subst}
-use Rattle.dynamo_record.specs.Fields.{read_fields}
-use Rattle.dynamo_record.specs.Listed.{Makes}
+use Rattle.dynamo_record.proofs.Common.{read_fields, Makes}
 use Rattle.dynamo_record.proofs.BothLists.{both_made, second_missed, second_fails}
 use Rattle.dynamo_record.proofs.field_list.Tuple2FieldList.read_in_order.Goals as goal
 

@@ -1,4 +1,4 @@
-use Rattle.dynamo_record.specs.Fields.{unread}
+use Rattle.dynamo_record.proofs.Common.{unread}
 use Rattle.dynamo_record.proofs.field_list.Tuple2FieldList.unread.Goals as goal
 
 pub returns : goal.returns

@@ -1,7 +1,6 @@
 use Rattle.std.proofs.Common.{subst}
-use Rattle.dynamo_record.specs.Fields.{read_fields}
+use Rattle.dynamo_record.proofs.Common.{read_fields, Makes, about_both}
 use Rattle.dynamo_record.specs.Flat.{about_four}
-use Rattle.dynamo_record.specs.Listed.{Makes, about_both}
 use Rattle.dynamo_record.proofs.flat_lists.Tuple8FieldList.read_in_order.Goals as goal
 
 pub returns-in-Ok-Some : goal.returns-in-Ok-Some

@@ -1,6 +1,4 @@
-use Rattle.std.specs.Prelude.{codes}
-use Rattle.dynamo_record.specs.Contents.{about_named}
-use Rattle.dynamo_record.specs.Variants.{tag}
+use Rattle.dynamo_record.proofs.Common.{codes, about_named, tag}
 use Rattle.dynamo_record.specs.declared.named.Named.{Named}
 use Rattle.dynamo_record.proofs.Inside.{content_read}
 use Rattle.dynamo_record.proofs.InsideNamed.{named_read}

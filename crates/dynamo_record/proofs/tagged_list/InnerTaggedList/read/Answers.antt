@@ -1,5 +1,5 @@
 use Rattle.std.proofs.Common.{Ok, Err}
-use Rattle.dynamo_record.specs.Records.{listed}
+use Rattle.dynamo_record.proofs.Common.{listed}
 use Rattle.dynamo_record.proofs.TaggedChoice.{fit_named, fields_read}
 use Rattle.dynamo_record.proofs.tagged_list.InnerTaggedList.read.Goals as goal
 

@@ -1,5 +1,4 @@
-use Rattle.std.specs.Prelude.{codes}
-use Rattle.dynamo_record.specs.Records.{record_of}
+use Rattle.dynamo_record.proofs.Common.{codes, record_of}
 use Rattle.dynamo_record.specs.declared.named.Named.{Named}
 use Rattle.dynamo_record.proofs.TaggedChoice.{fields_read}
 use Rattle.dynamo_record.proofs.tagged_list.NamedTaggedList.read.Goals as goal

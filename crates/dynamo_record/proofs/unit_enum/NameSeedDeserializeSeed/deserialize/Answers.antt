@@ -1,7 +1,5 @@
 use Rattle.std.proofs.Common.{rules}
-use Rattle.std.specs.Prelude.{string_bytes}
-use Rattle.dynamo_de.proofs.Meets.{stops_before}
-use Rattle.dynamo_record.specs.UnitEnums.{FromName}
+use Rattle.dynamo_record.proofs.Common.{string_bytes, stops_before, FromName}
 use Rattle.dynamo_record.proofs.unit_enum.NameSeedDeserializeSeed.deserialize.Goals as goal
 
 pub returns-in_err-name : goal.returns-in_err-name

@@ -1,6 +1,6 @@
 use Rattle.std.proofs.Common.{sym, ap, ◌∙◌}
+use Rattle.dynamo_json.proofs.Common.{view-Array}
 use Rattle.serde_json.specs.Data as json
-use Rattle.serde_json.proofs.Views.{view-Array}
 use Rattle.dynamo_json.proofs.Objects.{before_nothing}
 use Rattle.dynamo_json.proofs.plain.builders.SerializerTarget.list.Goals as goal
 

@@ -1,7 +1,6 @@
 use Rattle.std.proofs.Common.{rules, ◌≡◌, map, take, ap, ◌∙◌, arith}
-use Rattle.std.proofs.lemmas.List.{take_all}
+use Rattle.dynamo_json.proofs.Common.{take_all, byte_number}
 use Rattle.serde_json.specs.View.{view}
-use Rattle.dynamo_json.specs.Plain.{byte_number}
 use Rattle.dynamo_json.proofs.Bytes.{number_pushed, numbers_view}
 use Rattle.dynamo_json.proofs.plain.serializer.Serializer.numbers.Goals as goal
 

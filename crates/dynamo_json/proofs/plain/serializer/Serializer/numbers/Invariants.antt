@@ -1,6 +1,6 @@
 use Rattle.std.proofs.Common.{◌≡◌, take, map}
+use Rattle.dynamo_json.proofs.Common.{byte_number}
 use Rattle.serde_json.specs.View.{view}
-use Rattle.dynamo_json.specs.Plain.{byte_number}
 use Rattle.dynamo_json.proofs.plain.serializer.Serializer.numbers.Given as goal
 
 abbrev pub invariant-loop-byte : goal.invariant-loop-byte

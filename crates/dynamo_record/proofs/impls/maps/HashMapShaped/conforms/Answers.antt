@@ -1,5 +1,5 @@
 use Rattle.std.proofs.Common.{sym, subst}
-use Rattle.std.specs.List.{IsDistinct}
+use Rattle.dynamo_record.proofs.Common.{IsDistinct}
 use Rattle.std.specs.Map.{keys_of}
 use Rattle.dynamo_shape.proofs.MapsTold.{map_conforms}
 use Rattle.dynamo_record.proofs.impls.maps.HashMapShaped.conforms.Goals as goal

@@ -1,6 +1,5 @@
 use Rattle.std.proofs.Common.{map}
-use Rattle.dynamo_ser.specs.Datum.{Pairs, pairs_of}
-use Rattle.dynamo_shape.specs.Conforms.{AllPairs, conforms}
+use Rattle.dynamo_record.proofs.Common.{Pairs, pairs_of, AllPairs, conforms}
 use Rattle.dynamo_record.proofs.impls.maps.HashMapShaped.conforms.Given as goal
 
 -- where the entries that are left conform, all do

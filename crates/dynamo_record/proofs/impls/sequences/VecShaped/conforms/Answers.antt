@@ -1,5 +1,4 @@
-use Rattle.dynamo_shape.specs.Conforms.{conforms}
-use Rattle.dynamo_shape.proofs.Lists.{one_more}
+use Rattle.dynamo_record.proofs.Common.{conforms, one_more}
 use Rattle.dynamo_record.proofs.impls.sequences.VecShaped.conforms.Goals as goal
 
 pub loop-value-preserved : goal.loop-value-preserved

@@ -1,6 +1,5 @@
 use Rattle.std.proofs.Common.{take}
-use Rattle.dynamo_shape.specs.Conforms.{AllElements, conforms}
-use Rattle.dynamo_shape.proofs.Lists.{told_each}
+use Rattle.dynamo_record.proofs.Common.{AllElements, conforms, told_each}
 use Rattle.dynamo_record.proofs.impls.sequences.VecShaped.conforms.Given as goal
 
 abbrev pub invariant-loop-value : goal.invariant-loop-value

@@ -1,6 +1,6 @@
 use Rattle.std.proofs.Common.{sym, subst, refl}
 use Rattle.std.specs.List.Sorted.{IsStrictlySortedBy}
-use Rattle.dynamo_shape.proofs.Lists.{told_each}
+use Rattle.dynamo_record.proofs.Common.{told_each}
 use Rattle.dynamo_shape.proofs.SetsTold.{told_ascends}
 use Rattle.dynamo_record.proofs.impls.sets.BTreeSetShaped.conforms.Goals as goal
 

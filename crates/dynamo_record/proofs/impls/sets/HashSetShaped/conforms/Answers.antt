@@ -1,9 +1,8 @@
 use Rattle.std.proofs.Common.{sym, subst, refl}
 use Rattle.std.specs.Cmp.{IsTotalOrder}
 use Rattle.dynamo_ser.specs.Members.{members_in_order}
-use Rattle.dynamo_shape.specs.Conforms.{conforms}
+use Rattle.dynamo_record.proofs.Common.{conforms, told_each}
 use Rattle.dynamo_shape.proofs.HashedSets.{members_sorted, in_order_told}
-use Rattle.dynamo_shape.proofs.Lists.{told_each}
 use Rattle.dynamo_shape.proofs.SetsRead.{all_in}
 use Rattle.dynamo_shape.proofs.SetsTold.{told_ascends}
 use Rattle.dynamo_record.proofs.impls.sets.HashSetShaped.conforms.Goals as goal

@@ -1,5 +1,4 @@
-use Rattle.dynamo_shape.specs.Conforms.{AllElements, conforms}
-use Rattle.dynamo_shape.proofs.Lists.{told_each}
+use Rattle.dynamo_record.proofs.Common.{AllElements, conforms, told_each}
 use Rattle.dynamo_record.proofs.impls.sets.HashSetShaped.conforms.Given as goal
 
 -- where the members that are left conform, all do
