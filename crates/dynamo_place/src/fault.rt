@@ -1,14 +1,15 @@
 //! The place of the first fault of a JSON value that is read as DynamoDB JSON.
 ghost use Rattle.std.specs.Prelude.{◌≡◌};
 
-use crate::{LocatedError, Place, Step};
+use crate::trail::Trail;
+use crate::{LocatedError, Place};
 use dynamo_json::{DynamoJson, TextError};
 use dynamo_value::{AttributeValue, Error, ErrorImpl, Prefix, base64_text};
 use serde_json::{Map, Value};
 use std::alloc::{AllocError, Global};
 
-// The steps to the first fault, the last one first, or `None` if there is no fault.
-type Found = Result<Option<Vec<Step>>, AllocError>;
+// Whether there is a fault. Then the trail has the steps to the first one, the last step first.
+type Found = Result<bool, AllocError>;
 
 /// What a whole JSON value is read as.
 #[derive(Clone, Copy)]
@@ -59,11 +60,11 @@ fn place_in_text(alloc: Global, whole: Whole, text: &str, error: &TextError) -> 
 }
 
 fn place_of(alloc: Global, whole: Whole, json: &Value, error: &Error) -> Place {
+    let trail = Trail::new(alloc);
     if !is_memory(error)
-        && let Ok(Some(mut steps)) = first_fault(alloc, whole, json)
+        && let Ok(true) = first_fault(alloc, &trail, whole, json)
     {
-        steps.reverse();
-        return Place::of_steps(steps);
+        return trail.into_reversed_place();
     }
     Place::new()
 }
@@ -72,74 +73,74 @@ fn is_memory(error: &Error) -> bool {
     matches!(error.kind(), ErrorImpl::OutOfMemory)
 }
 
-fn first_fault(alloc: Global, whole: Whole, json: &Value) -> Found {
+fn first_fault(alloc: Global, trail: &Trail, whole: Whole, json: &Value) -> Found {
     match (whole, json) {
-        (Whole::AttributeValue, _) => in_value(alloc, json),
-        (Whole::Item, Value::Object(object)) => in_members(alloc, object),
-        (Whole::Item, _) => Ok(Some(Vec::new(alloc))),
+        (Whole::AttributeValue, _) => in_value(alloc, trail, json),
+        (Whole::Item, Value::Object(object)) => in_members(alloc, trail, object),
+        (Whole::Item, _) => Ok(true),
     }
 }
 
 // In an attribute value: an object of one member, whose content may have parts. What has none is
 // read as a whole.
 #[cycle(look)]
-fn in_value(alloc: Global, json: &Value) -> Found {
+fn in_value(alloc: Global, trail: &Trail, json: &Value) -> Found {
     if let Value::Object(object) = json
         && object.len() == 1
         && let Some((key, content)) = object.iter().next()
         && let Some(prefix) = Prefix::named(key)
     {
         match (prefix, content) {
-            (Prefix::M, Value::Object(object)) => return in_members(alloc, object),
+            (Prefix::M, Value::Object(object)) => return in_members(alloc, trail, object),
             (Prefix::L | Prefix::Ss | Prefix::Ns | Prefix::Bs, Value::Array(array)) => {
-                return in_elements(alloc, prefix, array);
+                return in_elements(alloc, trail, prefix, array);
             }
             _ => {}
         }
     }
-    in_whole(alloc, AttributeValue::from_json(alloc, json))
+    in_whole(AttributeValue::from_json(alloc, json))
 }
 
 // In the attributes of an object, which are read in this order.
 #[cycle(look)]
-fn in_members(alloc: Global, object: &Map<String, Value>) -> Found {
+fn in_members(alloc: Global, trail: &Trail, object: &Map<String, Value>) -> Found {
     for (key, json) in object.iter() {
-        if let Some(mut steps) = in_value(alloc, json)? {
-            steps.push(Step::Attribute(key.clone()?))?;
-            return Ok(Some(steps));
+        if in_value(alloc, trail, json)? {
+            trail.to_attribute(alloc, key);
+            return Ok(true);
         }
     }
-    Ok(None)
+    Ok(false)
 }
 
 // In the elements of a list or a set.
 #[cycle(look)]
-fn in_elements(alloc: Global, prefix: Prefix, array: &Vec<Value>) -> Found {
+fn in_elements(alloc: Global, trail: &Trail, prefix: Prefix, array: &Vec<Value>) -> Found {
     for (index, json) in array.iter().enumerate() {
-        if let Some(mut steps) = in_element(alloc, prefix, json)? {
-            steps.push(Step::Element(index))?;
-            return Ok(Some(steps));
+        if in_element(alloc, trail, prefix, json)? {
+            trail.to_element(index);
+            return Ok(true);
         }
     }
-    Ok(None)
+    Ok(false)
 }
 
 // In an element: of a list an attribute value, of a set a string, and of a `BS` one of base64.
 #[cycle(look)]
-fn in_element(alloc: Global, prefix: Prefix, json: &Value) -> Found {
+fn in_element(alloc: Global, trail: &Trail, prefix: Prefix, json: &Value) -> Found {
     match (prefix, json) {
-        (Prefix::L, _) => in_value(alloc, json),
-        (Prefix::Bs, Value::String(text)) => in_whole(alloc, base64_text::decode(alloc, text)),
-        (_, Value::String(_)) => Ok(None),
-        _ => Ok(Some(Vec::new(alloc))),
+        (Prefix::L, _) => in_value(alloc, trail, json),
+        (Prefix::Bs, Value::String(text)) => in_whole(base64_text::decode(alloc, text)),
+        (_, Value::String(_)) => Ok(false),
+        _ => Ok(true),
     }
 }
 
 // In a value without parts, by the result of reading it.
-fn in_whole<T: Drop>(alloc: Global, read: Result<T, Error>) -> Found {
+fn in_whole<T: Drop>(read: Result<T, Error>) -> Found {
     match read {
-        Ok(_value) => Ok(None),
+        Ok(_value) => Ok(false),
         Err(error) if is_memory(&error) => Err(AllocError),
-        Err(_) => Ok(Some(Vec::new(alloc))),
+        Err(_) => Ok(true),
     }
 }

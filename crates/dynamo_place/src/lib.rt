@@ -16,8 +16,8 @@ mod locating;
 mod locating_parts;
 mod place;
 mod read;
+mod spot;
 mod trail;
-mod way;
 mod without_indexes;
 mod write;
 

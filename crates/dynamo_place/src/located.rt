@@ -1,7 +1,8 @@
 ghost use Rattle.std.specs.Prelude.{◌≡◌};
+ghost use Rattle.dynamo_value.specs.Fault.{map_value_before_key, expected_char};
 ghost use Rattle.dynamo_de.specs.Shows.{seen};
 
-use crate::way::Way;
+use crate::spot::{Here, Spot};
 use dynamo_de::{Inside, Reader, Request, Showing, Surface};
 use std::alloc::Global;
 
@@ -9,50 +10,54 @@ use std::alloc::Global;
 ///
 /// [`read_located`](crate::read_located) makes one.
 #[derive(Drop)]
-pub struct Located<R> {
+pub struct Located<'a, R> {
     reader: R,
-    way: Way,
+    spot: Spot<'a>,
 }
 
 /// The remaining elements of a sequence, and how many were read.
 #[derive(Drop)]
-pub struct LocatedElements<R: Reader> {
+pub struct LocatedElements<'a, R: Reader> {
     rest: R::Elements,
-    alloc: Global,
-    way: Way,
+    here: Here<'a>,
     index: usize,
 }
 
 /// The remaining entries of a map.
 #[derive(Drop)]
-pub struct LocatedEntries<R: Reader> {
+pub struct LocatedEntries<'a, R: Reader> {
     rest: R::Entries,
     alloc: Global,
-    way: Way,
+    here: Here<'a>,
 }
 
 /// A variant of an enum.
 #[derive(Drop)]
-pub struct LocatedChoice<R: Reader> {
+pub struct LocatedChoice<'a, R: Reader> {
     choice: R::Choice,
     alloc: Global,
-    way: Way,
+    here: Here<'a>,
 }
 
-impl<R: Reader> Located<R> {
-    pub(crate) fn new(reader: R, way: Way) -> Self
+impl<'a, R: Reader> Located<'a, R> {
+    pub(crate) fn new(reader: R, spot: Spot<'a>) -> Self
         ensures { R.source result.reader ≡ R.source reader }
     {
-        Located { reader, way }
+        Located { reader, spot }
     }
 }
 
 type Inner<R> = Showing<R, <R as Reader>::Elements, <R as Reader>::Entries, <R as Reader>::Choice>;
 
-type Outer<R> = Showing<Located<R>, LocatedElements<R>, LocatedEntries<R>, LocatedChoice<R>>;
+type Outer<'a, R> = Showing<
+    Located<'a, R>,
+    LocatedElements<'a, R>,
+    LocatedEntries<'a, R>,
+    LocatedChoice<'a, R>,
+>;
 
-// The same, with located readers around what is inside. It borrows the way, so that most arms have nothing to drop.
-fn raise<R: Reader>(alloc: Global, shown: Inner<R>, way: &Way) -> Outer<R>
+// The same, with located readers around what is inside.
+fn raise<'a, R: Reader>(alloc: Global, shown: Inner<R>, here: Here<'a>) -> Outer<'a, R>
     ensures { seen (λ d. R.source d.reader) (λ l. R.elements l.rest) (λ m. R.entries m.rest)
         (λ c. R.chosen c.choice) result ≡ seen R.source R.elements R.entries R.chosen shown }
 {
@@ -68,39 +73,34 @@ fn raise<R: Reader>(alloc: Global, shown: Inner<R>, way: &Way) -> Outer<R>
         Showing::Unit => Showing::Unit,
         Showing::Some(reader) => Showing::Some(Located {
             reader,
-            way: way.again(),
+            spot: here.again(),
         }),
         Showing::Newtype(reader) => Showing::Newtype(Located {
             reader,
-            way: way.again(),
+            spot: here.again(),
         }),
         Showing::Sequence(rest) => Showing::Sequence(LocatedElements {
             rest,
-            alloc,
-            way: way.again(),
+            here,
             index: 0,
         }),
-        Showing::Map(rest) => Showing::Map(LocatedEntries {
-            rest,
-            alloc,
-            way: way.again(),
-        }),
+        Showing::Map(rest) => Showing::Map(LocatedEntries { rest, alloc, here }),
         Showing::Enum(choice) => Showing::Enum(LocatedChoice {
             choice,
             alloc,
-            way: way.again(),
+            here,
         }),
     }
 }
 
-impl<R: Reader> Reader for Located<R> {
+impl<'a, R: Reader> Reader for Located<'a, R> {
     type Error = R::Error;
 
-    type Elements = LocatedElements<R>;
+    type Elements = LocatedElements<'a, R>;
 
-    type Entries = LocatedEntries<R>;
+    type Entries = LocatedEntries<'a, R>;
 
-    type Choice = LocatedChoice<R>;
+    type Choice = LocatedChoice<'a, R>;
 
     ghost source = { λ d. R.source d.reader };
 
@@ -122,86 +122,96 @@ impl<R: Reader> Reader for Located<R> {
         self.reader.text()
     }
 
-    fn show(self, request: Request) -> Result<Outer<R>, R::Error> {
-        let Located { reader, way } = self;
-        way.mark();
+    fn show(self, request: Request) -> Result<Outer<'a, R>, R::Error> {
+        let Located { reader, spot } = self;
+        let here = spot.mark();
         let alloc = reader.alloc();
-        Ok(raise::<R>(alloc, reader.show(request)?, &way))
+        Ok(raise::<R>(alloc, reader.show(request)?, here))
     }
 
     fn surface(self, request: Request) -> Result<Surface, R::Error> {
-        let Located { reader, way } = self;
-        way.mark();
+        let Located { reader, spot } = self;
+        spot.mark();
         reader.surface(request)
     }
 
-    fn inside(self) -> Result<Inside<LocatedElements<R>, LocatedEntries<R>>, R::Error> {
-        let Located { reader, way } = self;
-        way.mark();
+    fn inside(self) -> Result<Inside<LocatedElements<'a, R>, LocatedEntries<'a, R>>, R::Error> {
+        let Located { reader, spot } = self;
+        let here = spot.mark();
         let alloc = reader.alloc();
         match reader.inside()? {
             Inside::Nothing => Ok(Inside::Nothing),
             Inside::Elements(rest) => Ok(Inside::Elements(LocatedElements {
                 rest,
-                alloc,
-                way,
+                here,
                 index: 0,
             })),
-            Inside::Entries(rest) => Ok(Inside::Entries(LocatedEntries { rest, alloc, way })),
+            Inside::Entries(rest) => Ok(Inside::Entries(LocatedEntries { rest, alloc, here })),
         }
     }
 
-    fn next_element(rest: &mut LocatedElements<R>) -> Option<Located<R>> {
+    fn next_element(rest: &mut LocatedElements<'a, R>) -> Option<Located<'a, R>> {
         match R::next_element(&mut rest.rest) {
             None => {
-                rest.way.mark();
+                rest.here.mark();
                 None
             }
             Some(element) => {
-                let way = rest.way.element(rest.alloc, rest.index);
+                let spot = rest.here.element(rest.index);
                 rest.index = rest.index.wrapping_add(1);
-                Some(Located::new(element, way))
+                Some(Located::new(element, spot))
             }
         }
     }
 
-    fn next_entry(rest: &mut LocatedEntries<R>) -> Option<(Located<R>, Located<R>)> {
+    fn next_entry(rest: &mut LocatedEntries<'a, R>) -> Option<(Located<'a, R>, Located<'a, R>)> {
         match R::next_entry(&mut rest.rest) {
             None => {
-                rest.way.mark();
+                rest.here.mark();
                 None
             }
             Some((key, value)) => {
-                let way = rest.way.entry(rest.alloc, key.text());
-                Some((Located::new(key, way.again()), Located::new(value, way)))
+                let spot = rest.here.entry(rest.alloc, key.text());
+                let inside = rest.here.entry(rest.alloc, key.text());
+                Some((Located::new(key, spot), Located::new(value, inside)))
             }
         }
     }
 
-    fn choose(choice: LocatedChoice<R>) -> Result<(Located<R>, Option<Located<R>>), R::Error> {
-        let LocatedChoice { choice, alloc, way } = choice;
+    fn choose(
+        choice: LocatedChoice<'a, R>,
+    ) -> Result<(Located<'a, R>, Option<Located<'a, R>>), R::Error> {
+        let LocatedChoice {
+            choice,
+            alloc,
+            here,
+        } = choice;
         let (name, content) = R::choose(choice)?;
-        let inside = way.entry(alloc, name.text());
-        let name = Located::new(name, way);
+        let inside = here.entry(alloc, name.text());
+        let name = Located::new(name, here.again());
         match content {
             None => Ok((name, None)),
             Some(content) => Ok((name, Some(Located::new(content, inside)))),
         }
     }
 
-    fn value_before_key() -> R::Error {
+    fn value_before_key() -> R::Error
+        ensures { R.Error.fault result ≡ map_value_before_key }
+    {
         R::value_before_key()
     }
 
-    fn more_than_one_char() -> R::Error {
+    fn more_than_one_char() -> R::Error
+        ensures { R.Error.fault result ≡ expected_char }
+    {
         R::more_than_one_char()
     }
 
-    fn elements_left(rest: &LocatedElements<R>) -> Option<usize> {
+    fn elements_left(rest: &LocatedElements<'a, R>) -> Option<usize> {
         R::elements_left(&rest.rest)
     }
 
-    fn entries_left(rest: &LocatedEntries<R>) -> Option<usize> {
+    fn entries_left(rest: &LocatedEntries<'a, R>) -> Option<usize> {
         R::entries_left(&rest.rest)
     }
 }

@@ -11,7 +11,8 @@ ghost use Rattle.dynamo_de.specs.Source.{attribute};
 ghost use Rattle.dynamo_read.specs.Lent.{lent_source};
 
 use crate::located::Located;
-use crate::way::Way;
+use crate::spot::Spot;
+use crate::trail::Trail;
 use crate::{LocatedError, Place};
 use dynamo_de::{Deserialize, Reader};
 use dynamo_read::LentDeserializer;
@@ -21,9 +22,9 @@ use std::collections::HashMap;
 
 /// Reads a value from a reader, and says where an error was found.
 ///
-/// It keeps the steps to the part that is read, and so takes about three times as long as reading from
-/// the reader itself. The other located calls read without places first, and only after an error with
-/// them.
+/// It keeps the steps to the part that is read, and copies the key of each entry, so it takes longer than
+/// reading from the reader itself. The other located calls read without places first, and only after an
+/// error with them.
 ///
 /// # Errors
 ///
@@ -35,11 +36,11 @@ pub fn read_located<T: Deserialize, R: Reader>(
 ) -> Result<T, LocatedError<R::Error>>
     ensures { Meets (λ e. R.Error.fault e.error) (T.reads (R.source reader)) result }
 {
-    let way = Way::start(alloc);
-    match read_from(alloc, Located::new(reader, way.again())) {
+    let trail = Trail::new(alloc);
+    match read_from(alloc, Located::new(reader, Spot::whole(&trail))) {
         Ok(value) => Ok(value),
         Err(error) => Err(LocatedError {
-            place: way.place(alloc),
+            place: trail.into_place(),
             error,
         }),
     }

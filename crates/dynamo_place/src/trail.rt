@@ -1,10 +1,10 @@
-//! The place that writing has come to.
+//! The place that reading or writing has come to.
 use crate::{Place, Step};
 use std::alloc::Global;
 use std::cell::Cell;
 
-/// The steps to the value that is being written, which all serializers of one whole value share. They are given up if
-/// memory for one of them runs out.
+/// The steps to the part that is being read or written, which all readers or serializers of one whole value share. They
+/// are given up if memory for one of them runs out.
 #[derive(Drop)]
 pub(crate) struct Trail {
     steps: Cell<Option<Vec<Step>>>,
@@ -58,7 +58,8 @@ impl Trail {
         }
     }
 
-    fn go(&self, step: Step) {
+    /// Goes on by one step.
+    pub(crate) fn go(&self, step: Step) {
         if let Some(mut steps) = self.steps.take()
             && steps.push(step).is_ok()
         {
@@ -66,10 +67,21 @@ impl Trail {
         }
     }
 
-    /// Returns the place that writing has come to, or the empty one if memory for it ran out.
+    /// Returns the place at the end of the trail, or the empty one if memory for it ran out.
     pub(crate) fn into_place(self) -> Place {
         match self.steps.into_inner() {
             Some(steps) => Place::of_steps(steps),
+            None => Place::new(),
+        }
+    }
+
+    /// Returns the place whose steps these are, the last one first.
+    pub(crate) fn into_reversed_place(self) -> Place {
+        match self.steps.into_inner() {
+            Some(mut steps) => {
+                steps.reverse();
+                Place::of_steps(steps)
+            }
             None => Place::new(),
         }
     }

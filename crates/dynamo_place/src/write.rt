@@ -40,10 +40,7 @@ pub fn to_attribute_value_located<T: Serialize + Drop>(
 ) -> Result<AttributeValue, LocatedError<Error>>
     ensures { Writes fault_of (T.wants value) AnswersDatum (T.tells value) (without_place result) }
 {
-    match to_attribute_value(alloc, &value) {
-        Ok(written) => Ok(written),
-        Err(error) => Err(located(alloc, &value, error)),
-    }
+    with_place(alloc, &value, to_attribute_value(alloc, &value))
 }
 
 /// Writes a value as an item as `to_item` does, and says where an error was met, as [`to_attribute_value_located`] does.
@@ -70,18 +67,24 @@ pub fn to_item_located<T: Serialize + Drop>(
 ) -> Result<Item, LocatedError<Error>>
     ensures { AnswersItem (T.wants value) (T.tells value) (without_place result) }
 {
-    match to_item(alloc, &value) {
-        Ok(item) => Ok(item),
-        Err(error) => Err(located(alloc, &value, error)),
-    }
+    with_place(alloc, &value, to_item(alloc, &value))
 }
 
-// The error of writing a value, with its place.
-fn located<T: Serialize>(alloc: Global, value: &T, error: Error) -> LocatedError<Error>
-    ensures { result.error ≡ error }
+// What a value was written as, or the error with its place.
+fn with_place<T: Serialize, W: Drop>(
+    alloc: Global,
+    value: &T,
+    written: Result<W, Error>,
+) -> Result<W, LocatedError<Error>>
+    ensures { without_place result ≡ written }
 {
-    let place = place_of(alloc, value, &error);
-    LocatedError { place, error }
+    match written {
+        Ok(written) => Ok(written),
+        Err(error) => Err(LocatedError {
+            place: place_of(alloc, value, &error),
+            error,
+        }),
+    }
 }
 
 // The place where an error is met when a value is written again, or the empty one if it isn't met again.

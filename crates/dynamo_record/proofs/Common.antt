@@ -26,7 +26,7 @@ pub use Rattle.dynamo_record.specs.Fields.{other_defaults, field_shapes, named_f
 pub use Rattle.dynamo_record.specs.Fields.{read_nth, unread, complete, shapes_of, missed_name}
 pub use Rattle.dynamo_record.specs.Held.{FieldAnswers, IsLast, ReadsFields}
 pub use Rattle.dynamo_record.specs.InOrder.{each_element, elements_same, ReadsInOrder}
-pub use Rattle.dynamo_record.specs.InOrder.{elements_conform}
+pub use Rattle.dynamo_record.specs.InOrder.{elements_conform, elements_in_order}
 pub use Rattle.dynamo_record.specs.Listed.{Shapes, Data, Makes, AboutList, Holds, Fills, IfRead}
 pub use Rattle.dynamo_record.specs.Listed.{Completes, MakesOrFails, both_shapes, both_told}
 pub use Rattle.dynamo_record.specs.Listed.{HoldsBoth, HoldsBehind, ReadBehind, is_there, is_filled}

@@ -1,15 +1,15 @@
 -- What is read of the content of a variant.
-use Rattle.std.proofs.Common.{◌≡◌, ◌⊎◌, ◌<◌, ℕ, zero, List, [], ◌∷◌, Option, Some, None, Result, Ok, Err, refl, sym, ap, subst, inl, inr, arith}
+use Rattle.std.proofs.Common.{◌≡◌, ◌⊎◌, ◌<◌, ℕ, zero, List, [], Option, Some, None, Result, Ok, Err, refl, sym, ap, subst, inl, inr, arith}
 use Rattle.dynamo_record.proofs.Common.{Fault, message, out_of_memory, Datum, Elements, Variant}
 use Rattle.dynamo_record.proofs.Common.{elements_of, OfContent, Answer, After, ◌>>=◌, read_elements}
 use Rattle.dynamo_record.proofs.Common.{Meets, Source, Text, conforms, conform_each}
 use Rattle.dynamo_record.proofs.Common.{conforms_content, AnswersByShape, ReadsByShape, Permits}
-use Rattle.dynamo_record.proofs.Common.{read, into, read_each, Same, SameElements, after, stops}
+use Rattle.dynamo_record.proofs.Common.{read, into, read_each, Same, SameElements, stops}
 use Rattle.dynamo_record.proofs.Common.{content_in, elements_in, about_one, about_several, SameData}
-use Rattle.dynamo_record.proofs.Common.{shapes_of, read_fields, each_element, elements_same}
-use Rattle.dynamo_record.proofs.Common.{ReadsInOrder, AboutList, Makes, Shapes, Data, Names}
+use Rattle.dynamo_record.proofs.Common.{shapes_of, read_fields}
+use Rattle.dynamo_record.proofs.Common.{ReadsInOrder, AboutList, Makes, Data, Names}
 use Rattle.dynamo_record.proofs.Common.{AboutContent, Contents, ReadsInside, ReadsAt, tag}
-use Rattle.dynamo_record.proofs.Common.{first_conforms, one_contents}
+use Rattle.dynamo_record.proofs.Common.{first_conforms, one_contents, elements_in_order}
 use Rattle.dynamo_ser.specs.Datum as datum
 use Rattle.dynamo_de.specs.Answer as answer
 use Rattle.dynamo_shape.specs.Shape as shape
@@ -48,19 +48,6 @@ module _ {C T E : Type 0} (fault : E → Fault) (part : C → T) (a : About T) (
 
 -- ---- several
 
-read_tuple : (ss : Shapes) (xs : List Source) → read_each (shapes_of ss) xs ≡ into elements_of (read_fields ss xs)
-read_tuple [] xs = refl
-read_tuple (s ∷ ss) [] = refl
-read_tuple (s ∷ ss) (x ∷ xs) = step (read s x) (read_each (shapes_of ss) xs) (read_fields ss xs) (read_tuple ss xs)
-  where
-    others : (d : Datum) (b : Answer Data) → (into elements_of b >>= λ es. answer.value (datum.element d es)) ≡ into elements_of (b >>= λ ds. answer.value (d ∷ ds))
-    others d (Ok ds) = refl
-    others d (Err f) = refl
-
-    step : (a : Answer Datum) (es : Answer Elements) (ds : Answer Data) → es ≡ into elements_of ds → (a >>= λ d. es >>= λ xs. answer.value (datum.element d xs)) ≡ into elements_of (a >>= λ d. ds >>= λ xs. answer.value (d ∷ xs))
-    step (Ok d) es ds e = rw e (others d ds)
-    step (Err f) es ds e = refl
-
 module _ {L E : Type 0} (fault : E → Fault) (a : AboutList L) (xs : List Source) where
   abbrev All : Answer Data
   All = read_fields (a.shapes []) xs
@@ -84,27 +71,16 @@ module _ {C L E : Type 0} (fault : E → Fault) (part : C → L) (a : AboutList 
   abbrev Shapes_ : shape.Shapes
   Shapes_ = shapes_of (a.shapes [])
 
-  pub as_elements : (xs : List Source) (r : Result L Fault) → ReadsInOrder a xs r → AnswersByShape (conform_each Shapes_) SameElements Told (read_each Shapes_ xs) r
-  as_elements xs (Ok x) h = (
-    elements_of h.0,
-    rw (read_tuple (a.shapes []) xs) (ap (into elements_of) h.1),
-    λ c. elements_same h.0 (a.told x []) (h.2 (each_element (a.shapes []) (a.told x []) c)),
-  )
-  as_elements xs (Err f) h = subst (λ q. Permits SameElements q (Err f)) (sym (read_tuple (a.shapes []) xs)) (stops SameData SameElements (read_fields (a.shapes []) xs) (λ ds. answer.value (elements_of ds)) f h)
-
-  pub in_order : (s : Source) (r : Result L Fault) → After (read_elements s) (ReadsInOrder a) r → AnswersByShape (conform_each Shapes_) SameElements Told (read_elements s >>= read_each Shapes_) r
-  in_order s r h = after (conform_each Shapes_) SameElements Told (ReadsInOrder a) (read_each Shapes_) as_elements (read_elements s) r h
-
   pub values_read : (s : Option Source) (x : L) (w : C) → part w ≡ x → OfElements s (Ok x) → Tuple s (Ok w)
   values_read None x w e h = absurd h
   values_read (Some y) x w e h =
       made_of (conform_each Shapes_) SameElements (conforms_content (shape.several Shapes_) v) Told ((about_several part a).told v) (datum.tuple_variant v)
       (λ d k. subst (conform_each Shapes_) (sym (ap elements_in k.1)) k.2) (λ d d2 same. (d2, refl, same)) (read_elements y >>= read_each Shapes_) x w (ap (λ l. datum.tuple_variant v (Told l)) e)
-      (in_order y (Ok x) h)
+      (elements_in_order a y (Ok x) h)
 
   pub values_fail : (s : Option Source) (e : E) → OfElements s (Err e) → Tuple s (Err e)
   values_fail None e h = h
   values_fail (Some y) e h = elim h [
     | inl lacks ↦ inl lacks
-    | inr failed ↦ inr (stops SameElements Same (read_elements y >>= read_each Shapes_) (λ ds. answer.value (datum.tuple_variant v ds)) (fault e) (in_order y (Err (fault e)) failed))
+    | inr failed ↦ inr (stops SameElements Same (read_elements y >>= read_each Shapes_) (λ ds. answer.value (datum.tuple_variant v ds)) (fault e) (elements_in_order a y (Err (fault e)) failed))
   ]

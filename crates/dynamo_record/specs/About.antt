@@ -1,5 +1,5 @@
 -- What is known of the values of a type: data, the proofs among them, so that what is made of several types is known too.
-use Rattle.std.specs.Prelude.{◌≡◌, ℕ, ℤ, pos, Bool, List, [], ◌∷◌, Option, Some, None, Result, Ok, Err, ⊤, map}
+use Rattle.std.specs.Prelude.{◌≡◌, ℕ, ℤ, pos, Bool, List, Option, Some, None, Result, Ok, Err, ⊤, map}
 use Rattle.std.specs.declared.alloc.Global.{Global}
 use Rattle.std.specs.declared.vec.Vec.{Vec}
 use Rattle.dynamo_value.specs.Fault.{Fault, out_of_memory}
@@ -14,7 +14,7 @@ use Rattle.dynamo_shape.specs.Absence.{Absence}
 use Rattle.dynamo_shape.specs.Read.{missing}
 use Rattle.dynamo_shape.specs.Shape as shape
 use Rattle.dynamo_shape.specs.Shape.{Shape}
-use Rattle.dynamo_shape.proofs.ByValue.{list_told, list_alike, option_told, option_alike, two_told, two_alike, three_told, three_alike, four_told, four_alike}
+use Rattle.dynamo_shape.proofs.ByValue.{list_told, list_alike, option_told, option_alike}
 use Rattle.dynamo_shape.proofs.Scalars.{bool_told, bool_alike, signed_told, signed_alike, unsigned_told, unsigned_alike, char_told, char_alike, text_told, text_alike, bytes_told, bytes_alike, unit_told, unit_alike}
 
 -- The shape; the datum that a value tells; when two values are the same by value: hashed maps as finite maps, all else part by
@@ -69,30 +69,3 @@ list_tells tells v = datum.seq (elements_of (map tells v.items))
 
 abbrev pub about_list : {T : Type 0} → About T → About (Vec T Global)
 about_list a = record { shape = shape.list a.shape; tells = list_tells a.tells; same = λ v w. SameEach a.same v.items w.items; told_by_value = list_told a.shape a.tells a.same a.told_by_value; told_alike = list_alike a.shape a.tells a.same a.told_alike }
-
-abbrev pub about_two : {A B : Type 0} → About A → About B → About (A × B)
-about_two a b = record {
-  shape = shape.tuple (shape.shape a.shape (shape.shape b.shape shape.no_shapes));
-  tells = λ t. datum.tuple (elements_of (a.tells t.0 ∷ b.tells t.1 ∷ []));
-  same = λ t u. a.same t.0 u.0 × b.same t.1 u.1;
-  told_by_value = two_told a.shape b.shape a.tells b.tells a.same b.same a.told_by_value b.told_by_value;
-  told_alike = two_alike a.shape b.shape a.tells b.tells a.same b.same a.told_alike b.told_alike;
-}
-
-abbrev pub about_three : {A B C : Type 0} → About A → About B → About C → About (A × B × C)
-about_three a b c = record {
-  shape = shape.tuple (shape.shape a.shape (shape.shape b.shape (shape.shape c.shape shape.no_shapes)));
-  tells = λ t. datum.tuple (elements_of (a.tells t.0 ∷ b.tells t.1 ∷ c.tells t.2 ∷ []));
-  same = λ t u. a.same t.0 u.0 × b.same t.1 u.1 × c.same t.2 u.2;
-  told_by_value = three_told a.shape b.shape c.shape a.tells b.tells c.tells a.same b.same c.same a.told_by_value b.told_by_value c.told_by_value;
-  told_alike = three_alike a.shape b.shape c.shape a.tells b.tells c.tells a.same b.same c.same a.told_alike b.told_alike c.told_alike;
-}
-
-abbrev pub about_four : {A B C D : Type 0} → About A → About B → About C → About D → About (A × B × C × D)
-about_four a b c d = record {
-  shape = shape.tuple (shape.shape a.shape (shape.shape b.shape (shape.shape c.shape (shape.shape d.shape shape.no_shapes))));
-  tells = λ t. datum.tuple (elements_of (a.tells t.0 ∷ b.tells t.1 ∷ c.tells t.2 ∷ d.tells t.3 ∷ []));
-  same = λ t u. a.same t.0 u.0 × b.same t.1 u.1 × c.same t.2 u.2 × d.same t.3 u.3;
-  told_by_value = four_told a.shape b.shape c.shape d.shape a.tells b.tells c.tells d.tells a.same b.same c.same d.same a.told_by_value b.told_by_value c.told_by_value d.told_by_value;
-  told_alike = four_alike a.shape b.shape c.shape d.shape a.tells b.tells c.tells d.tells a.same b.same c.same d.same a.told_alike b.told_alike c.told_alike d.told_alike;
-}

@@ -23,5 +23,7 @@ pub mod TaggedEnums
 pub mod TaggedLists
 pub mod Told
 pub mod TupleStructs
+pub mod Tuples
+pub mod TuplesRead
 pub mod UnitEnums
 pub mod Variants

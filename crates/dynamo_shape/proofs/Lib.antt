@@ -34,7 +34,6 @@ pub mod Sets
 pub mod SetsRead
 pub mod SetsTold
 pub mod Structs
-pub mod Tuples
 pub mod TypesByHand
 pub mod WellKeyed
 pub mod Scalars

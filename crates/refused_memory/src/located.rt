@@ -33,17 +33,19 @@ type Lists = HashMap<String, Vec<u8>>;
 
 const TEXT: &str = r#"{"a":{"L":[{"N":"1"},{"S":"x"}]}}"#;
 
-/// A string in a list of numbers, by the reader of what is taken.
+const TEXT_INSIDE: &str = r#"{"b":{"M":{"a":{"L":[{"N":"1"},{"S":"x"}]}}}}"#;
+
+/// A string in a list of numbers in a map, by the reader of what is taken.
 pub fn taken(rt: &HostRuntime) -> Result<(), Stopped> {
-    let value = AttributeValue::M(values::map(rt.alloc(), TEXT)?);
-    let read = from_attribute_value_located::<Lists>(rt.alloc(), value);
+    let value = AttributeValue::M(values::map(rt.alloc(), TEXT_INSIDE)?);
+    let read = from_attribute_value_located::<HashMap<String, Lists>>(rt.alloc(), value);
     Ok(print!(rt; "read: {}", At(&read))?)
 }
 
 /// The same, by the reader of what is lent.
 pub fn lent(rt: &HostRuntime) -> Result<(), Stopped> {
-    let item = values::item(rt.alloc(), TEXT)?;
-    let read = from_item_ref_located::<Lists>(rt.alloc(), &item);
+    let item = values::item(rt.alloc(), TEXT_INSIDE)?;
+    let read = from_item_ref_located::<HashMap<String, Lists>>(rt.alloc(), &item);
     Ok(print!(rt; "read: {}", At(&read))?)
 }
 

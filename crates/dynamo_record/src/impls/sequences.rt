@@ -2,8 +2,9 @@ ghost use Rattle.std.specs.Prelude.{[], ◌∷◌};
 ghost use Rattle.std.proofs.Common.{ap};
 ghost use Rattle.dynamo_ser.specs.Datum as datum;
 ghost use Rattle.dynamo_shape.proofs.Lists.{list_permitted};
-ghost use Rattle.dynamo_shape.proofs.Tuples.{two_permitted, three_permitted, four_permitted};
-ghost use Rattle.dynamo_record.specs.About.{list_tells, about_list, about_two, about_three, about_four};
+ghost use Rattle.dynamo_record.specs.About.{list_tells, about_list};
+ghost use Rattle.dynamo_record.specs.Tuples.{about_tuple, two_parts, three_parts, four_parts};
+ghost use Rattle.dynamo_record.specs.TuplesRead.{part, read_two, read_three, read_four, tuple_by_shape};
 
 use crate::Shaped;
 use dynamo_de::Error;
@@ -28,11 +29,12 @@ impl<T: Shaped> Shaped for Vec<T> {
 }
 
 impl<A: Shaped, B: Shaped> Shaped for (A, B) {
-    ghost about = { about_two A.about B.about };
+    ghost about = { about_tuple (two_parts A.about B.about) };
 
     ghost as_told = { λ i t. datum.tuple (datum.elements_of (A.as_told i t.0 ∷ B.as_told i t.1 ∷ [])) };
 
-    ghost reads_by_shape = { two_permitted A.about.shape B.about.shape A.about.tells B.about.tells A.reads B.reads A.reads_by_shape B.reads_by_shape };
+    ghost reads_by_shape = { tuple_by_shape (read_two (part A.about A.reads A.reads_by_shape)
+        (part B.about B.reads B.reads_by_shape)) };
 
     fn absent<E: Error>(_alloc: Global) -> Result<Option<(A, B)>, E> {
         Ok(None)
@@ -45,11 +47,13 @@ impl<A: Shaped, B: Shaped> Shaped for (A, B) {
 }
 
 impl<A: Shaped, B: Shaped, C: Shaped> Shaped for (A, B, C) {
-    ghost about = { about_three A.about B.about C.about };
+    ghost about = { about_tuple (three_parts A.about B.about C.about) };
 
     ghost as_told = { λ i t. datum.tuple (datum.elements_of (A.as_told i t.0 ∷ B.as_told i t.1 ∷ C.as_told i t.2 ∷ [])) };
 
-    ghost reads_by_shape = { three_permitted A.about.shape B.about.shape C.about.shape A.about.tells B.about.tells C.about.tells A.reads B.reads C.reads A.reads_by_shape B.reads_by_shape C.reads_by_shape };
+    ghost reads_by_shape = { tuple_by_shape (read_three (part A.about A.reads A.reads_by_shape)
+        (part B.about B.reads B.reads_by_shape)
+        (part C.about C.reads C.reads_by_shape)) };
 
     fn absent<E: Error>(_alloc: Global) -> Result<Option<(A, B, C)>, E> {
         Ok(None)
@@ -63,11 +67,14 @@ impl<A: Shaped, B: Shaped, C: Shaped> Shaped for (A, B, C) {
 }
 
 impl<A: Shaped, B: Shaped, C: Shaped, D: Shaped> Shaped for (A, B, C, D) {
-    ghost about = { about_four A.about B.about C.about D.about };
+    ghost about = { about_tuple (four_parts A.about B.about C.about D.about) };
 
     ghost as_told = { λ i t. datum.tuple (datum.elements_of (A.as_told i t.0 ∷ B.as_told i t.1 ∷ C.as_told i t.2 ∷ D.as_told i t.3 ∷ [])) };
 
-    ghost reads_by_shape = { four_permitted A.about.shape B.about.shape C.about.shape D.about.shape A.about.tells B.about.tells C.about.tells D.about.tells A.reads B.reads C.reads D.reads A.reads_by_shape B.reads_by_shape C.reads_by_shape D.reads_by_shape };
+    ghost reads_by_shape = { tuple_by_shape (read_four (part A.about A.reads A.reads_by_shape)
+        (part B.about B.reads B.reads_by_shape)
+        (part C.about C.reads C.reads_by_shape)
+        (part D.about D.reads D.reads_by_shape)) };
 
     fn absent<E: Error>(_alloc: Global) -> Result<Option<(A, B, C, D)>, E> {
         Ok(None)

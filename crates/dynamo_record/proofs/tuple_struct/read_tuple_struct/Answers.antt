@@ -1,6 +1,6 @@
 use Rattle.std.proofs.Common.{Ok, Err, sym, subst}
 use Rattle.dynamo_record.proofs.Common.{ReadsAs}
-use Rattle.dynamo_record.specs.TupleStructs.{named_tuple}
+use Rattle.dynamo_record.specs.Tuples.{named_tuple}
 use Rattle.dynamo_record.proofs.InTuple.{tuple_read}
 use Rattle.dynamo_record.proofs.tuple_struct.read_tuple_struct.Goals as goal
 
