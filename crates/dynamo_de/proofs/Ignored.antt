@@ -13,11 +13,11 @@ use Rattle.dynamo_de.specs.Inside.{inside_shown}
 use Rattle.dynamo_de.specs.Number.{parse, is_float_text}
 use Rattle.dynamo_de.specs.Shown.{shown, number_shown, signed_or_other, unsigned_or_float}
 use Rattle.dynamo_de.specs.Shows.{seen}
-use Rattle.dynamo_de.specs.Sight as sight
+use Rattle.dynamo_de.specs.Showing as showing
 use Rattle.dynamo_de.specs.Source.{Source, attribute, key_text, number_text, plain_text, byte_string, Entry, entries_of, values_of, each}
 use Rattle.dynamo_de.specs.declared.request.Request.TheVariants as request
-use Rattle.dynamo_de.specs.declared.showing.Showing.{Showing}
-use Rattle.dynamo_de.specs.declared.showing.Showing.TheVariants as showing
+use Rattle.dynamo_de.specs.declared.showing.Showing.{Showing as ShowingOf}
+use Rattle.dynamo_de.specs.declared.showing.Showing.TheVariants as showing_of
 
 -- ---- what it meets
 
@@ -41,7 +41,7 @@ blobs_same : (ts : List (List ℕ)) → answer.value tt ≡ ignore_sources (each
 blobs_same [] = refl
 blobs_same (t ∷ ts) = blobs_same ts
 
-float_same : (b : Bool) (t : List ℕ) → (if b then answer.value tt else answer.fault (failed_to_parse_float t)) ≡ ignore_inside (inside_shown (if b then Ok (sight.number_text t) else Err (failed_to_parse_float t)))
+float_same : (b : Bool) (t : List ℕ) → (if b then answer.value tt else answer.fault (failed_to_parse_float t)) ≡ ignore_inside (inside_shown (if b then Ok (showing.number_text t) else Err (failed_to_parse_float t)))
 float_same true t = refl
 float_same false t = refl
 
@@ -87,7 +87,7 @@ pub flat : (source : List ℕ → Source) → ((t : List ℕ) → source_height 
 flat source h [] = refl
 flat source h (t ∷ ts) = rw (h t, flat source h ts) refl
 
-float_flat : (b : Bool) (t : List ℕ) → inside_height (inside_shown (if b then Ok (sight.number_text t) else Err (failed_to_parse_float t))) ≡ 0
+float_flat : (b : Bool) (t : List ℕ) → inside_height (inside_shown (if b then Ok (showing.number_text t) else Err (failed_to_parse_float t))) ≡ 0
 float_flat true t = refl
 float_flat false t = refl
 
@@ -129,11 +129,11 @@ module _ (s : Source) where
       let k : suc (entries_height es) ≡ source_height s = ap inside_height (sym h) ∙ high s in
       rw (sym k) (omega arith)
 
-module _ {D L M C : Type 0} (source : D → Source) (elements : L → List Source) (entries : M → List Entry) (variants : C → Result (List ℕ × Option Source) Fault) (s : Source) (x : Showing D L M C) where
-  pub elements_fall : (l : L) → shown request.IgnoredAny s ≡ Ok (seen source elements entries variants x) → x ≡ showing.Sequence l → 2 * suc (sources_height (elements l)) < 2 * source_height s + 1
+module _ {D L M C : Type 0} (source : D → Source) (elements : L → List Source) (entries : M → List Entry) (variants : C → Result (List ℕ × Option Source) Fault) (s : Source) (x : ShowingOf D L M C) where
+  pub elements_fall : (l : L) → shown request.IgnoredAny s ≡ Ok (seen source elements entries variants x) → x ≡ showing_of.Sequence l → 2 * suc (sources_height (elements l)) < 2 * source_height s + 1
   elements_fall l h e =
       inside_elements_fall s (elements l) (ap inside_shown (h ∙ ap (λ y. Ok (seen source elements entries variants y)) e))
 
-  pub entries_fall : (m : M) → shown request.IgnoredAny s ≡ Ok (seen source elements entries variants x) → x ≡ showing.Map m → 2 * suc (entries_height (entries m)) < 2 * source_height s + 1
+  pub entries_fall : (m : M) → shown request.IgnoredAny s ≡ Ok (seen source elements entries variants x) → x ≡ showing_of.Map m → 2 * suc (entries_height (entries m)) < 2 * source_height s + 1
   entries_fall m h e =
       inside_entries_fall s (entries m) (ap inside_shown (h ∙ ap (λ y. Ok (seen source elements entries variants y)) e))

@@ -10,8 +10,8 @@ use Rattle.dynamo_de.specs.Integers.{kind_of}
 use Rattle.dynamo_de.specs.Number.{parse}
 use Rattle.dynamo_de.specs.Reading.{read_integer}
 use Rattle.dynamo_de.specs.Shown.{Shown, shown, num_shown, integer_shown, or_fault}
-use Rattle.dynamo_de.specs.Sight as sight
-use Rattle.dynamo_de.specs.Sight.{Sight}
+use Rattle.dynamo_de.specs.Showing as showing
+use Rattle.dynamo_de.specs.Showing.{Showing}
 use Rattle.dynamo_de.specs.Source.{Source, attribute, key_text, number_text, plain_text, byte_string}
 use Rattle.dynamo_de.specs.declared.integer.IntegerKind as declared
 use Rattle.dynamo_de.specs.declared.integer.IntegerKind.TheVariants as types
@@ -47,24 +47,24 @@ its_kind u64 = refl
 its_kind u128 = refl
 
 -- an integer of the kind, and nothing else
-abbrev pub take_own : Sight → IntegerKind → Answer ℤ
-take_own (sight.integer i8 z) i8 = answer.value z
-take_own (sight.integer i16 z) i16 = answer.value z
-take_own (sight.integer i32 z) i32 = answer.value z
-take_own (sight.integer i64 z) i64 = answer.value z
-take_own (sight.integer i128 z) i128 = answer.value z
-take_own (sight.integer u8 z) u8 = answer.value z
-take_own (sight.integer u16 z) u16 = answer.value z
-take_own (sight.integer u32 z) u32 = answer.value z
-take_own (sight.integer u64 z) u64 = answer.value z
-take_own (sight.integer u128 z) u128 = answer.value z
+abbrev pub take_own : Showing → IntegerKind → Answer ℤ
+take_own (showing.integer i8 z) i8 = answer.value z
+take_own (showing.integer i16 z) i16 = answer.value z
+take_own (showing.integer i32 z) i32 = answer.value z
+take_own (showing.integer i64 z) i64 = answer.value z
+take_own (showing.integer i128 z) i128 = answer.value z
+take_own (showing.integer u8 z) u8 = answer.value z
+take_own (showing.integer u16 z) u16 = answer.value z
+take_own (showing.integer u32 z) u32 = answer.value z
+take_own (showing.integer u64 z) u64 = answer.value z
+take_own (showing.integer u128 z) u128 = answer.value z
 take_own _ _ = answer.refused
 
 abbrev pub taken_at : IntegerKind → Shown → Answer ℤ
 taken_at k (Ok s) = take_own s k
 taken_at k (Err f) = answer.fault f
 
-own : (k : IntegerKind) (z : ℤ) → answer.value z ≡ take_own (sight.integer k z) k
+own : (k : IntegerKind) (z : ℤ) → answer.value z ≡ take_own (showing.integer k z) k
 own i8 z = refl
 own i16 z = refl
 own i32 z = refl

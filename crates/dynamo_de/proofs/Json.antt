@@ -18,11 +18,11 @@ use Rattle.dynamo_de.specs.Number.{parse, is_float_text}
 use Rattle.dynamo_de.specs.ReadJson.{number_or, read_number, read_numbers, read_blobs, read_value, read_elements, read_members, read_json, read_sources, read_entries, read_shown}
 use Rattle.dynamo_de.specs.Shown.{Shown, shown, number_shown, signed_or_other, unsigned_or_float}
 use Rattle.dynamo_de.specs.Shows.{seen}
-use Rattle.dynamo_de.specs.Sight as sight
+use Rattle.dynamo_de.specs.Showing as showing
 use Rattle.dynamo_de.specs.Source.{Source, attribute, key_text, number_text, plain_text, byte_string, Entry, entries_of, values_of, each}
 use Rattle.dynamo_de.specs.declared.request.Request.TheVariants as request
-use Rattle.dynamo_de.specs.declared.showing.Showing.{Showing}
-use Rattle.dynamo_de.specs.declared.showing.Showing.TheVariants as showing
+use Rattle.dynamo_de.specs.declared.showing.Showing.{Showing as ShowingOf}
+use Rattle.dynamo_de.specs.declared.showing.Showing.TheVariants as showing_of
 use Rattle.dynamo_de.proofs.Ignored.{elements_fall, entries_fall}
 
 -- ---- what it reads
@@ -52,7 +52,7 @@ blobs_same : (bs : List (List ℕ)) → read_blobs bs ≡ read_sources (each byt
 blobs_same [] = refl
 blobs_same (b ∷ bs) = refl
 
-float_same : (b : Bool) (t : List ℕ) → (if b then answer.refused else answer.fault (failed_to_parse_float t)) ≡ read_shown (if b then Ok (sight.number_text t) else Err (failed_to_parse_float t))
+float_same : (b : Bool) (t : List ℕ) → (if b then answer.refused else answer.fault (failed_to_parse_float t)) ≡ read_shown (if b then Ok (showing.number_text t) else Err (failed_to_parse_float t))
 float_same true t = refl
 float_same false t = refl
 
@@ -116,10 +116,10 @@ any_as_ignored (byte_string bytes) = refl
 
 -- an option is shown only where one is asked for
 abbrev has_content : Shown → Bool
-has_content (Ok (sight.some s)) = true
+has_content (Ok (showing.some s)) = true
 has_content _ = false
 
-float_bare : (b : Bool) (t : List ℕ) → has_content (if b then Ok (sight.number_text t) else Err (failed_to_parse_float t)) ≡ false
+float_bare : (b : Bool) (t : List ℕ) → has_content (if b then Ok (showing.number_text t) else Err (failed_to_parse_float t)) ≡ false
 float_bare true t = refl
 float_bare false t = refl
 
@@ -148,12 +148,12 @@ bare (number_text t) = signed_bare (parse i64 t) t
 bare (plain_text t) = refl
 bare (byte_string bytes) = refl
 
-module _ {D L M C : Type 0} (source : D → Source) (elements : L → List Source) (entries : M → List Entry) (variants : C → Result (List ℕ × Option Source) Fault) (s : Source) (x : Showing D L M C) where
-  pub items_fall : (l : L) → shown request.Any s ≡ Ok (seen source elements entries variants x) → x ≡ showing.Sequence l → 2 * suc (sources_height (elements l)) < 2 * source_height s + 1
+module _ {D L M C : Type 0} (source : D → Source) (elements : L → List Source) (entries : M → List Entry) (variants : C → Result (List ℕ × Option Source) Fault) (s : Source) (x : ShowingOf D L M C) where
+  pub items_fall : (l : L) → shown request.Any s ≡ Ok (seen source elements entries variants x) → x ≡ showing_of.Sequence l → 2 * suc (sources_height (elements l)) < 2 * source_height s + 1
   items_fall l h e = elements_fall source elements entries variants s x l (sym (any_as_ignored s) ∙ h) e
 
-  pub members_fall : (m : M) → shown request.Any s ≡ Ok (seen source elements entries variants x) → x ≡ showing.Map m → 2 * suc (entries_height (entries m)) < 2 * source_height s + 1
+  pub members_fall : (m : M) → shown request.Any s ≡ Ok (seen source elements entries variants x) → x ≡ showing_of.Map m → 2 * suc (entries_height (entries m)) < 2 * source_height s + 1
   members_fall m h e = entries_fall source elements entries variants s x m (sym (any_as_ignored s) ∙ h) e
 
-  pub content_falls : (d : D) → shown request.Any s ≡ Ok (seen source elements entries variants x) → x ≡ showing.Some d → 2 * source_height (source d) + 1 < 2 * source_height s + 1
+  pub content_falls : (d : D) → shown request.Any s ≡ Ok (seen source elements entries variants x) → x ≡ showing_of.Some d → 2 * source_height (source d) + 1 < 2 * source_height s + 1
   content_falls d h e = absurd (true≢false (ap has_content (sym (h ∙ ap (λ y. Ok (seen source elements entries variants y)) e)) ∙ bare s))

@@ -17,7 +17,7 @@ use Rattle.dynamo_de.specs.Shown.{shown}
 use Rattle.dynamo_de.specs.Shows.{seen, TakesElement, TakesEntry}
 use Rattle.dynamo_de.specs.Source.{Source, key_text, attribute, Entry}
 use Rattle.dynamo_de.specs.declared.request.Request.TheVariants as request
-use Rattle.dynamo_de.specs.declared.showing.Showing.{Showing}
+use Rattle.dynamo_de.specs.declared.showing.Showing.{Showing as ShowingOf}
 use Rattle.dynamo_de.proofs.Json.{json_as_shown, ItemsFrom, item_read, before_nothing}
 
 -- what is answered with is the value
@@ -79,7 +79,7 @@ module _ {D : Type 0} (source : D → Source) where
 
 -- ---- what a showing is read as
 
-module _ {D L M C : Type 0} (source : D → Source) (elements : L → List Source) (entries : M → List Entry) (variants : C → Result (List ℕ × Option Source) Fault) (s : Source) (x : Showing D L M C) where
-  pub shown_given : (y : Showing D L M C) (v : Value) → shown request.Any s ≡ Ok (seen source elements entries variants x) → x ≡ y
+module _ {D L M C : Type 0} (source : D → Source) (elements : L → List Source) (entries : M → List Entry) (variants : C → Result (List ℕ × Option Source) Fault) (s : Source) (x : ShowingOf D L M C) where
+  pub shown_given : (y : ShowingOf D L M C) (v : Value) → shown request.Any s ≡ Ok (seen source elements entries variants x) → x ≡ y
       → Gives view (read_shown (Ok (seen source elements entries variants y))) (Ok v) → Gives view (read_json s) (Ok v)
   shown_given y v shows is given = subst (λ a. Gives view a (Ok v)) (sym (json_as_shown s ∙ ap read_shown (shows ∙ ap (λ z. Ok (seen source elements entries variants z)) is))) given

@@ -9,8 +9,8 @@ use Rattle.dynamo_de.specs.Meets.{Meets}
 use Rattle.dynamo_de.specs.Number.{parse, is_float_text}
 use Rattle.dynamo_de.specs.Reading.{first_claimed, not_alone, taken, taken_from, read_identifier}
 use Rattle.dynamo_de.specs.Shown.{Shown, shown, number_shown, signed_or_other, unsigned_or_float}
-use Rattle.dynamo_de.specs.Sight as sight
-use Rattle.dynamo_de.specs.Sight.{Sight}
+use Rattle.dynamo_de.specs.Showing as showing
+use Rattle.dynamo_de.specs.Showing.{Showing}
 use Rattle.dynamo_de.specs.Source.{Source, attribute, number_text}
 use Rattle.dynamo_de.specs.Takes.{Takes, TakesFirst, Visited, Asks, Where, Way, Claims, char_ways, ways}
 use Rattle.dynamo_de.specs.Visitors.{claims_str, take_identifier}
@@ -20,9 +20,9 @@ use Rattle.dynamo_de.specs.declared.request.Request.TheVariants as request
 use Rattle.dynamo_de.proofs.Meets.{meets_more}
 
 -- what a number text is shown as where no integer is asked for
-module _ (P : Shown → Type 0) (signed : (z : ℤ) → P (Ok (sight.integer i64 z))) (unsigned : (z : ℤ) → P (Ok (sight.integer u64 z)))
-    (float : (t : List ℕ) → P (Ok (sight.number_text t))) (fails : (f : Fault) → P (Err f)) where
-  float_case : (b : Bool) (t : List ℕ) → P (if b then Ok (sight.number_text t) else Err (failed_to_parse_float t))
+module _ (P : Shown → Type 0) (signed : (z : ℤ) → P (Ok (showing.integer i64 z))) (unsigned : (z : ℤ) → P (Ok (showing.integer u64 z)))
+    (float : (t : List ℕ) → P (Ok (showing.number_text t))) (fails : (f : Fault) → P (Err f)) where
+  float_case : (b : Bool) (t : List ℕ) → P (if b then Ok (showing.number_text t) else Err (failed_to_parse_float t))
   float_case true t = float t
   float_case false t = fails (failed_to_parse_float t)
 
@@ -37,8 +37,8 @@ module _ (P : Shown → Type 0) (signed : (z : ℤ) → P (Ok (sight.integer i64
   pub number_cases : (t : List ℕ) → P (number_shown t)
   number_cases t = signed_case (parse i64 t) t
 
-module _ {A V : Type 0} (claims : Kind → Bool) (take : Sight → Answer A) (next : A → Result V Fault → Type 0) where
-  abbrev takes : Sight → Result V Fault → Type 0
+module _ {A V : Type 0} (claims : Kind → Bool) (take : Showing → Answer A) (next : A → Result V Fault → Type 0) where
+  abbrev takes : Showing → Result V Fault → Type 0
   takes x = After (take x) next
 
   one : (b : Bool) (a otherwise : Answer A) (P : Type 0) (r : Result V Fault) → (P → After otherwise next r) → Where b (After a next r) P → After (if b then a else otherwise) next r
@@ -61,7 +61,7 @@ module _ {A V : Type 0} (claims : Kind → Bool) (take : Sight → Answer A) (ne
 
   of_shown : Keeps → (shown : Shown) (r : Result V Fault) → Visited (Takes claims takes) shown r → After (taken claims take shown) next r
   of_shown keeps (Err f) r h = h
-  of_shown keeps (Ok (sight.first_char c)) r h = several (first_claimed claims take (char_ways c)) (Claims claims takes (char_ways c)) (of_ways (char_ways c)) (keeps c) r h
+  of_shown keeps (Ok (showing.first_char c)) r h = several (first_claimed claims take (char_ways c)) (Claims claims takes (char_ways c)) (of_ways (char_ways c)) (keeps c) r h
   of_shown keeps (Ok s) r h = of_ways (ways s) r h
 
   pub as_read : Keeps → {E : Type 0} (request : Request) (fault : E → Fault) (s : Source) (r : Result V E) → Asks fault claims takes request s r → Meets fault (After (taken_from claims take request s) next) r

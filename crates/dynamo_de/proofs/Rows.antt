@@ -9,7 +9,7 @@ use Rattle.dynamo_de.specs.Answer as answer
 use Rattle.dynamo_de.specs.Ignored.{read_ignored}
 use Rattle.dynamo_de.specs.Reading.{read_bool, read_integer, read_char, read_content}
 use Rattle.dynamo_de.specs.Shown.{shown}
-use Rattle.dynamo_de.specs.Sight as sight
+use Rattle.dynamo_de.specs.Showing as showing
 use Rattle.dynamo_de.specs.Source.{attribute, key_text, number_text}
 use Rattle.dynamo_de.specs.declared.request.Request.TheVariants as request
 
@@ -52,13 +52,13 @@ true_is_none : read_content (attribute (av.Null true)) ≡ answer.value None
 true_is_none = refl
 
 -- a number of unknown kind is an i64, else a u64, else a float's text
-small : shown request.Any (attribute (av.N (codes "-5"))) ≡ Ok (sight.integer i64 (negsuc 4))
+small : shown request.Any (attribute (av.N (codes "-5"))) ≡ Ok (showing.integer i64 (negsuc 4))
 small = refl
 
-big : shown request.Any (attribute (av.N (codes "18446744073709551615"))) ≡ Ok (sight.integer u64 (pos 18446744073709551615))
+big : shown request.Any (attribute (av.N (codes "18446744073709551615"))) ≡ Ok (showing.integer u64 (pos 18446744073709551615))
 big = refl
 
-fraction : shown request.Any (number_text (codes "1.5")) ≡ Ok (sight.number_text (codes "1.5"))
+fraction : shown request.Any (number_text (codes "1.5")) ≡ Ok (showing.number_text (codes "1.5"))
 fraction = refl
 
 no_text_of_a_number : shown request.IgnoredAny (attribute (av.N (codes "abc"))) ≡ Err (failed_to_parse_float (codes "abc"))
@@ -68,7 +68,7 @@ no_text_of_a_number = refl
 set_is_no_struct : shown request.Struct (attribute (av.Ss (codes "a" ∷ []))) ≡ Err expected_map
 set_is_no_struct = refl
 
-two_keys : shown request.Enum (attribute (av.M (av.member (codes "a") (av.Null true) (av.member (codes "b") (av.Null true) av.no_members)))) ≡ Ok (sight.variant (Err expected_single_key))
+two_keys : shown request.Enum (attribute (av.M (av.member (codes "a") (av.Null true) (av.member (codes "b") (av.Null true) av.no_members)))) ≡ Ok (showing.variant (Err expected_single_key))
 two_keys = refl
 
 -- the first fault in the order of the keys, at every depth

@@ -2,7 +2,7 @@
 use Rattle.std.specs.Prelude.{◌≡◌, ◌⊎◌, List, Result, Ok, Err}
 use Rattle.dynamo_value.specs.Fault.{Fault, out_of_memory}
 use Rattle.dynamo_de.specs.Shown.{Shown}
-use Rattle.dynamo_de.specs.Sight as sight
+use Rattle.dynamo_de.specs.Showing as showing
 use Rattle.dynamo_de.specs.Source.{Source, Entry}
 use Rattle.dynamo_de.specs.declared.showing.Inside as declared
 use Rattle.dynamo_de.specs.declared.showing.Inside.TheVariants as inside
@@ -15,8 +15,8 @@ pub data Inside : Type 0 where
 
 abbrev pub inside_shown : Shown → Result Inside Fault
 inside_shown (Err f) = Err f
-inside_shown (Ok (sight.sequence ss)) = Ok (elements ss)
-inside_shown (Ok (sight.entries es)) = Ok (entries es)
+inside_shown (Ok (showing.sequence ss)) = Ok (elements ss)
+inside_shown (Ok (showing.entries es)) = Ok (entries es)
 inside_shown (Ok _) = Ok nothing
 
 -- by what the reader tells of elements and entries

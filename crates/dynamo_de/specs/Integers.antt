@@ -1,7 +1,7 @@
 -- The integers of a program, by their types.
 use Rattle.std.specs.Prelude.{pos}
 use Rattle.dynamo_value.specs.Integer as kinds
-use Rattle.dynamo_de.specs.Sight.{Sight, integer}
+use Rattle.dynamo_de.specs.Showing.{Showing, integer}
 use Rattle.dynamo_de.specs.declared.integer.Integer.{Integer}
 use Rattle.dynamo_de.specs.declared.integer.Integer.TheVariants as of_type
 use Rattle.dynamo_de.specs.declared.integer.IntegerKind.{IntegerKind}
@@ -34,14 +34,14 @@ type_of (of_type.U64 _) = types.U64
 type_of (of_type.U128 _) = types.U128
 
 -- an integer as it is shown
-abbrev pub integer_sight : Integer → Sight
-integer_sight (of_type.I8 z) = integer kinds.i8 z
-integer_sight (of_type.I16 z) = integer kinds.i16 z
-integer_sight (of_type.I32 z) = integer kinds.i32 z
-integer_sight (of_type.I64 z) = integer kinds.i64 z
-integer_sight (of_type.I128 z) = integer kinds.i128 z
-integer_sight (of_type.U8 n) = integer kinds.u8 (pos n)
-integer_sight (of_type.U16 n) = integer kinds.u16 (pos n)
-integer_sight (of_type.U32 n) = integer kinds.u32 (pos n)
-integer_sight (of_type.U64 n) = integer kinds.u64 (pos n)
-integer_sight (of_type.U128 n) = integer kinds.u128 (pos n)
+abbrev pub integer_showing : Integer → Showing
+integer_showing (of_type.I8 z) = integer kinds.i8 z
+integer_showing (of_type.I16 z) = integer kinds.i16 z
+integer_showing (of_type.I32 z) = integer kinds.i32 z
+integer_showing (of_type.I64 z) = integer kinds.i64 z
+integer_showing (of_type.I128 z) = integer kinds.i128 z
+integer_showing (of_type.U8 n) = integer kinds.u8 (pos n)
+integer_showing (of_type.U16 n) = integer kinds.u16 (pos n)
+integer_showing (of_type.U32 n) = integer kinds.u32 (pos n)
+integer_showing (of_type.U64 n) = integer kinds.u64 (pos n)
+integer_showing (of_type.U128 n) = integer kinds.u128 (pos n)

@@ -19,7 +19,7 @@ pub mod Reading
 pub mod Reads
 pub mod Shown
 pub mod Shows
-pub mod Sight
+pub mod Showing
 pub mod Source
 pub mod Takes
 pub mod Visitors

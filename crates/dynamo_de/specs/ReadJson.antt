@@ -15,8 +15,8 @@ use Rattle.dynamo_de.specs.Answer.{Answer}
 use Rattle.dynamo_value.specs.Steps.{◌>>=◌}
 use Rattle.dynamo_de.specs.Number.{parse, is_float_text}
 use Rattle.dynamo_de.specs.Shown.{Shown}
-use Rattle.dynamo_de.specs.Sight as sight
-use Rattle.dynamo_de.specs.Sight.{Sight}
+use Rattle.dynamo_de.specs.Showing as showing
+use Rattle.dynamo_de.specs.Showing.{Showing}
 use Rattle.dynamo_de.specs.Source.{Source, attribute, key_text, number_text, plain_text, byte_string, Entry}
 
 abbrev pub number : ℤ → Data
@@ -99,20 +99,20 @@ narrow i128 z = answer.refused
 narrow u128 z = answer.refused
 narrow kind z = answer.value (number z)
 
--- What a scalar that is shown is read as. Any other sight is refused.
-abbrev pub read_scalar : Sight → Answer Data
-read_scalar (sight.boolean b) = answer.value (json.boolean b)
-read_scalar (sight.integer kind z) = narrow kind z
-read_scalar (sight.char c) = answer.value (json.string (encode_utf8 c))
-read_scalar (sight.text t) = answer.value (json.string t)
-read_scalar sight.none = answer.value json.null
-read_scalar sight.unit = answer.value json.null
+-- What a scalar that is shown is read as. Any other showing is refused.
+abbrev pub read_scalar : Showing → Answer Data
+read_scalar (showing.boolean b) = answer.value (json.boolean b)
+read_scalar (showing.integer kind z) = narrow kind z
+read_scalar (showing.char c) = answer.value (json.string (encode_utf8 c))
+read_scalar (showing.text t) = answer.value (json.string t)
+read_scalar showing.none = answer.value json.null
+read_scalar showing.unit = answer.value json.null
 read_scalar _ = answer.refused
 
 -- What is read of what is shown: what lies inside, level by level, and else the scalar.
 abbrev pub read_shown : Shown → Answer Data
 read_shown (Err f) = answer.fault f
-read_shown (Ok (sight.some s)) = read_json s
-read_shown (Ok (sight.sequence ss)) = read_sources ss >>= λ js. answer.value (json.array js)
-read_shown (Ok (sight.entries es)) = read_entries json.no_members es >>= λ ms. answer.value (json.object ms)
+read_shown (Ok (showing.some s)) = read_json s
+read_shown (Ok (showing.sequence ss)) = read_sources ss >>= λ js. answer.value (json.array js)
+read_shown (Ok (showing.entries es)) = read_entries json.no_members es >>= λ ms. answer.value (json.object ms)
 read_shown (Ok scalar) = read_scalar scalar

@@ -7,8 +7,8 @@ use Rattle.dynamo_de.specs.Answer as answer
 use Rattle.dynamo_de.specs.Answer.{Answer, value_or}
 use Rattle.dynamo_de.specs.Number.{parse}
 use Rattle.dynamo_de.specs.Shown.{Shown, shown}
-use Rattle.dynamo_de.specs.Sight as sight
-use Rattle.dynamo_de.specs.Sight.{Sight}
+use Rattle.dynamo_de.specs.Showing as showing
+use Rattle.dynamo_de.specs.Showing.{Showing}
 use Rattle.dynamo_de.specs.Source.{Source, attribute, key_text, number_text, plain_text, byte_string, Entry}
 use Rattle.dynamo_de.specs.Takes.{Way, char_ways, ways}
 use Rattle.dynamo_de.specs.Visitors.{Parts, claims_bool, take_bool, claims_char, take_char, claims_texts, take_string, take_bytes, claims_unit, take_unit, claims_option, take_content, claims_seq, take_elements, claims_map, take_entries, claims_str, take_identifier, claims_newtype, take_newtype, claims_struct, take_parts, claims_enum, take_variant}
@@ -17,7 +17,7 @@ use Rattle.dynamo_de.specs.declared.request.Request.{Request}
 use Rattle.dynamo_de.specs.declared.request.Request.TheVariants as request
 
 -- what is taken of the first that is claimed, else a refusal by a message
-abbrev pub first_claimed : {A : Type 0} → (Kind → Bool) → (Sight → Answer A) → List Way → Answer A
+abbrev pub first_claimed : {A : Type 0} → (Kind → Bool) → (Showing → Answer A) → List Way → Answer A
 first_claimed claims take [] = answer.refused
 first_claimed claims take (w ∷ ws) = if claims w.0 then take w.1 else first_claimed claims take ws
 
@@ -26,16 +26,16 @@ abbrev pub not_alone : {A : Type 0} → Answer A → Answer A
 not_alone (Ok x) = answer.fault expected_char
 not_alone (Err r) = Err r
 
-abbrev pub taken_of : {A : Type 0} → (Kind → Bool) → (Sight → Answer A) → Sight → Answer A
-taken_of claims take (sight.first_char c) = not_alone (first_claimed claims take (char_ways c))
+abbrev pub taken_of : {A : Type 0} → (Kind → Bool) → (Showing → Answer A) → Showing → Answer A
+taken_of claims take (showing.first_char c) = not_alone (first_claimed claims take (char_ways c))
 taken_of claims take s = first_claimed claims take (ways s)
 
 -- what is given by who claims and takes so, or the fault that comes in its place
-abbrev pub taken : {A : Type 0} → (Kind → Bool) → (Sight → Answer A) → Shown → Answer A
+abbrev pub taken : {A : Type 0} → (Kind → Bool) → (Showing → Answer A) → Shown → Answer A
 taken claims take (Ok s) = taken_of claims take s
 taken claims take (Err f) = answer.fault f
 
-abbrev pub taken_from : {A : Type 0} → (Kind → Bool) → (Sight → Answer A) → Request → Source → Answer A
+abbrev pub taken_from : {A : Type 0} → (Kind → Bool) → (Showing → Answer A) → Request → Source → Answer A
 taken_from claims take r s = taken claims take (shown r s)
 
 -- ---- scalars

@@ -98,7 +98,8 @@ impl<D, L, M, C> Showing<D, L, M, C> {
         L: Drop,
         M: Drop,
         C: Drop,
-        ensures { (source : D → Source) (elements : L → List Source) (entries : M → List Entry) (variants : C → Result (List ℕ × Option Source) Fault) → IsSurface result (seen source elements entries variants self) }
+        ensures { (source : D → Source) (elements : L → List Source) (entries : M → List Entry) (variants : C → Result (List ℕ × Option Source) Fault)
+            → IsSurface result (seen source elements entries variants self) }
     {
         match self {
             Showing::Bool(v) => Showing::Bool(v),

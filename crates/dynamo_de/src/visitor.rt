@@ -1,8 +1,8 @@
 ghost use Rattle.std.specs.Prelude.{◌≡◌, pos, string_bytes, Bool, Result, None};
 ghost use Rattle.dynamo_value.specs.Fault.{Fault};
 ghost use Rattle.dynamo_value.specs.Integer as integers;
-ghost use Rattle.dynamo_de.specs.Sight as sight;
-ghost use Rattle.dynamo_de.specs.Sight.{Sight};
+ghost use Rattle.dynamo_de.specs.Showing as showing;
+ghost use Rattle.dynamo_de.specs.Showing.{Showing};
 ghost use Rattle.dynamo_de.specs.Takes.{Visits};
 ghost use Rattle.dynamo_de.specs.declared.kind.Kind.{Kind};
 
@@ -26,7 +26,7 @@ pub trait Visitor: Sized + Drop {
     // The kinds with a method of their own, and the results that these permit.
     ghost claimed: { Self → Kind → Bool };
 
-    ghost takes: { Self → Sight → Result Self.Value Fault → Type 0 };
+    ghost takes: { Self → Showing → Result Self.Value Fault → Type 0 };
 
     /// Returns what the visitor expects, as an error's message has it after `expected `.
     fn expecting(&self) -> &'static str;
@@ -44,7 +44,7 @@ pub trait Visitor: Sized + Drop {
     ///
     /// Returns an error if the visitor refuses the data, or if memory runs out.
     fn visit_bool<E: Error>(self, v: bool) -> Result<Self::Value, E>
-        ensures { Visits E.fault (claimed self) (takes self) (sight.boolean v) result }
+        ensures { Visits E.fault (claimed self) (takes self) (showing.boolean v) result }
     {
         refuse(
             self.alloc(),
@@ -60,7 +60,7 @@ pub trait Visitor: Sized + Drop {
     ///
     /// Returns an error if the visitor refuses the data, or if memory runs out.
     fn visit_i8<E: Error>(self, v: i8) -> Result<Self::Value, E>
-        ensures { Visits E.fault (claimed self) (takes self) (sight.integer integers.i8 v) result }
+        ensures { Visits E.fault (claimed self) (takes self) (showing.integer integers.i8 v) result }
     {
         if self.claims(Kind::Integer(IntegerKind::I8)) {
             return Err(E::out_of_memory());
@@ -74,7 +74,7 @@ pub trait Visitor: Sized + Drop {
     ///
     /// Returns an error if the visitor refuses the data, or if memory runs out.
     fn visit_i16<E: Error>(self, v: i16) -> Result<Self::Value, E>
-        ensures { Visits E.fault (claimed self) (takes self) (sight.integer integers.i16 v) result }
+        ensures { Visits E.fault (claimed self) (takes self) (showing.integer integers.i16 v) result }
     {
         if self.claims(Kind::Integer(IntegerKind::I16)) {
             return Err(E::out_of_memory());
@@ -88,7 +88,7 @@ pub trait Visitor: Sized + Drop {
     ///
     /// Returns an error if the visitor refuses the data, or if memory runs out.
     fn visit_i32<E: Error>(self, v: i32) -> Result<Self::Value, E>
-        ensures { Visits E.fault (claimed self) (takes self) (sight.integer integers.i32 v) result }
+        ensures { Visits E.fault (claimed self) (takes self) (showing.integer integers.i32 v) result }
     {
         if self.claims(Kind::Integer(IntegerKind::I32)) {
             return Err(E::out_of_memory());
@@ -102,7 +102,7 @@ pub trait Visitor: Sized + Drop {
     ///
     /// Returns an error if the visitor refuses the data, or if memory runs out.
     fn visit_i64<E: Error>(self, v: i64) -> Result<Self::Value, E>
-        ensures { Visits E.fault (claimed self) (takes self) (sight.integer integers.i64 v) result }
+        ensures { Visits E.fault (claimed self) (takes self) (showing.integer integers.i64 v) result }
     {
         refuse(
             self.alloc(),
@@ -118,7 +118,7 @@ pub trait Visitor: Sized + Drop {
     ///
     /// Returns an error if the visitor refuses the data, or if memory runs out.
     fn visit_i128<E: Error>(self, v: i128) -> Result<Self::Value, E>
-        ensures { Visits E.fault (claimed self) (takes self) (sight.integer integers.i128 v) result }
+        ensures { Visits E.fault (claimed self) (takes self) (showing.integer integers.i128 v) result }
     {
         refuse(
             self.alloc(),
@@ -134,7 +134,7 @@ pub trait Visitor: Sized + Drop {
     ///
     /// Returns an error if the visitor refuses the data, or if memory runs out.
     fn visit_u8<E: Error>(self, v: u8) -> Result<Self::Value, E>
-        ensures { Visits E.fault (claimed self) (takes self) (sight.integer integers.u8 (pos v)) result }
+        ensures { Visits E.fault (claimed self) (takes self) (showing.integer integers.u8 (pos v)) result }
     {
         if self.claims(Kind::Integer(IntegerKind::U8)) {
             return Err(E::out_of_memory());
@@ -148,7 +148,7 @@ pub trait Visitor: Sized + Drop {
     ///
     /// Returns an error if the visitor refuses the data, or if memory runs out.
     fn visit_u16<E: Error>(self, v: u16) -> Result<Self::Value, E>
-        ensures { Visits E.fault (claimed self) (takes self) (sight.integer integers.u16 (pos v)) result }
+        ensures { Visits E.fault (claimed self) (takes self) (showing.integer integers.u16 (pos v)) result }
     {
         if self.claims(Kind::Integer(IntegerKind::U16)) {
             return Err(E::out_of_memory());
@@ -162,7 +162,7 @@ pub trait Visitor: Sized + Drop {
     ///
     /// Returns an error if the visitor refuses the data, or if memory runs out.
     fn visit_u32<E: Error>(self, v: u32) -> Result<Self::Value, E>
-        ensures { Visits E.fault (claimed self) (takes self) (sight.integer integers.u32 (pos v)) result }
+        ensures { Visits E.fault (claimed self) (takes self) (showing.integer integers.u32 (pos v)) result }
     {
         if self.claims(Kind::Integer(IntegerKind::U32)) {
             return Err(E::out_of_memory());
@@ -176,7 +176,7 @@ pub trait Visitor: Sized + Drop {
     ///
     /// Returns an error if the visitor refuses the data, or if memory runs out.
     fn visit_u64<E: Error>(self, v: u64) -> Result<Self::Value, E>
-        ensures { Visits E.fault (claimed self) (takes self) (sight.integer integers.u64 (pos v)) result }
+        ensures { Visits E.fault (claimed self) (takes self) (showing.integer integers.u64 (pos v)) result }
     {
         refuse(
             self.alloc(),
@@ -192,7 +192,7 @@ pub trait Visitor: Sized + Drop {
     ///
     /// Returns an error if the visitor refuses the data, or if memory runs out.
     fn visit_u128<E: Error>(self, v: u128) -> Result<Self::Value, E>
-        ensures { Visits E.fault (claimed self) (takes self) (sight.integer integers.u128 (pos v)) result }
+        ensures { Visits E.fault (claimed self) (takes self) (showing.integer integers.u128 (pos v)) result }
     {
         refuse(
             self.alloc(),
@@ -208,7 +208,7 @@ pub trait Visitor: Sized + Drop {
     ///
     /// Returns an error if the visitor refuses the data, or if memory runs out.
     fn visit_number_text<E: Error>(self, v: &str) -> Result<Self::Value, E>
-        ensures { Visits E.fault (claimed self) (takes self) (sight.number_text v.now) result }
+        ensures { Visits E.fault (claimed self) (takes self) (showing.number_text v.now) result }
     {
         refuse(
             self.alloc(),
@@ -224,7 +224,7 @@ pub trait Visitor: Sized + Drop {
     ///
     /// Returns an error if the visitor refuses the data, or if memory runs out.
     fn visit_char<E: Error>(self, v: char) -> Result<Self::Value, E>
-        ensures { Visits E.fault (claimed self) (takes self) (sight.char v) result }
+        ensures { Visits E.fault (claimed self) (takes self) (showing.char v) result }
     {
         if self.claims(Kind::Char) {
             return Err(E::out_of_memory());
@@ -239,7 +239,7 @@ pub trait Visitor: Sized + Drop {
     ///
     /// Returns an error if the visitor refuses the data, or if memory runs out.
     fn visit_str<E: Error>(self, v: &str) -> Result<Self::Value, E>
-        ensures { Visits E.fault (claimed self) (takes self) (sight.text v.now) result }
+        ensures { Visits E.fault (claimed self) (takes self) (showing.text v.now) result }
     {
         refuse(
             self.alloc(),
@@ -255,7 +255,7 @@ pub trait Visitor: Sized + Drop {
     ///
     /// Returns an error if the visitor refuses the data, or if memory runs out.
     fn visit_string<E: Error>(self, v: String) -> Result<Self::Value, E>
-        ensures { Visits E.fault (claimed self) (takes self) (sight.text (string_bytes v)) result }
+        ensures { Visits E.fault (claimed self) (takes self) (showing.text (string_bytes v)) result }
     {
         self.visit_str(v.as_str())
     }
@@ -266,7 +266,7 @@ pub trait Visitor: Sized + Drop {
     ///
     /// Returns an error if the visitor refuses the data, or if memory runs out.
     fn visit_bytes<E: Error>(self, v: &[u8]) -> Result<Self::Value, E>
-        ensures { Visits E.fault (claimed self) (takes self) (sight.bytes v.now) result }
+        ensures { Visits E.fault (claimed self) (takes self) (showing.bytes v.now) result }
     {
         refuse(
             self.alloc(),
@@ -282,7 +282,7 @@ pub trait Visitor: Sized + Drop {
     ///
     /// Returns an error if the visitor refuses the data, or if memory runs out.
     fn visit_byte_buf<E: Error>(self, v: Vec<u8>) -> Result<Self::Value, E>
-        ensures { Visits E.fault (claimed self) (takes self) (sight.bytes v.items) result }
+        ensures { Visits E.fault (claimed self) (takes self) (showing.bytes v.items) result }
     {
         self.visit_bytes(v.as_slice())
     }
@@ -293,7 +293,7 @@ pub trait Visitor: Sized + Drop {
     ///
     /// Returns an error if the visitor refuses the data, or if memory runs out.
     fn visit_none<E: Error>(self) -> Result<Self::Value, E>
-        ensures { Visits E.fault (claimed self) (takes self) (sight.none) result }
+        ensures { Visits E.fault (claimed self) (takes self) (showing.none) result }
     {
         refuse(
             self.alloc(),
@@ -310,7 +310,7 @@ pub trait Visitor: Sized + Drop {
     /// Returns an error if the visitor refuses the data, if reading the content fails, or if memory
     /// runs out.
     fn visit_some<D: Deserializer>(self, deserializer: D) -> Result<Self::Value, D::Error>
-        ensures { Visits D.Error.fault (claimed self) (takes self) (sight.some (D.source deserializer)) result }
+        ensures { Visits D.Error.fault (claimed self) (takes self) (showing.some (D.source deserializer)) result }
     {
         refuse(
             self.alloc(),
@@ -326,7 +326,7 @@ pub trait Visitor: Sized + Drop {
     ///
     /// Returns an error if the visitor refuses the data, or if memory runs out.
     fn visit_unit<E: Error>(self) -> Result<Self::Value, E>
-        ensures { Visits E.fault (claimed self) (takes self) (sight.unit) result }
+        ensures { Visits E.fault (claimed self) (takes self) (showing.unit) result }
     {
         refuse(
             self.alloc(),
@@ -343,7 +343,7 @@ pub trait Visitor: Sized + Drop {
     /// Returns an error if the visitor refuses the data, if reading the content fails, or if memory
     /// runs out.
     fn visit_newtype_struct<D: Deserializer>(self, deserializer: D) -> Result<Self::Value, D::Error>
-        ensures { Visits D.Error.fault (claimed self) (takes self) (sight.newtype (D.source deserializer)) result }
+        ensures { Visits D.Error.fault (claimed self) (takes self) (showing.newtype (D.source deserializer)) result }
     {
         refuse(
             self.alloc(),
@@ -360,7 +360,7 @@ pub trait Visitor: Sized + Drop {
     /// Returns an error if the visitor refuses the data, if reading an element fails, or if memory
     /// runs out.
     fn visit_seq<A: SeqAccess>(self, seq: A) -> Result<Self::Value, A::Error>
-        ensures { Visits A.Error.fault (claimed self) (takes self) (sight.sequence (A.left seq)) result }
+        ensures { Visits A.Error.fault (claimed self) (takes self) (showing.sequence (A.left seq)) result }
     {
         refuse(
             self.alloc(),
@@ -377,7 +377,7 @@ pub trait Visitor: Sized + Drop {
     /// Returns an error if the visitor refuses the data, if reading an entry fails, or if memory
     /// runs out.
     fn visit_map<A: MapAccess>(self, map: A) -> Result<Self::Value, A::Error>
-        ensures { (A.left map).pending ≡ None → Visits A.Error.fault (claimed self) (takes self) (sight.entries (A.left map).entries) result }
+        ensures { (A.left map).pending ≡ None → Visits A.Error.fault (claimed self) (takes self) (showing.entries (A.left map).entries) result }
     {
         refuse(
             self.alloc(),
@@ -394,7 +394,7 @@ pub trait Visitor: Sized + Drop {
     /// Returns an error if the visitor refuses the data, if reading the variant fails, or if memory
     /// runs out.
     fn visit_enum<A: EnumAccess>(self, variant: A) -> Result<Self::Value, A::Error>
-        ensures { Visits A.Error.fault (claimed self) (takes self) (sight.variant (A.chosen variant)) result }
+        ensures { Visits A.Error.fault (claimed self) (takes self) (showing.variant (A.chosen variant)) result }
     {
         refuse(
             self.alloc(),

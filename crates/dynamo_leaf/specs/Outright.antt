@@ -4,10 +4,10 @@ use Rattle.dynamo_value.specs.Fault.{Fault}
 use Rattle.dynamo_de.specs.Shown.{Shown}
 use Rattle.dynamo_de.specs.Shows.{seen, content_of}
 use Rattle.dynamo_de.specs.Source.{Source, plain_text}
-use Rattle.dynamo_de.specs.declared.showing.Showing.{Showing}
+use Rattle.dynamo_de.specs.declared.showing.Showing.{Showing as ShowingOf}
 
 -- It shows exactly this, or refuses by exactly this fault. It has no elements and no entries.
-abbrev pub ShowsOutright : {D L M C E : Type 0} → (E → Fault) → (D → Source) → (C → Result (List ℕ × Option Source) Fault) → Shown → Result (Showing D L M C) E → Type 0
+abbrev pub ShowsOutright : {D L M C E : Type 0} → (E → Fault) → (D → Source) → (C → Result (List ℕ × Option Source) Fault) → Shown → Result (ShowingOf D L M C) E → Type 0
 ShowsOutright fault source chosen shown (Ok s) = shown ≡ Ok (seen source (λ _. []) (λ _. []) chosen s)
 ShowsOutright fault source chosen shown (Err e) = shown ≡ Err (fault e)
 

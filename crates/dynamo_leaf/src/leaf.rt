@@ -1,11 +1,11 @@
 ghost use Rattle.std.specs.Prelude.{◌≡◌, ℕ, List, Ok, option_map, string_bytes};
 ghost use Rattle.std.specs.Result.{result_ok};
 ghost use Rattle.dynamo_value.specs.Kind.{fault_of};
-ghost use Rattle.dynamo_de.specs.Integers.{integer_sight, kind_of};
+ghost use Rattle.dynamo_de.specs.Integers.{integer_showing, kind_of};
 ghost use Rattle.dynamo_de.specs.Number.{parse};
 ghost use Rattle.dynamo_de.specs.Shown.{bool_key_shown, key_shown, number_shown, number_text_shown, plain_text_shown};
-ghost use Rattle.dynamo_de.specs.Sight as sight;
-ghost use Rattle.dynamo_leaf.specs.Leaf.{ShowsLeaf, leaf_sight, no_number_fault};
+ghost use Rattle.dynamo_de.specs.Showing as showing;
+ghost use Rattle.dynamo_leaf.specs.Leaf.{ShowsLeaf, leaf_showing, no_number_fault};
 
 use crate::number_text::{
     is_float_text, parse_i8, parse_i16, parse_i32, parse_i64, parse_i128, parse_u8, parse_u16,
@@ -56,7 +56,7 @@ impl NoNumber {
 
 // The integer of a string, or why the string isn't one of this type.
 fn read_integer(kind: IntegerKind, text: &str) -> Result<Integer, ParseIntError>
-    ensures { option_map integer_sight (result_ok result) ≡ option_map (sight.integer (kind_of kind)) (parse (kind_of kind) text.now) }
+    ensures { option_map integer_showing (result_ok result) ≡ option_map (showing.integer (kind_of kind)) (parse (kind_of kind) text.now) }
 {
     match kind {
         IntegerKind::I8 => parse_i8(text).map(Integer::I8),
@@ -167,7 +167,7 @@ pub fn show_key(request: Request, text: &str) -> Result<Leaf>
 /// variant of this name, for any other request the string.
 #[inline(always)]
 pub fn show_plain_text(request: Request) -> Leaf
-    ensures { (text : List ℕ) → plain_text_shown request text ≡ Ok (leaf_sight text result) }
+    ensures { (text : List ℕ) → plain_text_shown request text ≡ Ok (leaf_showing text result) }
 {
     match request {
         Request::Enum => Leaf::Name,

@@ -2,7 +2,7 @@ ghost use Rattle.std.specs.Prelude.{◌≡◌, ℕ, List, Option, None, Result, 
 ghost use Rattle.dynamo_value.specs.Fault.{Fault};
 ghost use Rattle.dynamo_de.specs.Shows.{seen};
 ghost use Rattle.dynamo_de.specs.Source.{Source, Entry, key_text};
-ghost use Rattle.dynamo_leaf.specs.Leaf.{leaf_sight};
+ghost use Rattle.dynamo_leaf.specs.Leaf.{leaf_showing};
 
 use crate::Leaf;
 use dynamo_de::Showing;
@@ -38,7 +38,7 @@ pub fn raise<R: LeafReader, L, M>(
     text: String,
 ) -> Showing<R, L, M, R::Choice>
     ensures { (elements : L → List Source) (entries : M → List Entry)
-        → seen R.leaf_source elements entries R.leaf_chosen result ≡ leaf_sight (string_bytes text) leaf }
+        → seen R.leaf_source elements entries R.leaf_chosen result ≡ leaf_showing (string_bytes text) leaf }
 {
     match leaf {
         Leaf::Bool(v) => Showing::Bool(v),

@@ -10,7 +10,7 @@ use Rattle.dynamo_value.proofs.Members.{Entry, view_sorted, found-view}
 use Rattle.dynamo_value.specs.Av.{Av, members_of}
 use Rattle.dynamo_value.specs.Fault.{expected_single_key}
 use Rattle.dynamo_value.specs.View.{text_cmp, entries_view, members_view, view}
-use Rattle.dynamo_de.specs.Sight.{only_entry}
+use Rattle.dynamo_de.specs.Showing.{only_entry}
 
 -- a key that differs from all others isn't found among them
 absent : (q : String Global) (es : List Entry) → AllByRecursion (λ k. string_eq q k ≡ false) (keys_of es) → lookup (string_eq q) es ≡ None

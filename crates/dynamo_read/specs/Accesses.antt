@@ -5,7 +5,7 @@ use Rattle.dynamo_value.specs.Fault.{Fault}
 use Rattle.dynamo_value.specs.View.{elements_view, members_view}
 use Rattle.dynamo_de.specs.Access.{MapLeft}
 use Rattle.dynamo_de.specs.Shows.{content_of}
-use Rattle.dynamo_de.specs.Sight.{only_entry}
+use Rattle.dynamo_de.specs.Showing.{only_entry}
 use Rattle.dynamo_de.specs.Source.{Source, values_of}
 use Rattle.dynamo_read.specs.Reader.{source_of}
 use Rattle.dynamo_read.specs.Unread.{entries_left}

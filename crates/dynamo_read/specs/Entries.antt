@@ -6,7 +6,7 @@ use Rattle.dynamo_value.specs.Kind.{fault_of}
 use Rattle.dynamo_value.specs.View.{view}
 use Rattle.dynamo_value.specs.declared.attribute_value.AttributeValue.{AttributeValue}
 use Rattle.dynamo_value.specs.declared.error.ErrorImpl.{ErrorImpl}
-use Rattle.dynamo_de.specs.Sight.{only_entry}
+use Rattle.dynamo_de.specs.Showing.{only_entry}
 use Rattle.dynamo_de.specs.Source.{Entry, attribute}
 
 abbrev pub seen_entry : String Global × AttributeValue → Entry

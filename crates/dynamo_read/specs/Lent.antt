@@ -13,10 +13,10 @@ use Rattle.dynamo_value.specs.declared.attribute_value.AttributeValue.{Attribute
 use Rattle.dynamo_value.specs.declared.error.ErrorImpl.{ErrorImpl}
 use Rattle.dynamo_de.specs.Shown.{Shown}
 use Rattle.dynamo_de.specs.Shows.{Shows}
-use Rattle.dynamo_de.specs.Sight.{only_entry}
+use Rattle.dynamo_de.specs.Showing.{only_entry}
 use Rattle.dynamo_de.specs.Source as of
 use Rattle.dynamo_de.specs.Source.{Entry, attribute, values_of, each, plain_text, number_text, byte_string}
-use Rattle.dynamo_de.specs.declared.showing.Showing.{Showing}
+use Rattle.dynamo_de.specs.declared.showing.Showing.{Showing as ShowingOf}
 use Rattle.dynamo_read.specs.Entries.{seen_entries}
 use Rattle.dynamo_read.specs.Reader.{IsCounted}
 use Rattle.dynamo_read.specs.declared.lent_deserializer.LentDeserializer.{LentDeserializer}
@@ -80,7 +80,7 @@ abbrev pub lent_chosen : LentChoice → Result (List ℕ × Option of.Source) Fa
 lent_chosen c = form_lent c.form
 
 -- it shows exactly this, or refuses by exactly this fault, unless memory runs out
-abbrev pub IsLentShown : Shown → Result (Showing LentDeserializer LentElements LentEntries LentChoice) ErrorImpl → Type 0
+abbrev pub IsLentShown : Shown → Result (ShowingOf LentDeserializer LentElements LentEntries LentChoice) ErrorImpl → Type 0
 IsLentShown shown r = Shows fault_of lent_source lent_elements lent_entries lent_chosen shown r
 
 -- the elements of a list are counted, those of a set are not

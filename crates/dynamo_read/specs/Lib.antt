@@ -7,7 +7,7 @@ pub use Rattle.dynamo_de.specs.Access
 pub use Rattle.dynamo_de.specs.Meets
 pub use Rattle.dynamo_de.specs.Reads
 pub use Rattle.dynamo_de.specs.Shown
-pub use Rattle.dynamo_de.specs.Sight
+pub use Rattle.dynamo_de.specs.Showing
 pub use Rattle.dynamo_de.specs.Source
 pub mod Accesses
 pub mod Entries

@@ -4,7 +4,7 @@ use Rattle.std.specs.Prelude.{◌≡◌, ◌⊎◌, Result, Ok, Err}
 use Rattle.dynamo_value.specs.Kind.{fault_of}
 use Rattle.dynamo_value.specs.declared.error.ErrorImpl.{ErrorImpl}
 use Rattle.dynamo_de.specs.Shown.{Shown}
-use Rattle.dynamo_de.specs.Sight as sight
+use Rattle.dynamo_de.specs.Showing as showing
 
 -- An error is the very fault, and never out of memory in its place.
 abbrev pub RefusesOutright : {V : Type 0} → Shown → Result V ErrorImpl → Type 0
@@ -12,7 +12,7 @@ RefusesOutright shown (Ok v) = Unit {0}
 RefusesOutright shown (Err e) = shown ≡ Err (fault_of e)
 
 abbrev pub ShowsEntries : Shown → Type 0
-ShowsEntries (Ok (sight.entries es)) = Unit {0}
+ShowsEntries (Ok (showing.entries es)) = Unit {0}
 ShowsEntries _ = ⊥
 
 -- the same, unless entries are shown

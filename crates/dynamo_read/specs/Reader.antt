@@ -9,8 +9,8 @@ use Rattle.dynamo_de.specs.Shows.{Shows}
 use Rattle.dynamo_de.specs.Source as of
 use Rattle.dynamo_de.specs.declared.request.Request.{Request}
 use Rattle.dynamo_de.specs.declared.request.Request.TheVariants as request
-use Rattle.dynamo_de.specs.declared.showing.Showing.{Showing}
-use Rattle.dynamo_de.specs.declared.showing.Showing.TheVariants as showing
+use Rattle.dynamo_de.specs.declared.showing.Showing.{Showing as ShowingOf}
+use Rattle.dynamo_de.specs.declared.showing.Showing.TheVariants as showing_of
 use Rattle.dynamo_read.specs.Unread.{elements_left, elements_counted, entries_left, chosen_of}
 use Rattle.dynamo_read.specs.declared.deserializer.Deserializer.{Deserializer}
 use Rattle.dynamo_read.specs.declared.deserializer.Source.{Source}
@@ -31,7 +31,7 @@ abbrev pub source_of : Deserializer → of.Source
 source_of d = seen_source d.source
 
 -- it shows exactly this, or refuses by exactly this fault, unless memory runs out
-abbrev pub IsShown : Shown → Result (Showing Deserializer Elements Entries Choice) ErrorImpl → Type 0
+abbrev pub IsShown : Shown → Result (ShowingOf Deserializer Elements Entries Choice) ErrorImpl → Type 0
 IsShown shown r = Shows fault_of source_of elements_left entries_left chosen_of shown r
 
 -- the requests at which elements are shown
@@ -56,6 +56,6 @@ abbrev pub Counted : of.Source → Elements → Type 0
 Counted s e = IsCounted s (elements_counted e)
 
 -- where elements are shown, P holds of them
-abbrev pub IfElements : {D L M C E : Type 0} → (L → Type 0) → Result (Showing D L M C) E → Type 0
-IfElements P (Ok (showing.Sequence e)) = P e
+abbrev pub IfElements : {D L M C E : Type 0} → (L → Type 0) → Result (ShowingOf D L M C) E → Type 0
+IfElements P (Ok (showing_of.Sequence e)) = P e
 IfElements P _ = Unit {0}

@@ -1,6 +1,6 @@
 ghost use Rattle.std.specs.Prelude.{◌≡◌, Some};
 ghost use Rattle.dynamo_value.specs.View.{view, members_view};
-ghost use Rattle.dynamo_de.specs.Sight.{only_entry};
+ghost use Rattle.dynamo_de.specs.Showing.{only_entry};
 ghost use Rattle.dynamo_de.specs.Source.{attribute};
 ghost use Rattle.dynamo_read.specs.Accesses.{enum_chosen, variant_content};
 

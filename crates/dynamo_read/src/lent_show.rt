@@ -6,9 +6,9 @@ ghost use Rattle.dynamo_de.specs.Inside.{ShowsInside};
 ghost use Rattle.dynamo_de.specs.Integers.{kind_of};
 ghost use Rattle.dynamo_de.specs.Shown.{any_shown, attribute_shown, bytes_shown, enum_shown, key_shown, map_shown, num_shown};
 ghost use Rattle.dynamo_de.specs.Shown.{number_shown, number_text_shown, option_shown, plain_text_shown, seq_shown, struct_shown, text_shown};
-ghost use Rattle.dynamo_de.specs.Sight as sight;
+ghost use Rattle.dynamo_de.specs.Showing as showing;
 ghost use Rattle.dynamo_de.specs.Source.{attribute};
-ghost use Rattle.dynamo_leaf.specs.Leaf.{leaf_sight};
+ghost use Rattle.dynamo_leaf.specs.Leaf.{leaf_showing};
 ghost use Rattle.dynamo_read.specs.Lent.{IsLentShown, LentCounted, lent_elements, lent_entries};
 ghost use Rattle.dynamo_read.specs.Reader.{asks_elements, IfElements};
 
@@ -231,7 +231,7 @@ fn enumeration<'a>(alloc: Global, value: &'a AttributeValue) -> Result<LentShown
 
 // What a borrowed byte string shows: a copy of its bytes.
 pub(crate) fn byte_string<'a>(alloc: Global, bytes: &'a Vec<u8>) -> Result<LentShown<'a>>
-    ensures { IsLentShown (Ok (sight.bytes bytes.now.items)) result }
+    ensures { IsLentShown (Ok (showing.bytes bytes.now.items)) result }
 {
     Ok(Showing::Bytes(Vec::from_slice(alloc, bytes.as_slice())?))
 }
@@ -278,7 +278,7 @@ pub(crate) fn plain_text<'a>(
 // What a borrowed string shows by its leaf, with readers around its contents. It is copied where it
 // is shown itself.
 fn of_leaf<'a>(alloc: Global, leaf: Leaf, text: &'a String) -> Result<LentShown<'a>>
-    ensures { IsLentShown (Ok (leaf_sight (string_bytes text.now) leaf)) result }
+    ensures { IsLentShown (Ok (leaf_showing (string_bytes text.now) leaf)) result }
 {
     match leaf {
         Leaf::Bool(v) => Ok(Showing::Bool(v)),

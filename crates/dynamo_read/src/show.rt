@@ -7,7 +7,7 @@ ghost use Rattle.dynamo_de.specs.Integers.{kind_of};
 ghost use Rattle.dynamo_de.specs.Shown.{any_shown, num_shown, bool_shown, char_shown, chars_shown, text_shown, bytes_shown, option_shown, null_shown, seq_shown, map_shown, struct_shown, enum_shown, attribute_shown, number_text_shown, key_shown, plain_text_shown};
 ghost use Rattle.dynamo_de.specs.Shows.{Shows, seen};
 ghost use Rattle.dynamo_de.specs.Source.{Source, Entry, attribute};
-ghost use Rattle.dynamo_leaf.specs.Leaf.{leaf_sight};
+ghost use Rattle.dynamo_leaf.specs.Leaf.{leaf_showing};
 ghost use Rattle.dynamo_read.specs.Outright.{RefusesOutright, OutrightButEntries};
 ghost use Rattle.dynamo_read.specs.Reader.{source_of, IsShown, asks_elements, Counted, IfElements};
 ghost use Rattle.dynamo_read.specs.Unread.{elements_left, entries_left, chosen_of};
@@ -275,7 +275,7 @@ pub(crate) fn plain_text(alloc: Global, request: Request, text: String) -> Resul
 // What a single string shows, with readers around its contents.
 #[inline(always)]
 fn of_leaf(alloc: Global, leaf: Leaf, text: String) -> Shown
-    ensures { seen source_of elements_left entries_left chosen_of result ≡ leaf_sight (string_bytes text) leaf }
+    ensures { seen source_of elements_left entries_left chosen_of result ≡ leaf_showing (string_bytes text) leaf }
 {
     raise::<Deserializer, Elements, Entries>(alloc, leaf, text)
 }

@@ -2,7 +2,7 @@ ghost use Rattle.std.specs.Prelude.{◌≡◌, true, false, map, string_bytes, I
 ghost use Rattle.dynamo_value.specs.Fault.{out_of_memory};
 ghost use Rattle.dynamo_value.specs.Kind.{fault_of};
 ghost use Rattle.dynamo_value.specs.View.{elements_view, members_view, entries_view};
-ghost use Rattle.dynamo_de.specs.Sight.{only_entry};
+ghost use Rattle.dynamo_de.specs.Showing.{only_entry};
 ghost use Rattle.dynamo_de.specs.Source.{entries_of, values_of, each, plain_text, number_text, byte_string};
 ghost use Rattle.dynamo_read.specs.Unread.{elements_left, elements_counted, entries_left, chosen_of};
 

@@ -13,7 +13,7 @@ use Rattle.dynamo_ser.specs.Datum as datum
 use Rattle.std.proofs.lemmas.Bool.Decides.{nat_tests}
 use Rattle.dynamo_shape.proofs.Found.{same_bytes}
 use Rattle.dynamo_de.specs.Number.{parse}
-use Rattle.dynamo_de.specs.Sight as sight
+use Rattle.dynamo_de.specs.Showing as showing
 use Rattle.dynamo_de.specs.Visitors.{one_char, claims_bool, take_bool}
 
 -- ---- equal keys
@@ -115,7 +115,7 @@ abbrev KeysOnly : Answer Datum → Type 0
 KeysOnly (Ok l) = IsKeyDatum l
 KeysOnly _ = ⊤
 
-bool_self : (b c : Bool) → KeysOnly (into datum.boolean (taken claims_bool take_bool (cond b (Ok (sight.boolean true)) (cond c (Ok (sight.boolean false)) (Err expected_string)))))
+bool_self : (b c : Bool) → KeysOnly (into datum.boolean (taken claims_bool take_bool (cond b (Ok (showing.boolean true)) (cond c (Ok (showing.boolean false)) (Err expected_string)))))
 bool_self true c = refl
 bool_self false true = refl
 bool_self false false = tt

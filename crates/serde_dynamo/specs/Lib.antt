@@ -32,7 +32,7 @@ pub use Rattle.dynamo_de.specs.Reading
 pub use Rattle.dynamo_de.specs.Reads
 pub use Rattle.dynamo_de.specs.Shown
 pub use Rattle.dynamo_de.specs.Shows
-pub use Rattle.dynamo_de.specs.Sight
+pub use Rattle.dynamo_de.specs.Showing
 pub use Rattle.dynamo_de.specs.Source
 pub use Rattle.dynamo_de.specs.Takes
 pub use Rattle.dynamo_de.specs.Visitors

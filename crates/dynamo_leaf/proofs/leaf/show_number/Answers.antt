@@ -1,12 +1,12 @@
 use Rattle.dynamo_value.specs.Fault.{failed_to_parse_int}
-use Rattle.dynamo_de.specs.Integers.{integer_sight, kind_of}
+use Rattle.dynamo_de.specs.Integers.{integer_showing, kind_of}
 use Rattle.dynamo_leaf.proofs.Integers.{integer_is, integer_no}
 use Rattle.dynamo_leaf.proofs.leaf.show_number.Goals as goal
 
 pub returns-in-Ok : goal.returns-in-Ok
 returns-in-Ok c =
     rw c.in-Integer.is
-    (integer_is (kind_of c.in-Integer.kind) c.args.text.now (failed_to_parse_int c.args.text.now) (integer_sight c.in-Ok.number)
+    (integer_is (kind_of c.in-Integer.kind) c.args.text.now (failed_to_parse_int c.args.text.now) (integer_showing c.in-Ok.number)
     (rw c.in-Ok.is at c.read_integer.ensures))
 
 pub returns-in-Err : goal.returns-in-Err

@@ -6,7 +6,7 @@ use Rattle.dynamo_de.specs.Answer.{Gives}
 use Rattle.dynamo_de.specs.ReadJson.{read_json, read_sources, read_entries}
 use Rattle.dynamo_de.specs.Reading.{read_string}
 use Rattle.dynamo_de.specs.Shows.{TakesEntry}
-use Rattle.dynamo_de.specs.declared.showing.Showing.TheVariants as showing
+use Rattle.dynamo_de.specs.declared.showing.Showing.TheVariants as showing_of
 use Rattle.dynamo_de.proofs.Json.{items_fall, members_fall, content_falls}
 use Rattle.dynamo_de.proofs.JsonSteps.{shown_given, array_given, object_given, items_step, items_lower, items_end, members_step, members_lower}
 use Rattle.dynamo_de.proofs.impls.json.+read.Goals as goal
@@ -27,11 +27,11 @@ read-read_members-requires g t c κs within =
     search rules
 
 pub read-returns-in_ok-read_elements-in-Sequence : goal.read-returns-in_ok-read_elements-in-Sequence
-read-returns-in_ok-read_elements-in-Sequence g t c = shown_given g.R.Reader.source g.R.Reader.elements g.R.Reader.entries g.R.Reader.chosen (g.R.Reader.source c.args.reader) c.in_ok-other.other (showing.Sequence c.in-Sequence.elements) _ (search rules) c.in-Sequence.is
+read-returns-in_ok-read_elements-in-Sequence g t c = shown_given g.R.Reader.source g.R.Reader.elements g.R.Reader.entries g.R.Reader.chosen (g.R.Reader.source c.args.reader) c.in_ok-other.other (showing_of.Sequence c.in-Sequence.elements) _ (search rules) c.in-Sequence.is
     (array_given _ c.in_ok-read_elements-in-Sequence.field-0 (search rules))
 
 pub read-returns-in_ok-read_members-in-Map : goal.read-returns-in_ok-read_members-in-Map
-read-returns-in_ok-read_members-in-Map g t c = shown_given g.R.Reader.source g.R.Reader.elements g.R.Reader.entries g.R.Reader.chosen (g.R.Reader.source c.args.reader) c.in_ok-other.other (showing.Map c.in-Map.entries) _ (search rules) c.in-Map.is
+read-returns-in_ok-read_members-in-Map g t c = shown_given g.R.Reader.source g.R.Reader.elements g.R.Reader.entries g.R.Reader.chosen (g.R.Reader.source c.args.reader) c.in_ok-other.other (showing_of.Map c.in-Map.entries) _ (search rules) c.in-Map.is
     (object_given _ c.in_ok-read_members-in-Map.field-0 (search rules))
 
 pub read_elements-loop-element-preserved : goal.read_elements-loop-element-preserved
