@@ -15,19 +15,17 @@
 #![tactic(auto)]
 
 mod access;
-pub mod binary_set;
 mod deserialize;
 mod deserializer;
 mod ignored_any;
 mod impls;
 mod integer;
 mod kind;
-pub mod number_set;
 mod reader;
 mod reader_access;
 mod request;
+pub mod set;
 mod showing;
-pub mod string_set;
 mod taken;
 mod visitor;
 

@@ -5,4 +5,5 @@ pub mod byte_buf;
 pub mod bytes;
 pub mod item;
 pub mod number_set;
+mod set;
 pub mod string_set;

@@ -1,7 +1,6 @@
 ghost use Rattle.std.specs.Prelude.{◌≡◌, option_map};
 ghost use Rattle.dynamo_value.specs.View.{view};
 ghost use Rattle.dynamo_write.specs.Answers.{AnswersWithin};
-ghost use Rattle.dynamo_ser.specs.Symbols as symbols;
 ghost use Rattle.dynamo_write.specs.Set as set;
 ghost use Rattle.dynamo_write.specs.Set.{as_set, set_kind};
 ghost use Rattle.dynamo_write.specs.SetKind.{kind_of};
@@ -51,11 +50,26 @@ impl SetKind {
     pub fn set_of(self, alloc: Global, value: AttributeValue) -> Result<AttributeValue>
         ensures { AnswersWithin (as_set (kind_of self) (view value)) result }
     {
-        match self {
-            SetKind::Strings => string_set(alloc, value),
-            SetKind::Numbers => number_set(alloc, value),
-            SetKind::Blobs => binary_set(alloc, value),
+        let AttributeValue::L(values) = value else {
+            return Err(Error::from(ErrorImpl::NotSetlike));
+        };
+        let mut texts = Vec::new(alloc);
+        let mut blobs = Vec::new(alloc);
+        for value in values {
+            match (self, value) {
+                (SetKind::Strings, AttributeValue::S(text)) => texts.push(text)?,
+                (SetKind::Numbers, AttributeValue::N(text)) => texts.push(text)?,
+                (SetKind::Blobs, AttributeValue::B(blob)) => blobs.push(blob)?,
+                (SetKind::Strings, _) => return Err(Error::from(ErrorImpl::StringSetExpectedType)),
+                (SetKind::Numbers, _) => return Err(Error::from(ErrorImpl::NumberSetExpectedType)),
+                (SetKind::Blobs, _) => return Err(Error::from(ErrorImpl::BinarySetExpectedType)),
+            }
         }
+        Ok(match self {
+            SetKind::Strings => AttributeValue::Ss(texts),
+            SetKind::Numbers => AttributeValue::Ns(texts),
+            SetKind::Blobs => AttributeValue::Bs(blobs),
+        })
     }
 }
 
@@ -72,52 +86,4 @@ pub fn named(alloc: Global, name: &str, value: AttributeValue) -> Result<Attribu
         Some(kind) => kind.set_of(alloc, value),
         None => Ok(value),
     }
-}
-
-fn string_set(alloc: Global, value: AttributeValue) -> Result<AttributeValue>
-    ensures { AnswersWithin (as_set symbols.strings (view value)) result }
-{
-    let AttributeValue::L(values) = value else {
-        return Err(Error::from(ErrorImpl::NotSetlike));
-    };
-    let mut texts = Vec::new(alloc);
-    for value in values {
-        match value {
-            AttributeValue::S(text) => texts.push(text)?,
-            _ => return Err(Error::from(ErrorImpl::StringSetExpectedType)),
-        }
-    }
-    Ok(AttributeValue::Ss(texts))
-}
-
-fn number_set(alloc: Global, value: AttributeValue) -> Result<AttributeValue>
-    ensures { AnswersWithin (as_set symbols.numbers (view value)) result }
-{
-    let AttributeValue::L(values) = value else {
-        return Err(Error::from(ErrorImpl::NotSetlike));
-    };
-    let mut texts = Vec::new(alloc);
-    for value in values {
-        match value {
-            AttributeValue::N(text) => texts.push(text)?,
-            _ => return Err(Error::from(ErrorImpl::NumberSetExpectedType)),
-        }
-    }
-    Ok(AttributeValue::Ns(texts))
-}
-
-fn binary_set(alloc: Global, value: AttributeValue) -> Result<AttributeValue>
-    ensures { AnswersWithin (as_set symbols.blobs (view value)) result }
-{
-    let AttributeValue::L(values) = value else {
-        return Err(Error::from(ErrorImpl::NotSetlike));
-    };
-    let mut blobs = Vec::new(alloc);
-    for value in values {
-        match value {
-            AttributeValue::B(blob) => blobs.push(blob)?,
-            _ => return Err(Error::from(ErrorImpl::BinarySetExpectedType)),
-        }
-    }
-    Ok(AttributeValue::Bs(blobs))
 }

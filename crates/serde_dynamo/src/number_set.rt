@@ -1,4 +1,4 @@
 //! Lists that are written as sets of numbers, and read back as lists.
 
-pub use dynamo_de::number_set::deserialize;
+pub use dynamo_de::set::deserialize;
 pub use dynamo_ser::number_set::{NEWTYPE_SYMBOL, NumberSet, serialize};

@@ -11,7 +11,7 @@ ghost use Rattle.dynamo_serde.specs.Value.{Logged, SendsValue, value_events};
 
 use crate::fault::LEVELS;
 use crate::kinds::{B, BOOL, BS, KINDS, L, M, N, NS, NULL as NULL_KIND, S, SS};
-use crate::symbol::{BINARY_SET, NULL, NUMBER, NUMBER_SET, STRING_SET};
+use crate::symbol::{NULL, NUMBER, NUMBER_SET, STRING_SET};
 use dynamo_value::AttributeValue;
 use serde::{Case, Deserializer, Format, Serializer};
 use std::alloc::Global;
@@ -57,7 +57,7 @@ fn send<S: Serializer>(value: &AttributeValue, out: &mut S) -> Result<(), S::Err
         AttributeValue::L(items) => send_list(items, out),
         AttributeValue::Ss(texts) => send_texts(texts, out),
         AttributeValue::Ns(texts) => send_numbers(texts, out),
-        AttributeValue::Bs(blobs) => send_blobs(blobs, out),
+        AttributeValue::Bs(blobs) => super::binary_set::serialize(blobs, out),
     }
 }
 
@@ -126,19 +126,6 @@ fn send_numbers<S: Serializer>(texts: &Vec<String>, out: &mut S) -> Result<(), S
     out.begin_seq(Some(texts.len()))?;
     for text in texts {
         send_number(text.as_str(), out)?;
-    }
-    out.end_seq()?;
-    out.end_map()
-}
-
-fn send_blobs<S: Serializer>(blobs: &Vec<Vec<u8>>, out: &mut S) -> Result<(), S::Error>
-    ensures { OnOk result (Logged (value_events (av.Bs (map (λ b. b.items) blobs.now.items))) (S.written out.old) (S.written out.new)) }
-{
-    out.begin_map(Some(1))?;
-    out.variant_key(BINARY_SET, Case::AsIs)?;
-    out.begin_seq(Some(blobs.len()))?;
-    for blob in blobs {
-        out.bytes(blob.as_slice())?;
     }
     out.end_seq()?;
     out.end_map()

@@ -5,9 +5,9 @@ ghost use Rattle.dynamo_ser.specs.Symbols.{numbers as number_kind};
 ghost use Rattle.dynamo_serde.specs.Symbol.{word, a_set};
 ghost use Rattle.dynamo_serde.specs.Value.{SendsUnder};
 
+pub use super::set::deserialize;
 use crate::symbol::NUMBER_SET;
-use serde::{Case, DeserializeOwned, Deserializer, Format, Serialize, Serializer};
-use std::alloc::Global;
+use serde::{Case, Serialize, Serializer};
 
 /// Writes a list of numbers as a set.
 ///
@@ -23,16 +23,4 @@ pub fn serialize<T: Serialize, S: Serializer>(numbers: &T, out: &mut S) -> Resul
     out.variant_key(NUMBER_SET, Case::AsIs)?;
     numbers.serialize(out)?;
     out.end_map()
-}
-
-/// Reads a set of numbers, or a list of them.
-///
-/// # Errors
-///
-/// Returns the error of reading the value by its type.
-pub fn deserialize<T: DeserializeOwned, F: Format>(
-    alloc: Global,
-    from: &mut Deserializer<'_, '_, F>,
-) -> Result<T, F::Error> {
-    T::deserialize_owned(alloc, from)
 }

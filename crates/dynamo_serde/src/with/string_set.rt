@@ -5,9 +5,9 @@ ghost use Rattle.dynamo_ser.specs.Symbols.{strings};
 ghost use Rattle.dynamo_serde.specs.Symbol.{word, a_set};
 ghost use Rattle.dynamo_serde.specs.Value.{SendsUnder};
 
+pub use super::set::deserialize;
 use crate::symbol::STRING_SET;
-use serde::{Case, DeserializeOwned, Deserializer, Format, Serialize, Serializer};
-use std::alloc::Global;
+use serde::{Case, Serialize, Serializer};
 
 /// Writes a list of strings as a set.
 ///
@@ -23,16 +23,4 @@ pub fn serialize<T: Serialize, S: Serializer>(texts: &T, out: &mut S) -> Result<
     out.variant_key(STRING_SET, Case::AsIs)?;
     texts.serialize(out)?;
     out.end_map()
-}
-
-/// Reads a set of strings, or a list of them.
-///
-/// # Errors
-///
-/// Returns the error of reading the value by its type.
-pub fn deserialize<T: DeserializeOwned, F: Format>(
-    alloc: Global,
-    from: &mut Deserializer<'_, '_, F>,
-) -> Result<T, F::Error> {
-    T::deserialize_owned(alloc, from)
 }

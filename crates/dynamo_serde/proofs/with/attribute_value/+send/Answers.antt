@@ -83,4 +83,4 @@ send-returns-in-Ns g t c =
 pub send-returns-in-Bs : goal.send-returns-in-Bs
 send-returns-in-Bs g t c =
     let log = g.S.Serializer.written in
-    on_ok_weaker c.send_blobs.result (λ e. plain_sent c.args.value.now (av.Bs (map (λ b. b.items) c.in-Bs.blobs.items)) (log c.args.out.now) (log c.send_blobs.new.out) (search (rules, the_lemmas)) refl e) c.send_blobs.ensures
+    on_ok_weaker c.serialize.result (λ e. plain_sent c.args.value.now (av.Bs (map (λ b. b.items) c.in-Bs.blobs.items)) (log c.args.out.now) (log c.serialize.new.out) (search (rules, the_lemmas)) refl e) c.serialize.ensures

@@ -1,12 +1,12 @@
-//! Reads a list that is written as a set of numbers.
+//! Reads a list that is written as a set.
 ghost use Rattle.dynamo_de.specs.Meets.{Meets};
 
 use crate::{Deserialize, Deserializer, Error};
 use std::alloc::Global;
 
-/// Reads a value of any type: a list reads from `Ns` as from `L`.
+/// Reads a value of any type: a list reads from `Ss`, `Ns` and `Bs` as from `L`.
 ///
-/// It is the counterpart of [`serialize`](dynamo_ser::number_set::serialize), for an
+/// It is the counterpart of `serialize` of `string_set`, `number_set` and `binary_set`, for an
 /// `impl Deserialize` that reads its own set.
 ///
 /// # Errors

@@ -1,9 +1,0 @@
-use Rattle.std.proofs.Common.{◌≡◌, map, string_bytes}
-use Rattle.dynamo_value.specs.View.{view, elements_view}
-use Rattle.dynamo_ser.specs.Symbols.{numbers}
-use Rattle.dynamo_write.specs.Set.{as_set}
-use Rattle.dynamo_write.proofs.Sets.{set_from}
-use Rattle.dynamo_write.proofs.set.number_set.Given as goal
-
-abbrev pub invariant-loop-value : goal.invariant-loop-value
-invariant-loop-value l = as_set numbers (view l.fn.value) ≡ set_from numbers (map string_bytes l.texts.items) (elements_view l.value-iterator.rest.items)
