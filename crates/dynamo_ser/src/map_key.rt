@@ -1,4 +1,6 @@
-ghost use Rattle.std.specs.Prelude.{◌≡◌, IsErr, option_map, string_bytes};
+ghost use Rattle.std.specs.Prelude.{◌≡◌, Ok, IsErr, MatchResult, option_map, string_bytes};
+ghost use Rattle.dynamo_value.specs.Fault.{out_of_memory};
+ghost use Rattle.dynamo_value.specs.Kind.{fault_of};
 ghost use Rattle.dynamo_ser.specs.Writes.{WritesKey, refused_key};
 
 use crate::{
@@ -7,7 +9,7 @@ use crate::{
     Wrapper,
 };
 use dynamo_value::{Error, ErrorImpl, Result};
-use std::alloc::Global;
+use std::alloc::{AllocError, Global};
 
 /// The serializer of map keys: it writes a key as a string, and refuses any other with
 /// [`ErrorImpl::KeyMustBeAString`].
@@ -28,6 +30,13 @@ fn no_key() -> Error
     ensures { result ≡ ErrorImpl.KeyMustBeAString }
 {
     Error::from(ErrorImpl::KeyMustBeAString)
+}
+
+// A key that is written, or the error for out of memory.
+fn written(text: Result<String, AllocError>) -> Result<String>
+    ensures { MatchResult result (λ key. text ≡ Ok key) (λ e. fault_of e ≡ out_of_memory) }
+{
+    Ok(text?)
 }
 
 impl Outcomes for MapKeySerializer {
@@ -77,55 +86,55 @@ impl Serializer for MapKeySerializer {
 
     fn serialize_bool(self, v: bool) -> Result<String> {
         let text = if v { "true" } else { "false" };
-        Ok(String::from_str(self.alloc, text)?)
+        written(String::from_str(self.alloc, text))
     }
 
     fn serialize_i8(self, v: i8) -> Result<String> {
-        Ok(v.to_string(self.alloc)?)
+        written(v.to_string(self.alloc))
     }
 
     fn serialize_i16(self, v: i16) -> Result<String> {
-        Ok(v.to_string(self.alloc)?)
+        written(v.to_string(self.alloc))
     }
 
     fn serialize_i32(self, v: i32) -> Result<String> {
-        Ok(v.to_string(self.alloc)?)
+        written(v.to_string(self.alloc))
     }
 
     fn serialize_i64(self, v: i64) -> Result<String> {
-        Ok(v.to_string(self.alloc)?)
+        written(v.to_string(self.alloc))
     }
 
     fn serialize_i128(self, v: i128) -> Result<String> {
-        Ok(v.to_string(self.alloc)?)
+        written(v.to_string(self.alloc))
     }
 
     fn serialize_u8(self, v: u8) -> Result<String> {
-        Ok(v.to_string(self.alloc)?)
+        written(v.to_string(self.alloc))
     }
 
     fn serialize_u16(self, v: u16) -> Result<String> {
-        Ok(v.to_string(self.alloc)?)
+        written(v.to_string(self.alloc))
     }
 
     fn serialize_u32(self, v: u32) -> Result<String> {
-        Ok(v.to_string(self.alloc)?)
+        written(v.to_string(self.alloc))
     }
 
     fn serialize_u64(self, v: u64) -> Result<String> {
-        Ok(v.to_string(self.alloc)?)
+        written(v.to_string(self.alloc))
     }
 
     fn serialize_u128(self, v: u128) -> Result<String> {
-        Ok(v.to_string(self.alloc)?)
+        written(v.to_string(self.alloc))
     }
 
     fn serialize_char(self, v: char) -> Result<String> {
-        Ok(v.to_string(self.alloc)?)
+        written(v.to_string(self.alloc))
     }
 
     fn serialize_str(self, v: &str) -> Result<String> {
-        Ok(String::from_str(self.alloc, v)?)
+        written(String::from_str(self.alloc, v))
     }
 
     fn serialize_bytes(self, _v: &[u8]) -> Result<String> {
@@ -150,7 +159,7 @@ impl Serializer for MapKeySerializer {
         _index: u32,
         variant: &'static str,
     ) -> Result<String> {
-        Ok(String::from_str(self.alloc, variant)?)
+        written(String::from_str(self.alloc, variant))
     }
 
     fn serialize_seq(self, _len: Option<usize>) -> Result<NoKey> {

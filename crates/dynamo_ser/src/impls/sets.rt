@@ -28,13 +28,7 @@ impl<T: Serialize + Ord + Hash> Serialize for HashSet<T> {
 
     fn serialize<S: Serializer>(&self, serializer: S) -> Result<S::Ok, S::Error> {
         match in_order(serializer.alloc(), self) {
-            Ok(ordered) => {
-                let mut members = serializer.serialize_seq(Some(ordered.len()))?;
-                for member in &ordered {
-                    members.serialize_element(*member)?;
-                }
-                members.end()
-            }
+            Ok(ordered) => ordered.serialize(serializer),
             Err(_) => Err(S::Error::out_of_memory()),
         }
     }
