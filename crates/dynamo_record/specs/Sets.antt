@@ -15,6 +15,7 @@ use Rattle.dynamo_shape.specs.ByValue.{SameSet}
 use Rattle.dynamo_shape.specs.Laws.{EqualAsTold, ReadsByShape}
 use Rattle.dynamo_shape.specs.Shape as shape
 use Rattle.dynamo_shape.specs.Shape.{Shape}
+use Rattle.dynamo_shape.proofs.HashedSets.{members_any}
 use Rattle.dynamo_shape.proofs.SetsRead.{ordered_list_permitted, ordered_set_permitted}
 use Rattle.dynamo_shape.proofs.SetsTold.{told_list, told_set, ordered_list_told, ordered_list_alike, ordered_set_told, ordered_set_alike}
 use Rattle.dynamo_record.specs.About.{About}
@@ -39,6 +40,10 @@ about_members_in k key eq equal members has is = record {
   told_by_value = ordered_set_told key.about.tells eq equal members has is k key.about.shape key.told_apart;
   told_alike = ordered_set_alike key.about.tells eq equal members has is k key.about.shape;
 }
+
+-- a hashed set has a key if one of its members in their order is that key
+pub is_in_order : {K : Type 0} (key : AboutKey K) (ks : List K) (q : K) → list_any (key.eq q) ks ≡ list_any (key.eq q) (members_in_order key.cmp ks)
+is_in_order key ks q = members_any key.about.tells key.cmp key.eq key.equal_as_told key.ordered_as_told q ks
 
 -- what a hashed set tells, by what its members tell and by their order
 pub in_order_as_told : {K M : Type 0} (key : AboutKey K) (keys : M → List K) (tells : K → Datum) (cmp : K → K → Ordering) → key.about.tells ≡ tells → key.cmp ≡ cmp → ◌≡◌ {A = M → Datum} (told_list key.about.tells (λ m. members_in_order key.cmp (keys m))) (told_list tells (λ m. members_in_order cmp (keys m)))

@@ -47,7 +47,9 @@ pub trait FieldList: Sized {
         value: D,
         alloc: Global,
     ) -> Result<(), D::Error>
-        ensures { place < about.count → place + 1 < 2 ^ 64 → (ss : Shapes) (os more : Slots) → holds slots.old os more → Meets D.Error.fault (Fills holds (about.shapes ss) place os more slots.new (D.source value)) result };
+        ensures { place < about.count → place + 1 < 2 ^ 64 → (ss : Shapes) (os more : Slots)
+            → holds slots.old os more
+            → Meets D.Error.fault (Fills holds (about.shapes ss) place os more slots.new (D.source value)) result };
 
     /// Returns whether the field with this index is read.
     fn is_read(slots: &Self::Slots, place: usize) -> bool
@@ -64,7 +66,8 @@ pub trait FieldList: Sized {
         names: &'static [&'static str],
         alloc: Global,
     ) -> Result<(Self, &'static [&'static str]), E>
-        ensures { (ss : Shapes) (gs : Defaults) (os more : Slots) → holds slots os more → Completes E.fault about.shapes about.told (complete (about.shapes ss) (about.defaults gs) os) (complete ss gs more) (missed_name (map (λ n. n.now) names.now) (about.shapes ss) (about.defaults gs) os) (λ others. missed_name (map (λ n. n.now) others.now) ss gs more) result };
+        ensures { (ss : Shapes) (gs : Defaults) (os more : Slots) → holds slots os more
+            → Completes E.fault about.shapes about.told (complete (about.shapes ss) (about.defaults gs) os) (complete ss gs more) (missed_name (map (λ n. n.now) names.now) (about.shapes ss) (about.defaults gs) os) (λ others. missed_name (map (λ n. n.now) others.now) ss gs more) result };
 
     /// Reads the fields in order, or returns `None` if there are too few elements.
     ///
@@ -75,7 +78,8 @@ pub trait FieldList: Sized {
         elements: &mut D::Elements,
         alloc: Global,
     ) -> Result<Option<Self>, D::Error>
-        ensures { (ss : Shapes) → MakesOrFails D.Error.fault about.shapes about.told (read_fields (about.shapes ss) (D.elements elements.old)) (read_fields ss (D.elements elements.new)) result };
+        ensures { (ss : Shapes)
+            → MakesOrFails D.Error.fault about.shapes about.told (read_fields (about.shapes ss) (D.elements elements.old)) (read_fields ss (D.elements elements.new)) result };
 
     /// Drops the fields that are read so far.
     fn discard_slots(slots: Self::Slots);

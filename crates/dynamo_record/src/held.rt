@@ -48,7 +48,9 @@ fn read_held_entry<R: Record, D: Reader>(
 ) -> Result<(), D::Error>
 where
     R::Fields: FieldList,
-    ensures { AreNamed (listed R.about R.Fields.about) → (e : Entry) (os : Slots) → name.now ≡ e.0 → D.source value ≡ attribute e.1 → R.Fields.holds slots.old os [] → Meets D.Error.fault (Enters (λ x os. R.Fields.holds x os []) (record_fields (listed R.about R.Fields.about)) os slots.new e) result }
+    ensures { AreNamed (listed R.about R.Fields.about) → (e : Entry) (os : Slots) → name.now ≡ e.0
+        → D.source value ≡ attribute e.1 → R.Fields.holds slots.old os []
+        → Meets D.Error.fault (Enters (λ x os. R.Fields.holds x os []) (record_fields (listed R.about R.Fields.about)) os slots.new e) result }
 {
     let names = R::names();
     let place = place_of(names, name);
@@ -67,7 +69,9 @@ pub(crate) fn read_held<R: Record, D: Reader>(
 ) -> Result<R, D::Error>
 where
     R::Fields: FieldList,
-    ensures { AreNamed (listed R.about R.Fields.about) → (es : List Entry) → Holds D.source held.items es → Meets D.Error.fault (FromParts (listed R.about R.Fields.about) (by_name es)) result }
+    ensures { AreNamed (listed R.about R.Fields.about) → (es : List Entry)
+        → Holds D.source held.items es
+        → Meets D.Error.fault (FromParts (listed R.about R.Fields.about) (by_name es)) result }
 {
     let mut slots = <R::Fields as FieldList>::unread();
     for (name, value) in held {

@@ -147,7 +147,10 @@ pub(crate) fn read_place<R: Record, D: Reader>(
 where
     R::Fields: FieldList,
     requires { AreNamed (listed R.about R.Fields.about) }
-    ensures { (e : Entry) (os : Slots) → place ≡ place_in 0 (record_fields (listed R.about R.Fields.about)) e.0 → D.source value ≡ attribute e.1 → R.Fields.holds slots.old os [] → Meets D.Error.fault (Enters (λ x os. R.Fields.holds x os []) (record_fields (listed R.about R.Fields.about)) os slots.new e) result }
+    ensures { (e : Entry) (os : Slots)
+        → place ≡ place_in 0 (record_fields (listed R.about R.Fields.about)) e.0
+        → D.source value ≡ attribute e.1 → R.Fields.holds slots.old os []
+        → Meets D.Error.fault (Enters (λ x os. R.Fields.holds x os []) (record_fields (listed R.about R.Fields.about)) os slots.new e) result }
 {
     let names = R::names();
     if place < names.len() {
@@ -168,7 +171,9 @@ fn read_entry<R: Record, D: Reader>(
 where
     R::Fields: FieldList,
     requires { AreNamed (listed R.about R.Fields.about) }
-    ensures { (e : Entry) (os : Slots) → IsEntry D.source (key, value) e → R.Fields.holds slots.old os [] → Meets D.Error.fault (Enters (λ x os. R.Fields.holds x os []) (record_fields (listed R.about R.Fields.about)) os slots.new e) result }
+    ensures { (e : Entry) (os : Slots) → IsEntry D.source (key, value) e
+        → R.Fields.holds slots.old os []
+        → Meets D.Error.fault (Enters (λ x os. R.Fields.holds x os []) (record_fields (listed R.about R.Fields.about)) os slots.new e) result }
 {
     let name = identifier_of(alloc, key, "field identifier")?;
     let names = R::names();

@@ -81,7 +81,9 @@ fn admit<R: RecordRules, E: Error>(
 where
     R::Fields: FieldList,
     requires { AreNamed (listed R.about R.Fields.about) }
-    ensures { (before : Before) → place ≡ place_of 0 R.about.names own.now → Held (record_fields (listed R.about R.Fields.about)) R.Fields.holds slots.now before → Meets E.fault (Admits (is_refused R.rules.denies (record_fields (listed R.about R.Fields.about)) before own.now)) result }
+    ensures { (before : Before) → place ≡ place_of 0 R.about.names own.now
+        → Held (record_fields (listed R.about R.Fields.about)) R.Fields.holds slots.now before
+        → Meets E.fault (Admits (is_refused R.rules.denies (record_fields (listed R.about R.Fields.about)) before own.now)) result }
 {
     let names = R::names();
     if place < names.len() {
@@ -107,7 +109,9 @@ fn read_entry<R: RecordRules, D: Reader>(
 where
     R::Fields: FieldList,
     requires { AreNamed (listed R.about R.Fields.about) }
-    ensures { (e : Entry) (before : Before) → IsEntry D.source (key, value) e → Held (record_fields (listed R.about R.Fields.about)) R.Fields.holds slots.old before → Meets D.Error.fault (EntersByRules R.rules (record_fields (listed R.about R.Fields.about)) R.Fields.holds before slots.new e) result }
+    ensures { (e : Entry) (before : Before) → IsEntry D.source (key, value) e
+        → Held (record_fields (listed R.about R.Fields.about)) R.Fields.holds slots.old before
+        → Meets D.Error.fault (EntersByRules R.rules (record_fields (listed R.about R.Fields.about)) R.Fields.holds before slots.new e) result }
 {
     let name = identifier_of(alloc, key, "field identifier")?;
     let own = own_name(R::aliases(), name.as_str());

@@ -9,9 +9,8 @@ ghost use Rattle.dynamo_ser.specs.Members.{members_in_order};
 ghost use Rattle.dynamo_ser.specs.Symbols.{SetKind};
 ghost use Rattle.dynamo_shape.specs.Absence.{same_default};
 ghost use Rattle.dynamo_shape.specs.Laws.{ReadsByShape};
-ghost use Rattle.dynamo_shape.proofs.HashedSets.{members_any};
 ghost use Rattle.dynamo_record.specs.About.{About};
-ghost use Rattle.dynamo_record.specs.Sets.{about_members_in, members_in_read};
+ghost use Rattle.dynamo_record.specs.Sets.{about_members_in, is_in_order, members_in_read};
 ghost use Rattle.dynamo_record.specs.FieldTypes.{about_set as about_list_set, set_permitted};
 ghost use Rattle.dynamo_record.specs.SetValues.{IsSetOf, list_is_set, ordered_is_set};
 
@@ -73,11 +72,11 @@ impl<T: ShapedKey> SetValue for BTreeSet<T> {
 }
 
 impl<T: ShapedKey> SetValue for HashSet<T> {
-    ghost about_set = { λ k. about_members_in k T.about_key T.about_key.eq T.about_key.equal_as_told (λ s. members_in_order T.about_key.cmp s.keys) (hashed.contains T.about_key.eq) (λ s q. members_any T.about_key.about.tells T.about_key.cmp T.about_key.eq T.about_key.equal_as_told T.about_key.ordered_as_told q s.keys) };
+    ghost about_set = { λ k. about_members_in k T.about_key T.about_key.eq T.about_key.equal_as_told (λ s. members_in_order T.about_key.cmp s.keys) (hashed.contains T.about_key.eq) (λ s. is_in_order T.about_key s.keys) };
 
     ghost is_set = { λ k. record { tells = λ s. refl; conforms = λ s. ordered_is_set k T.about_key.about.shape _; missed = refl } };
 
-    ghost set_reads_by_shape = { members_in_read T.about_key (λ s. members_in_order T.about_key.cmp s.keys) (λ eq. eq) T.about.shape T.about.tells T.about_key.eq T.eq T.reads T.is_key.shape T.is_key.tells T.is_key.eq T.about_key.equal_as_told T.reads_by_shape hashed.contains (λ s q. members_any T.about_key.about.tells T.about_key.cmp T.about_key.eq T.about_key.equal_as_told T.about_key.ordered_as_told q s.keys) };
+    ghost set_reads_by_shape = { members_in_read T.about_key (λ s. members_in_order T.about_key.cmp s.keys) (λ eq. eq) T.about.shape T.about.tells T.about_key.eq T.eq T.reads T.is_key.shape T.is_key.tells T.is_key.eq T.about_key.equal_as_told T.reads_by_shape hashed.contains (λ s. is_in_order T.about_key s.keys) };
 
     fn without_elements(alloc: Global) -> HashSet<T> {
         HashSet::new(alloc)

@@ -70,7 +70,8 @@ where
     T::Variants: TaggedList,
     requires fits { IsFit (of_tagged T.about T.Variants.about) }
     requires inside { place < vec_len held }
-    ensures { (es : List Entry) → Holds D.source held.items es → IsLast T.about.tag es (Some place) → Meets D.Error.fault (FromEntries (of_tagged T.about T.Variants.about) es) result }
+    ensures { (es : List Entry) → Holds D.source held.items es → IsLast T.about.tag es (Some place)
+        → Meets D.Error.fault (FromEntries (of_tagged T.about T.Variants.about) es) result }
 {
     let mut held = held;
     let (_tag, named) = held.remove(place);

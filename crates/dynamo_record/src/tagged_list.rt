@@ -33,7 +33,9 @@ pub trait TaggedList: Sized {
         entries: Vec<(String, D)>,
         alloc: Global,
     ) -> Result<Self, D::Error>
-        ensures { (tag : Text) → about.fit tag → place < about.count → place + 1 < 2 ^ 64 → (name : Text) (ss : Structs) (es : List Entry) → Holds D.source entries.items es → Meets D.Error.fault (ReadsFields about.place about.told place (struct_at place (about.structs name ss)).1 es) result };
+        ensures { (tag : Text) → about.fit tag → place < about.count → place + 1 < 2 ^ 64
+            → (name : Text) (ss : Structs) (es : List Entry) → Holds D.source entries.items es
+            → Meets D.Error.fault (ReadsFields about.place about.told place (struct_at place (about.structs name ss)).1 es) result };
 }
 
 impl TaggedList for Nothing {

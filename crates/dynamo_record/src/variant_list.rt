@@ -27,7 +27,9 @@ pub trait VariantList: Sized {
     ///
     /// Returns the error of reading the content.
     fn read<A: VariantAccess>(place: usize, content: A, alloc: Global) -> Result<Self, A::Error>
-        ensures { place < about.count → place + 1 < 2 ^ 64 → (name : Text) (ns : Names) (i : ℕ) (cs : Contents) → Meets A.Error.fault (ReadsAt about.contents about.told name ns i cs place (A.content content)) result };
+        ensures { place < about.count → place + 1 < 2 ^ 64
+            → (name : Text) (ns : Names) (i : ℕ) (cs : Contents)
+            → Meets A.Error.fault (ReadsAt about.contents about.told name ns i cs place (A.content content)) result };
 }
 
 /// A variant of the first list, or one of the second.

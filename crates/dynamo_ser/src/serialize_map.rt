@@ -85,7 +85,8 @@ pub trait SerializeMap<S: Outcomes<Ok = Self::Ok, Error = Self::Error>>: Sized +
     /// Returns the error for an error of the key itself, or for [`ErrorImpl::OutOfMemory`] if
     /// memory runs out.
     final fn serialize_key<K: Serialize>(&mut self, key: &K) -> Result<(), Self::Error>
-        ensures twice { (text : List ℕ) → Self.pending self.old ≡ Some text → MatchResult result (λ _. ⊥) (λ e. (Self.Error.fault e ≡ serialize_map_key_called_twice) × (self.new ≡ self.old)) }
+        ensures twice { (text : List ℕ) → Self.pending self.old ≡ Some text
+            → MatchResult result (λ _. ⊥) (λ e. (Self.Error.fault e ≡ serialize_map_key_called_twice) × (self.new ≡ self.old)) }
         ensures takes { Self.pending self.old ≡ None → MatchResult result
             (λ _. (text : List ℕ) × (key_text (K.tells key.now) ≡ Ok text) × (Self.pending self.new ≡ Some text))
             (λ e. ((key_text (K.tells key.now) ≡ Err (Self.Error.fault e)) ⊎ (Self.Error.fault e ≡ out_of_memory))
@@ -120,8 +121,11 @@ pub trait SerializeMap<S: Outcomes<Ok = Self::Ok, Error = Self::Error>>: Sized +
     final fn serialize_value<V: Serialize>(&mut self, value: &V) -> Result<(), Self::Error>
     where
         S: Serializer,
-        ensures before { Self.pending self.old ≡ None → MatchResult result (λ _. ⊥) (λ e. (Self.Error.fault e ≡ serialize_map_value_before_key) × Keeps Self.gives self.old self.new) }
-        ensures takes { (text : List ℕ) (k : Datum) → Self.pending self.old ≡ Some text → key_text k ≡ Ok text → TakesPiece Self.gives self.old self.new (pair k (V.tells value.now)) result }
+        ensures before { Self.pending self.old ≡ None
+            → MatchResult result (λ _. ⊥) (λ e. (Self.Error.fault e ≡ serialize_map_value_before_key) × Keeps Self.gives self.old self.new) }
+        ensures takes { (text : List ℕ) (k : Datum) → Self.pending self.old ≡ Some text
+            → key_text k ≡ Ok text
+            → TakesPiece Self.gives self.old self.new (pair k (V.tells value.now)) result }
         ensures pending { Self.pending self.new ≡ None }
     {
         match self.take_key() {

@@ -42,7 +42,9 @@ impl Writer {
 #[inline(always)]
 fn after(events: &Events, done: &Result<()>, call: Call<'_>) -> Events
     ensures logs { OnOk done.now (IfSome (event_of call.entry) (Logs events.now.sent result.sent)) }
-    ensures follows { (first old new : State) → Follows first events.now.sent old → OnOk done.now (IfSome (event_of call.entry) (λ e. Takes old e new)) → Follows first result.sent new }
+    ensures follows { (first old new : State) → Follows first events.now.sent old
+        → OnOk done.now (IfSome (event_of call.entry) (λ e. Takes old e new))
+        → Follows first result.sent new }
 {
     match done {
         Ok(()) => events.and(&call),

@@ -59,7 +59,8 @@ pub fn reread<T: Shaped>(alloc: Global, value: &T) -> Result<(AttributeValue, Va
 
     // If the shape is nearly clear, the datum of the third part is what is kept of the value's
     // datum.
-    ensures nearly { NearlyClear T.about.shape → MatchResult result (λ parts. Same (kept (T.tells value.now)) (T.tells parts.2)) (λ e. fault_of e ≡ out_of_memory) }
+    ensures nearly { NearlyClear T.about.shape
+        → MatchResult result (λ parts. Same (kept (T.tells value.now)) (T.tells parts.2)) (λ e. fault_of e ≡ out_of_memory) }
 
     // What was stored reads back.
     ensures clear { Clear T.about.shape → MatchResult result (λ parts. T.about.same value.now parts.2) (λ e. fault_of e ≡ out_of_memory) }

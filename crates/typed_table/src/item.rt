@@ -46,7 +46,9 @@ pub fn item_of<T: Shaped>(alloc: Global, value: &T) -> Result<Item>
 /// Returns [`ErrorImpl::OutOfMemory`](dynamo_value::ErrorImpl::OutOfMemory) if memory runs out.
 pub fn value_of<T: Shaped>(alloc: Global, item: &Item) -> Result<T>
     ensures read { Meets fault_of (T.reads (attribute (av.M (item_view item.now)))) result }
-    ensures clear { Clear T.about.shape → (value : T) → IsItemOf T.about.shape T.tells value item.now → MatchResult result (λ w. T.about.same value w) (λ e. fault_of e ≡ out_of_memory) }
+    ensures clear { Clear T.about.shape → (value : T)
+        → IsItemOf T.about.shape T.tells value item.now
+        → MatchResult result (λ w. T.about.same value w) (λ e. fault_of e ≡ out_of_memory) }
 {
     let value: T = from_item_ref(alloc, item)?;
     value.conforms();
