@@ -6,15 +6,15 @@ use Rattle.dynamo_value.specs.Integer.{IntegerKind, i8, i16, i32, i64, i128, u8,
 use Rattle.dynamo_de.specs.Answer as answer
 use Rattle.dynamo_de.specs.Answer.{Answer, Gives, value_or}
 use Rattle.dynamo_de.specs.Meets.{Meets}
-use Rattle.dynamo_de.specs.Integers.{kind_of}
+use Rattle.dynamo_value.specs.IntegerTypes.{kind_of}
 use Rattle.dynamo_de.specs.Number.{parse}
 use Rattle.dynamo_de.specs.Reading.{read_integer}
 use Rattle.dynamo_de.specs.Shown.{Shown, shown, num_shown, integer_shown, or_fault}
 use Rattle.dynamo_de.specs.Showing as showing
 use Rattle.dynamo_de.specs.Showing.{Showing}
 use Rattle.dynamo_de.specs.Source.{Source, attribute, key_text, number_text, plain_text, byte_string}
-use Rattle.dynamo_de.specs.declared.integer.IntegerKind as declared
-use Rattle.dynamo_de.specs.declared.integer.IntegerKind.TheVariants as types
+use Rattle.dynamo_value.specs.declared.integer.IntegerKind as declared
+use Rattle.dynamo_value.specs.declared.integer.IntegerKind.TheVariants as types
 use Rattle.dynamo_de.specs.declared.request.Request.{Request}
 use Rattle.dynamo_de.specs.declared.request.Request.TheVariants as request
 

@@ -7,7 +7,6 @@ pub mod Answer
 pub mod Fields
 pub mod Ignored
 pub mod Inside
-pub mod Integers
 pub mod JsonItems
 pub mod Meets
 pub mod Number

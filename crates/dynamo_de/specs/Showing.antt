@@ -4,6 +4,8 @@ use Rattle.dynamo_value.specs.Av as av
 use Rattle.dynamo_value.specs.Av.{Members}
 use Rattle.dynamo_value.specs.Fault.{Fault, expected_single_key}
 use Rattle.dynamo_value.specs.Integer.{IntegerKind}
+use Rattle.dynamo_value.specs.IntegerTypes.{kind_of, number_of, type_of}
+use Rattle.dynamo_value.specs.declared.integer.Integer.{Integer}
 use Rattle.dynamo_de.specs.Source.{Source, Entry, attribute}
 
 -- Scalars; the source of an option's or a newtype's content; the sources of a sequence; the entries of a map in ascending
@@ -23,6 +25,10 @@ pub data Showing : Type 0 where
   entries : List Entry → Showing
   -- the name of a variant and the source of its content, or the fault that asking for the variant meets
   variant : Result (List ℕ × Option Source) Fault → Showing
+
+-- an integer as it is shown
+abbrev pub integer_showing : Integer → Showing
+integer_showing z = integer (kind_of (type_of z)) (number_of z)
 
 -- the variant whose name is the one key of a map, and whose content is the value
 abbrev pub only_entry : Members → Result (List ℕ × Option Source) Fault

@@ -4,7 +4,7 @@ use Rattle.dynamo_value.specs.Av as av
 use Rattle.dynamo_value.specs.Av.{Av}
 use Rattle.dynamo_value.specs.Fault.{Fault, expected_string, expected_map, expected_seq, expected_num, expected_bool, expected_char, expected_unit, expected_unit_struct, expected_enum, expected_bytes, failed_to_parse_int, failed_to_parse_float}
 use Rattle.dynamo_value.specs.Integer.{IntegerKind, i64, u64}
-use Rattle.dynamo_de.specs.Integers.{kind_of}
+use Rattle.dynamo_value.specs.IntegerTypes.{kind_of}
 use Rattle.dynamo_de.specs.Number.{parse, is_float_text}
 use Rattle.dynamo_de.specs.Showing as showing
 use Rattle.dynamo_de.specs.Showing.{Showing, only_entry}

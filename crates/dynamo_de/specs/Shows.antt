@@ -1,10 +1,9 @@
 -- What a reader shows, as contracts see it.
 use Rattle.std.specs.Prelude.{◌≡◌, ◌⊎◌, ℕ, List, [], ◌∷◌, Option, Some, None, Result, Ok, Err, string_bytes}
 use Rattle.dynamo_value.specs.Fault.{Fault, out_of_memory}
-use Rattle.dynamo_de.specs.Integers.{integer_showing}
 use Rattle.dynamo_de.specs.Shown.{Shown}
 use Rattle.dynamo_de.specs.Showing as showing
-use Rattle.dynamo_de.specs.Showing.{Showing}
+use Rattle.dynamo_de.specs.Showing.{Showing, integer_showing}
 use Rattle.dynamo_de.specs.Source.{Source, Entry, attribute, key_text, plain_text}
 use Rattle.dynamo_de.specs.declared.showing.Showing.{Showing as ShowingOf}
 use Rattle.dynamo_de.specs.declared.showing.Showing.TheVariants as showing_of

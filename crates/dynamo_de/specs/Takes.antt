@@ -10,8 +10,8 @@ use Rattle.dynamo_de.specs.Shown.{Shown, shown}
 use Rattle.dynamo_de.specs.Showing as showing
 use Rattle.dynamo_de.specs.Showing.{Showing}
 use Rattle.dynamo_de.specs.Source.{Source}
-use Rattle.dynamo_de.specs.declared.integer.IntegerKind.{IntegerKind}
-use Rattle.dynamo_de.specs.declared.integer.IntegerKind.TheVariants as types
+use Rattle.dynamo_value.specs.declared.integer.IntegerKind.{IntegerKind}
+use Rattle.dynamo_value.specs.declared.integer.IntegerKind.TheVariants as types
 use Rattle.dynamo_de.specs.declared.kind.Kind.{Kind}
 use Rattle.dynamo_de.specs.declared.kind.Kind.TheVariants as kind
 use Rattle.dynamo_de.specs.declared.request.Request.{Request}

@@ -1,6 +1,6 @@
 ghost use Rattle.dynamo_de.specs.Shows.{seen};
 ghost use Rattle.dynamo_de.specs.Takes.{Asks, Visits};
-ghost use Rattle.dynamo_de.specs.declared.integer.IntegerKind.TheVariants as types;
+ghost use Rattle.dynamo_value.specs.declared.integer.IntegerKind.TheVariants as types;
 ghost use Rattle.dynamo_de.specs.declared.request.Request.TheVariants as request;
 
 use crate::reader_access::{ReaderEnumAccess, ReaderMapAccess, ReaderSeqAccess};

@@ -2,7 +2,7 @@
 use Rattle.std.specs.Prelude.{◌≡◌, ℕ, List, Result, Ok, Err, String, string_bytes}
 use Rattle.std.specs.declared.alloc.Global.{Global}
 use Rattle.dynamo_value.specs.Fault.{Fault, failed_to_parse_int, failed_to_parse_float}
-use Rattle.dynamo_de.specs.Integers.{integer_showing}
+use Rattle.dynamo_de.specs.Showing.{integer_showing}
 use Rattle.dynamo_de.specs.Shown.{Shown, named}
 use Rattle.dynamo_de.specs.Showing as showing
 use Rattle.dynamo_de.specs.Showing.{Showing}

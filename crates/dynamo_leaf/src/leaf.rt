@@ -1,7 +1,8 @@
 ghost use Rattle.std.specs.Prelude.{◌≡◌, ℕ, List, Ok, option_map, string_bytes};
 ghost use Rattle.std.specs.Result.{result_ok};
 ghost use Rattle.dynamo_value.specs.Kind.{fault_of};
-ghost use Rattle.dynamo_de.specs.Integers.{integer_showing, kind_of};
+ghost use Rattle.dynamo_value.specs.IntegerTypes.{kind_of};
+ghost use Rattle.dynamo_de.specs.Showing.{integer_showing};
 ghost use Rattle.dynamo_de.specs.Number.{parse};
 ghost use Rattle.dynamo_de.specs.Shown.{bool_key_shown, key_shown, number_shown, number_text_shown, plain_text_shown};
 ghost use Rattle.dynamo_de.specs.Showing as showing;

@@ -3,7 +3,7 @@ ghost use Rattle.std.specs.Prelude.{◌≡◌};
 use crate::locating_parts::LocatingParts;
 use crate::trail::Trail;
 use dynamo_ser::{Outcomes, Serializer, Wrapper};
-use dynamo_value::{Error, ErrorImpl, Result};
+use dynamo_value::{Error, ErrorImpl, Integer, Result};
 use dynamo_write::SetKind;
 use std::alloc::Global;
 
@@ -162,43 +162,7 @@ impl<'a> Serializer for LocatingSerializer<'a> {
         Ok(Written::Other)
     }
 
-    fn serialize_i8(self, _v: i8) -> Result<Written> {
-        Ok(Written::Number)
-    }
-
-    fn serialize_i16(self, _v: i16) -> Result<Written> {
-        Ok(Written::Number)
-    }
-
-    fn serialize_i32(self, _v: i32) -> Result<Written> {
-        Ok(Written::Number)
-    }
-
-    fn serialize_i64(self, _v: i64) -> Result<Written> {
-        Ok(Written::Number)
-    }
-
-    fn serialize_i128(self, _v: i128) -> Result<Written> {
-        Ok(Written::Number)
-    }
-
-    fn serialize_u8(self, _v: u8) -> Result<Written> {
-        Ok(Written::Number)
-    }
-
-    fn serialize_u16(self, _v: u16) -> Result<Written> {
-        Ok(Written::Number)
-    }
-
-    fn serialize_u32(self, _v: u32) -> Result<Written> {
-        Ok(Written::Number)
-    }
-
-    fn serialize_u64(self, _v: u64) -> Result<Written> {
-        Ok(Written::Number)
-    }
-
-    fn serialize_u128(self, _v: u128) -> Result<Written> {
+    fn serialize_integer(self, _v: Integer) -> Result<Written> {
         Ok(Written::Number)
     }
 

@@ -3,7 +3,7 @@ ghost use Rattle.dynamo_value.specs.Av as av;
 ghost use Rattle.dynamo_value.specs.Kind.{fault_of};
 ghost use Rattle.dynamo_value.specs.View.{members_view, view};
 ghost use Rattle.dynamo_de.specs.Inside.{ShowsInside};
-ghost use Rattle.dynamo_de.specs.Integers.{kind_of};
+ghost use Rattle.dynamo_value.specs.IntegerTypes.{kind_of};
 ghost use Rattle.dynamo_de.specs.Shown.{any_shown, attribute_shown, bytes_shown, enum_shown, key_shown, map_shown, num_shown};
 ghost use Rattle.dynamo_de.specs.Shown.{number_shown, number_text_shown, option_shown, plain_text_shown, seq_shown, struct_shown, text_shown};
 ghost use Rattle.dynamo_de.specs.Showing as showing;

@@ -3,7 +3,7 @@ ghost use Rattle.std.specs.Str.{chars};
 ghost use Rattle.dynamo_value.specs.Fault.{Fault};
 ghost use Rattle.dynamo_value.specs.Kind.{fault_of};
 ghost use Rattle.dynamo_value.specs.View.{view};
-ghost use Rattle.dynamo_de.specs.Integers.{kind_of};
+ghost use Rattle.dynamo_value.specs.IntegerTypes.{kind_of};
 ghost use Rattle.dynamo_de.specs.Shown.{any_shown, num_shown, bool_shown, char_shown, chars_shown, text_shown, bytes_shown, option_shown, null_shown, seq_shown, map_shown, struct_shown, enum_shown, attribute_shown, number_text_shown, key_shown, plain_text_shown};
 ghost use Rattle.dynamo_de.specs.Shows.{Shows, seen};
 ghost use Rattle.dynamo_de.specs.Source.{Source, Entry, attribute};

@@ -34,6 +34,7 @@ mod struct_builder;
 
 pub use binary_set::BinarySet;
 pub use dynamo_value::serde_error::Error;
+pub use dynamo_value::{Integer, IntegerKind};
 pub use list_builder::{
     ListBuilder, SerializeSeq, SerializeTuple, SerializeTupleStruct, SerializeTupleVariant,
 };

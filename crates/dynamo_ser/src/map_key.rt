@@ -8,7 +8,7 @@ use crate::{
     SerializeTuple, SerializeTupleStruct, SerializeTupleVariant, Serializer, StructBuilder,
     Wrapper,
 };
-use dynamo_value::{Error, ErrorImpl, Result};
+use dynamo_value::{Error, ErrorImpl, Integer, Result};
 use std::alloc::{AllocError, Global};
 
 /// The serializer of map keys: it writes a key as a string, and refuses any other with
@@ -89,44 +89,8 @@ impl Serializer for MapKeySerializer {
         written(String::from_str(self.alloc, text))
     }
 
-    fn serialize_i8(self, v: i8) -> Result<String> {
-        written(v.to_string(self.alloc))
-    }
-
-    fn serialize_i16(self, v: i16) -> Result<String> {
-        written(v.to_string(self.alloc))
-    }
-
-    fn serialize_i32(self, v: i32) -> Result<String> {
-        written(v.to_string(self.alloc))
-    }
-
-    fn serialize_i64(self, v: i64) -> Result<String> {
-        written(v.to_string(self.alloc))
-    }
-
-    fn serialize_i128(self, v: i128) -> Result<String> {
-        written(v.to_string(self.alloc))
-    }
-
-    fn serialize_u8(self, v: u8) -> Result<String> {
-        written(v.to_string(self.alloc))
-    }
-
-    fn serialize_u16(self, v: u16) -> Result<String> {
-        written(v.to_string(self.alloc))
-    }
-
-    fn serialize_u32(self, v: u32) -> Result<String> {
-        written(v.to_string(self.alloc))
-    }
-
-    fn serialize_u64(self, v: u64) -> Result<String> {
-        written(v.to_string(self.alloc))
-    }
-
-    fn serialize_u128(self, v: u128) -> Result<String> {
-        written(v.to_string(self.alloc))
+    fn serialize_integer(self, v: Integer) -> Result<String> {
+        written(v.decimal(self.alloc))
     }
 
     fn serialize_char(self, v: char) -> Result<String> {

@@ -1,4 +1,5 @@
 ghost use Rattle.std.specs.Prelude.{◌≡◌, Result, Ok, MatchResult, pos, None};
+ghost use Rattle.dynamo_value.specs.IntegerTypes.{kind_of, number_of, type_of};
 ghost use Rattle.dynamo_ser.specs.Datum as datum;
 ghost use Rattle.dynamo_ser.specs.Datum.{Datum, variant};
 ghost use Rattle.dynamo_ser.specs.Pieces.{Begins, BeginsContent};
@@ -9,6 +10,7 @@ use crate::{
     Outcomes, Serialize, SerializeMap, SerializeSeq, SerializeStruct, SerializeStructVariant,
     SerializeTuple, SerializeTupleStruct, SerializeTupleVariant,
 };
+use dynamo_value::Integer;
 
 /// What wraps a content.
 #[derive(Clone, Copy)]
@@ -81,85 +83,123 @@ pub trait Serializer: Outcomes {
     fn serialize_bool(self, v: bool) -> Result<Self::Ok, Self::Error>
         ensures { Self.outcome self (datum.boolean v) result };
 
+    /// Writes an integer. The ten calls that follow are this call.
+    ///
+    /// # Errors
+    ///
+    /// Returns an error if the serializer refuses the value, or if memory runs out.
+    fn serialize_integer(self, v: Integer) -> Result<Self::Ok, Self::Error>
+        ensures { Self.outcome self (datum.integer (kind_of (type_of v)) (number_of v)) result };
+
     /// Writes an `i8`.
     ///
     /// # Errors
     ///
     /// Returns an error if the serializer refuses the value, or if memory runs out.
-    fn serialize_i8(self, v: i8) -> Result<Self::Ok, Self::Error>
-        ensures { Self.outcome self (datum.integer datum.i8 v) result };
+    final fn serialize_i8(self, v: i8) -> Result<Self::Ok, Self::Error>
+        ensures { Self.outcome self (datum.integer datum.i8 v) result }
+    {
+        self.serialize_integer(Integer::I8(v))
+    }
 
     /// Writes an `i16`.
     ///
     /// # Errors
     ///
     /// Returns an error if the serializer refuses the value, or if memory runs out.
-    fn serialize_i16(self, v: i16) -> Result<Self::Ok, Self::Error>
-        ensures { Self.outcome self (datum.integer datum.i16 v) result };
+    final fn serialize_i16(self, v: i16) -> Result<Self::Ok, Self::Error>
+        ensures { Self.outcome self (datum.integer datum.i16 v) result }
+    {
+        self.serialize_integer(Integer::I16(v))
+    }
 
     /// Writes an `i32`.
     ///
     /// # Errors
     ///
     /// Returns an error if the serializer refuses the value, or if memory runs out.
-    fn serialize_i32(self, v: i32) -> Result<Self::Ok, Self::Error>
-        ensures { Self.outcome self (datum.integer datum.i32 v) result };
+    final fn serialize_i32(self, v: i32) -> Result<Self::Ok, Self::Error>
+        ensures { Self.outcome self (datum.integer datum.i32 v) result }
+    {
+        self.serialize_integer(Integer::I32(v))
+    }
 
     /// Writes an `i64`.
     ///
     /// # Errors
     ///
     /// Returns an error if the serializer refuses the value, or if memory runs out.
-    fn serialize_i64(self, v: i64) -> Result<Self::Ok, Self::Error>
-        ensures { Self.outcome self (datum.integer datum.i64 v) result };
+    final fn serialize_i64(self, v: i64) -> Result<Self::Ok, Self::Error>
+        ensures { Self.outcome self (datum.integer datum.i64 v) result }
+    {
+        self.serialize_integer(Integer::I64(v))
+    }
 
     /// Writes an `i128`.
     ///
     /// # Errors
     ///
     /// Returns an error if the serializer refuses the value, or if memory runs out.
-    fn serialize_i128(self, v: i128) -> Result<Self::Ok, Self::Error>
-        ensures { Self.outcome self (datum.integer datum.i128 v) result };
+    final fn serialize_i128(self, v: i128) -> Result<Self::Ok, Self::Error>
+        ensures { Self.outcome self (datum.integer datum.i128 v) result }
+    {
+        self.serialize_integer(Integer::I128(v))
+    }
 
     /// Writes a `u8`.
     ///
     /// # Errors
     ///
     /// Returns an error if the serializer refuses the value, or if memory runs out.
-    fn serialize_u8(self, v: u8) -> Result<Self::Ok, Self::Error>
-        ensures { Self.outcome self (datum.integer datum.u8 (pos v)) result };
+    final fn serialize_u8(self, v: u8) -> Result<Self::Ok, Self::Error>
+        ensures { Self.outcome self (datum.integer datum.u8 (pos v)) result }
+    {
+        self.serialize_integer(Integer::U8(v))
+    }
 
     /// Writes a `u16`.
     ///
     /// # Errors
     ///
     /// Returns an error if the serializer refuses the value, or if memory runs out.
-    fn serialize_u16(self, v: u16) -> Result<Self::Ok, Self::Error>
-        ensures { Self.outcome self (datum.integer datum.u16 (pos v)) result };
+    final fn serialize_u16(self, v: u16) -> Result<Self::Ok, Self::Error>
+        ensures { Self.outcome self (datum.integer datum.u16 (pos v)) result }
+    {
+        self.serialize_integer(Integer::U16(v))
+    }
 
     /// Writes a `u32`.
     ///
     /// # Errors
     ///
     /// Returns an error if the serializer refuses the value, or if memory runs out.
-    fn serialize_u32(self, v: u32) -> Result<Self::Ok, Self::Error>
-        ensures { Self.outcome self (datum.integer datum.u32 (pos v)) result };
+    final fn serialize_u32(self, v: u32) -> Result<Self::Ok, Self::Error>
+        ensures { Self.outcome self (datum.integer datum.u32 (pos v)) result }
+    {
+        self.serialize_integer(Integer::U32(v))
+    }
 
     /// Writes a `u64`.
     ///
     /// # Errors
     ///
     /// Returns an error if the serializer refuses the value, or if memory runs out.
-    fn serialize_u64(self, v: u64) -> Result<Self::Ok, Self::Error>
-        ensures { Self.outcome self (datum.integer datum.u64 (pos v)) result };
+    final fn serialize_u64(self, v: u64) -> Result<Self::Ok, Self::Error>
+        ensures { Self.outcome self (datum.integer datum.u64 (pos v)) result }
+    {
+        self.serialize_integer(Integer::U64(v))
+    }
 
     /// Writes a `u128`.
     ///
     /// # Errors
     ///
     /// Returns an error if the serializer refuses the value, or if memory runs out.
-    fn serialize_u128(self, v: u128) -> Result<Self::Ok, Self::Error>
-        ensures { Self.outcome self (datum.integer datum.u128 (pos v)) result };
+    final fn serialize_u128(self, v: u128) -> Result<Self::Ok, Self::Error>
+        ensures { Self.outcome self (datum.integer datum.u128 (pos v)) result }
+    {
+        self.serialize_integer(Integer::U128(v))
+    }
 
     /// Writes a character.
     ///

@@ -6,6 +6,7 @@ pub mod Equal
 pub mod Fault
 pub mod HasBytes
 pub mod Integer
+pub mod IntegerTypes
 pub mod Item
 pub mod Kind
 pub mod KindText

@@ -11,7 +11,7 @@ use crate::{
     SerializerTupleVariant, Target, set,
 };
 use dynamo_ser::{Outcomes, Wrapper};
-use dynamo_value::{AttributeValue, Error, Result};
+use dynamo_value::{AttributeValue, Error, Integer, Result};
 use std::alloc::Global;
 
 /// The serializer of attribute values.
@@ -110,44 +110,8 @@ impl dynamo_ser::Serializer for Serializer {
         Ok(AttributeValue::Bool(v))
     }
 
-    fn serialize_i8(self, v: i8) -> Result<AttributeValue> {
-        Ok(AttributeValue::N(v.to_string(self.alloc)?))
-    }
-
-    fn serialize_i16(self, v: i16) -> Result<AttributeValue> {
-        Ok(AttributeValue::N(v.to_string(self.alloc)?))
-    }
-
-    fn serialize_i32(self, v: i32) -> Result<AttributeValue> {
-        Ok(AttributeValue::N(v.to_string(self.alloc)?))
-    }
-
-    fn serialize_i64(self, v: i64) -> Result<AttributeValue> {
-        Ok(AttributeValue::N(v.to_string(self.alloc)?))
-    }
-
-    fn serialize_i128(self, v: i128) -> Result<AttributeValue> {
-        Ok(AttributeValue::N(v.to_string(self.alloc)?))
-    }
-
-    fn serialize_u8(self, v: u8) -> Result<AttributeValue> {
-        Ok(AttributeValue::N(v.to_string(self.alloc)?))
-    }
-
-    fn serialize_u16(self, v: u16) -> Result<AttributeValue> {
-        Ok(AttributeValue::N(v.to_string(self.alloc)?))
-    }
-
-    fn serialize_u32(self, v: u32) -> Result<AttributeValue> {
-        Ok(AttributeValue::N(v.to_string(self.alloc)?))
-    }
-
-    fn serialize_u64(self, v: u64) -> Result<AttributeValue> {
-        Ok(AttributeValue::N(v.to_string(self.alloc)?))
-    }
-
-    fn serialize_u128(self, v: u128) -> Result<AttributeValue> {
-        Ok(AttributeValue::N(v.to_string(self.alloc)?))
+    fn serialize_integer(self, v: Integer) -> Result<AttributeValue> {
+        Ok(AttributeValue::N(v.decimal(self.alloc)?))
     }
 
     fn serialize_char(self, v: char) -> Result<AttributeValue> {

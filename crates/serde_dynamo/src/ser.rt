@@ -2,7 +2,7 @@
 //! `Error` are also the names of types.
 
 pub use dynamo_ser::{
-    Error, ListBuilder, Outcomes, Serialize, SerializeMap, SerializeSeq, SerializeStruct,
-    SerializeStructVariant, SerializeTuple, SerializeTupleStruct, SerializeTupleVariant,
-    Serializer, StructBuilder, Wrapper,
+    Error, Integer, IntegerKind, ListBuilder, Outcomes, Serialize, SerializeMap, SerializeSeq,
+    SerializeStruct, SerializeStructVariant, SerializeTuple, SerializeTupleStruct,
+    SerializeTupleVariant, Serializer, StructBuilder, Wrapper,
 };

@@ -11,7 +11,7 @@ use super::builders::{
 };
 use super::numbers;
 use dynamo_ser::{Outcomes, Wrapper};
-use dynamo_value::{Error, Result};
+use dynamo_value::{Error, Integer, Result};
 use dynamo_write::Target;
 use serde_json::Value;
 use std::alloc::Global;
@@ -97,44 +97,19 @@ impl dynamo_ser::Serializer for Serializer {
         Ok(Value::Bool(v))
     }
 
-    fn serialize_i8(self, v: i8) -> Result<Value> {
-        Ok(numbers::signed(i64::from(v)))
-    }
-
-    fn serialize_i16(self, v: i16) -> Result<Value> {
-        Ok(numbers::signed(i64::from(v)))
-    }
-
-    fn serialize_i32(self, v: i32) -> Result<Value> {
-        Ok(numbers::signed(i64::from(v)))
-    }
-
-    fn serialize_i64(self, v: i64) -> Result<Value> {
-        Ok(numbers::signed(v))
-    }
-
-    fn serialize_i128(self, v: i128) -> Result<Value> {
-        numbers::wide_signed(self.alloc, v)
-    }
-
-    fn serialize_u8(self, v: u8) -> Result<Value> {
-        Ok(numbers::unsigned(u64::from(v)))
-    }
-
-    fn serialize_u16(self, v: u16) -> Result<Value> {
-        Ok(numbers::unsigned(u64::from(v)))
-    }
-
-    fn serialize_u32(self, v: u32) -> Result<Value> {
-        Ok(numbers::unsigned(u64::from(v)))
-    }
-
-    fn serialize_u64(self, v: u64) -> Result<Value> {
-        Ok(numbers::unsigned(v))
-    }
-
-    fn serialize_u128(self, v: u128) -> Result<Value> {
-        numbers::wide_unsigned(self.alloc, v)
+    fn serialize_integer(self, v: Integer) -> Result<Value> {
+        match v {
+            Integer::I8(v) => Ok(numbers::signed(i64::from(v))),
+            Integer::I16(v) => Ok(numbers::signed(i64::from(v))),
+            Integer::I32(v) => Ok(numbers::signed(i64::from(v))),
+            Integer::I64(v) => Ok(numbers::signed(v)),
+            Integer::I128(v) => numbers::wide_signed(self.alloc, v),
+            Integer::U8(v) => Ok(numbers::unsigned(u64::from(v))),
+            Integer::U16(v) => Ok(numbers::unsigned(u64::from(v))),
+            Integer::U32(v) => Ok(numbers::unsigned(u64::from(v))),
+            Integer::U64(v) => Ok(numbers::unsigned(v)),
+            Integer::U128(v) => numbers::wide_unsigned(self.alloc, v),
+        }
     }
 
     fn serialize_char(self, v: char) -> Result<Value> {

@@ -1,5 +1,6 @@
 use Rattle.dynamo_value.specs.Fault.{expected_num}
-use Rattle.dynamo_de.specs.Integers.{integer_showing, kind_of}
+use Rattle.dynamo_value.specs.IntegerTypes.{kind_of}
+use Rattle.dynamo_de.specs.Showing.{integer_showing}
 use Rattle.dynamo_leaf.proofs.Integers.{integer_is, integer_no}
 use Rattle.dynamo_leaf.proofs.leaf.show_key.Goals as goal
 

@@ -1,5 +1,8 @@
-ghost use Rattle.std.specs.Prelude.{◌≡◌};
-ghost use Rattle.dynamo_de.specs.Integers.{type_of};
+ghost use Rattle.std.specs.Prelude.{◌≡◌, MatchResult, string_bytes};
+ghost use Rattle.std.specs.Fmt.{signed_decimal};
+ghost use Rattle.dynamo_value.specs.IntegerTypes.{number_of, type_of};
+
+use std::alloc::{AllocError, Global};
 
 /// The ten integer types, by their sign and their bits.
 #[derive(Clone, Copy, Debug, PartialEq, Eq)]
@@ -67,6 +70,28 @@ impl Integer {
             Integer::U32(_) => IntegerKind::U32,
             Integer::U64(_) => IntegerKind::U64,
             Integer::U128(_) => IntegerKind::U128,
+        }
+    }
+
+    /// Returns the integer's decimal digits, with a `-` before them if it is negative.
+    ///
+    /// # Errors
+    ///
+    /// Returns an [`AllocError`] if memory runs out.
+    pub fn decimal(self, alloc: Global) -> Result<String, AllocError>
+        ensures { MatchResult result (λ text. string_bytes text ≡ signed_decimal (number_of self)) (λ e. Unit {0}) }
+    {
+        match self {
+            Integer::I8(v) => v.to_string(alloc),
+            Integer::I16(v) => v.to_string(alloc),
+            Integer::I32(v) => v.to_string(alloc),
+            Integer::I64(v) => v.to_string(alloc),
+            Integer::I128(v) => v.to_string(alloc),
+            Integer::U8(v) => v.to_string(alloc),
+            Integer::U16(v) => v.to_string(alloc),
+            Integer::U32(v) => v.to_string(alloc),
+            Integer::U64(v) => v.to_string(alloc),
+            Integer::U128(v) => v.to_string(alloc),
         }
     }
 }
