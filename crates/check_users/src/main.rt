@@ -1,7 +1,8 @@
-//! Reads the lines of an export from its input, and prints which of them are not users of the samples. The last line says how many
-//! lines were read and failed. `--summary` prints how many lines have which error at which place in place of the lines.
-//! `--max-line BYTES` says how long a line may be, 4 MiB if it is left out. The status is 0 if all are users, 1 if not, and 2 for other
-//! arguments.
+//! Reads the lines of an export from its input, and prints which of them are not users of the
+//! samples. The last line says how many lines were read and failed. `--summary` prints how many
+//! lines have which error at which place in place of the lines. `--max-line BYTES` says how long a
+//! line may be, 4 MiB if it is left out. The status is 0 if all are users, 1 if not, and 2 for
+//! other arguments.
 #![tactic(auto)]
 
 use exports::{Finding, Groups, Lines, Summary, next_value};
@@ -10,7 +11,8 @@ use std::io::{BufRead, BufReader};
 use std::process::ExitCode;
 use std::{env, io};
 
-// How many bytes a line may have if the arguments don't say: an item has at most 400 KB in DynamoDB.
+// How many bytes a line may have if the arguments don't say: an item has at most 400 KB in
+// DynamoDB.
 const MAX_LINE: usize = 4 << 20;
 
 // How many places the summary may have.

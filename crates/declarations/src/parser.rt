@@ -272,7 +272,8 @@ fn unnamed_field(alloc: Global, tokens: &[Token], line: u32) -> Result<String, F
 }
 
 /// The named fields between braces. Where they have no names of their own, those that they are
-/// written under go by the rule. With `all_default` each has a default, as by `default` on the struct.
+/// written under go by the rule. With `all_default` each has a default, as by `default` on the
+/// struct.
 ///
 /// # Errors
 ///

@@ -1,6 +1,7 @@
 ghost use Rattle.std.specs.Prelude.{◌≡◌, ◌≢◌, IfOk, MatchOption, string_bytes};
 ghost use Rattle.declarations.specs.declared.rename.RenameRule.{RenameRule};
-ghost use Rattle.declarations.specs.Renamed.{rule_name, renamed_field, renamed_variant, stored_name};
+ghost use Rattle.declarations.specs.Renamed.{rule_name, renamed_field, renamed_variant};
+ghost use Rattle.declarations.specs.Renamed.{stored_name};
 ghost use Rattle.declarations.specs.Renamed.{pascal, camel, snake, kebab};
 
 use std::alloc::{AllocError, Global};

@@ -25,8 +25,8 @@ fn is_by_rules(declarations: &[Declaration], name: &str) -> bool {
 }
 
 /// Checks that each enum with a tag can be described: a newtype variant holds a struct of these
-/// declarations, which has no `alias` and no `deny_unknown_fields`, and no field has the name of the
-/// tag.
+/// declarations, which has no `alias` and no `deny_unknown_fields`, and no field has the name of
+/// the tag.
 ///
 /// # Errors
 ///

@@ -81,7 +81,8 @@ pub fn text(alloc: Global, text: &String) -> Result<AttributeValue>
 ///
 /// Returns the error of [`to_attribute_value`].
 pub fn optional(alloc: Global, b: Option<bool>) -> Result<AttributeValue>
-    ensures { IfOk result (λ v. MatchOption b (view v ≡ av.Null true) (λ c. view v ≡ av.Boolean c)) }
+    ensures { IfOk result
+        (λ v. MatchOption b (view v ≡ av.Null true) (λ c. view v ≡ av.Boolean c)) }
 {
     let value = to_attribute_value(alloc, &b)?;
     Ok(value)
@@ -93,7 +94,8 @@ pub fn optional(alloc: Global, b: Option<bool>) -> Result<AttributeValue>
 ///
 /// Returns the error of [`to_attribute_value`].
 pub fn numbers(alloc: Global, numbers: &Vec<u64>) -> Result<AttributeValue>
-    ensures { IfOk result (λ v. view v ≡ av.L (elements_of (map (λ n. av.N (decimal n)) numbers.now.items))) }
+    ensures { IfOk result
+        (λ v. view v ≡ av.L (elements_of (map (λ n. av.N (decimal n)) numbers.now.items))) }
 {
     let value = to_attribute_value(alloc, numbers)?;
     Ok(value)

@@ -86,8 +86,12 @@ pub fn stored_address(
     alloc: Global,
     address: &Address,
 ) -> serde_dynamo::Result<(AttributeValue, Value, Address)>
-    ensures city { MatchResult result (λ parts. string_bytes address.now.city ≡ string_bytes parts.2.city) (λ e. fault_of e ≡ out_of_memory) }
-    ensures zip { MatchResult result (λ parts. SameOption (λ a b. a ≡ b) address.now.zip parts.2.zip) (λ e. fault_of e ≡ out_of_memory) }
+    ensures city { MatchResult result
+        (λ parts. string_bytes address.now.city ≡ string_bytes parts.2.city)
+        (λ e. fault_of e ≡ out_of_memory) }
+    ensures zip { MatchResult result
+        (λ parts. SameOption (λ a b. a ≡ b) address.now.zip parts.2.zip)
+        (λ e. fault_of e ≡ out_of_memory) }
 {
     reread(alloc, address)
 }

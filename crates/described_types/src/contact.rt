@@ -124,8 +124,11 @@ pub fn stored_contact(
     alloc: Global,
     contact: &Contact,
 ) -> serde_dynamo::Result<(AttributeValue, Value, Contact)>
-    ensures id { MatchResult result (λ parts. string_bytes contact.now.id ≡ string_bytes parts.2.id) (λ e. fault_of e ≡ out_of_memory) }
-    ensures phone { MatchResult result (λ parts. string_bytes contact.now.phone ≡ string_bytes parts.2.phone) (λ e. fault_of e ≡ out_of_memory) }
+    ensures id { MatchResult result (λ parts. string_bytes contact.now.id ≡ string_bytes parts.2.id)
+        (λ e. fault_of e ≡ out_of_memory) }
+    ensures phone { MatchResult result
+        (λ parts. string_bytes contact.now.phone ≡ string_bytes parts.2.phone)
+        (λ e. fault_of e ≡ out_of_memory) }
     ensures email { MatchResult result (λ parts. SameOption (λ a b. string_bytes a ≡ string_bytes b)
         contact.now.email parts.2.email) (λ e. fault_of e ≡ out_of_memory) }
     ensures groups { MatchResult result (λ parts. SameEach (λ a b. string_bytes a ≡ string_bytes b)

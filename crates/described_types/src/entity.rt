@@ -237,9 +237,27 @@ pub fn stored_entity(
     alloc: Global,
     entity: &Entity,
 ) -> serde_dynamo::Result<(AttributeValue, Value, Entity)>
-    ensures customer { (customer : Customer) → entity.now ≡ is.Customer customer → MatchResult result (λ parts. elim parts.2 [ is.Customer other ↦ (string_bytes customer.id ≡ string_bytes other.id) × (string_bytes customer.name ≡ string_bytes other.name) × SameOption (λ a b. string_bytes a ≡ string_bytes b) customer.email other.email | _ ↦ ⊥ ]) (λ e. fault_of e ≡ out_of_memory) }
-    ensures order { (id customer : String Global) (note : Option (String Global)) → entity.now ≡ is.Order id customer note → MatchResult result (λ parts. elim parts.2 [ is.Order other other_customer other_note ↦ (string_bytes id ≡ string_bytes other) × (string_bytes customer ≡ string_bytes other_customer) × SameOption (λ a b. string_bytes a ≡ string_bytes b) note other_note | _ ↦ ⊥ ]) (λ e. fault_of e ≡ out_of_memory) }
-    ensures counter { entity.now ≡ is.Counter → MatchResult result (λ parts. parts.2 ≡ is.Counter) (λ e. fault_of e ≡ out_of_memory) }
+    ensures customer { (customer : Customer) → entity.now ≡ is.Customer customer
+        → MatchResult result
+        (λ parts. elim parts.2 [
+          | is.Customer other
+              ↦ (string_bytes customer.id ≡ string_bytes other.id)
+              × (string_bytes customer.name ≡ string_bytes other.name)
+              × SameOption (λ a b. string_bytes a ≡ string_bytes b) customer.email other.email
+          | _ ↦ ⊥
+        ]) (λ e. fault_of e ≡ out_of_memory) }
+    ensures order { (id customer : String Global) (note : Option (String Global))
+        → entity.now ≡ is.Order id customer note
+        → MatchResult result
+        (λ parts. elim parts.2 [
+          | is.Order other other_customer other_note
+              ↦ (string_bytes id ≡ string_bytes other)
+              × (string_bytes customer ≡ string_bytes other_customer)
+              × SameOption (λ a b. string_bytes a ≡ string_bytes b) note other_note
+          | _ ↦ ⊥
+        ]) (λ e. fault_of e ≡ out_of_memory) }
+    ensures counter { entity.now ≡ is.Counter
+        → MatchResult result (λ parts. parts.2 ≡ is.Counter) (λ e. fault_of e ≡ out_of_memory) }
 {
     reread_clear(alloc, entity)
 }

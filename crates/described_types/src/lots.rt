@@ -90,8 +90,12 @@ pub fn stored_lots(
     alloc: Global,
     lots: &Lots,
 ) -> serde_dynamo::Result<(AttributeValue, Value, Lots)>
-    ensures hashed { MatchResult result (λ parts. SameMap (hashed.get ⟦<Side as ShapedKey>⟧.about_key.eq) (λ a b. a ≡ b) lots.now.hashed parts.2.hashed) (λ e. fault_of e ≡ out_of_memory) }
-    ensures sorted { MatchResult result (λ parts. SameMap (sorted.get ⟦<Side as ShapedKey>⟧.about_key.cmp) (λ a b. a ≡ b) lots.now.sorted parts.2.sorted) (λ e. fault_of e ≡ out_of_memory) }
+    ensures hashed { MatchResult result
+        (λ parts. SameMap (hashed.get ⟦<Side as ShapedKey>⟧.about_key.eq) (λ a b. a ≡ b)
+        lots.now.hashed parts.2.hashed) (λ e. fault_of e ≡ out_of_memory) }
+    ensures sorted { MatchResult result
+        (λ parts. SameMap (sorted.get ⟦<Side as ShapedKey>⟧.about_key.cmp) (λ a b. a ≡ b)
+        lots.now.sorted parts.2.sorted) (λ e. fault_of e ≡ out_of_memory) }
 {
     reread(alloc, lots)
 }

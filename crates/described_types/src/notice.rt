@@ -131,8 +131,15 @@ pub fn stored_notice(
     alloc: Global,
     notice: &Notice,
 ) -> serde_dynamo::Result<(AttributeValue, Value, Notice)>
-    ensures closed { notice.now ≡ is.Closed → MatchResult result (λ parts. parts.2 ≡ is.Closed) (λ e. fault_of e ≡ out_of_memory) }
-    ensures answered { (by : String Global) (after : Option ℕ) → notice.now ≡ is.Answered by after → MatchResult result (λ parts. elim parts.2 [ is.Answered other other_after ↦ (string_bytes by ≡ string_bytes other) × SameOption (λ a b. a ≡ b) after other_after | _ ↦ ⊥ ]) (λ e. fault_of e ≡ out_of_memory) }
+    ensures closed { notice.now ≡ is.Closed
+        → MatchResult result (λ parts. parts.2 ≡ is.Closed) (λ e. fault_of e ≡ out_of_memory) }
+    ensures answered { (by : String Global) (after : Option ℕ) → notice.now ≡ is.Answered by after
+        → MatchResult result
+        (λ parts. elim parts.2 [
+          | is.Answered other other_after
+              ↦ (string_bytes by ≡ string_bytes other) × SameOption (λ a b. a ≡ b) after other_after
+          | _ ↦ ⊥
+        ]) (λ e. fault_of e ≡ out_of_memory) }
 {
     reread_clear(alloc, notice)
 }

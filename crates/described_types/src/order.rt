@@ -120,13 +120,25 @@ pub fn stored_order(
     alloc: Global,
     order: &Order,
 ) -> serde_dynamo::Result<(AttributeValue, Value, Order)>
-    ensures id { MatchResult result (λ parts. string_bytes order.now.id ≡ string_bytes parts.2.id) (λ e. fault_of e ≡ out_of_memory) }
-    ensures count { MatchResult result (λ parts. order.now.count ≡ parts.2.count) (λ e. fault_of e ≡ out_of_memory) }
-    ensures note { MatchResult result (λ parts. SameOption (λ a b. string_bytes a ≡ string_bytes b) order.now.note parts.2.note) (λ e. fault_of e ≡ out_of_memory) }
-    ensures tags { MatchResult result (λ parts. SameEach (λ a b. string_bytes a ≡ string_bytes b) order.now.tags.items parts.2.tags.items) (λ e. fault_of e ≡ out_of_memory) }
-    ensures stock { MatchResult result (λ parts. SameMap (hashed.get string_eq) (λ a b. a ≡ b) order.now.stock parts.2.stock) (λ e. fault_of e ≡ out_of_memory) }
-    ensures home_city { MatchResult result (λ parts. string_bytes order.now.home.city ≡ string_bytes parts.2.home.city) (λ e. fault_of e ≡ out_of_memory) }
-    ensures home_zip { MatchResult result (λ parts. SameOption (λ a b. a ≡ b) order.now.home.zip parts.2.home.zip) (λ e. fault_of e ≡ out_of_memory) }
+    ensures id { MatchResult result (λ parts. string_bytes order.now.id ≡ string_bytes parts.2.id)
+        (λ e. fault_of e ≡ out_of_memory) }
+    ensures count { MatchResult result (λ parts. order.now.count ≡ parts.2.count)
+        (λ e. fault_of e ≡ out_of_memory) }
+    ensures note { MatchResult result
+        (λ parts. SameOption (λ a b. string_bytes a ≡ string_bytes b) order.now.note parts.2.note)
+        (λ e. fault_of e ≡ out_of_memory) }
+    ensures tags { MatchResult result
+        (λ parts. SameEach (λ a b. string_bytes a ≡ string_bytes b) order.now.tags.items
+        parts.2.tags.items) (λ e. fault_of e ≡ out_of_memory) }
+    ensures stock { MatchResult result
+        (λ parts. SameMap (hashed.get string_eq) (λ a b. a ≡ b) order.now.stock parts.2.stock)
+        (λ e. fault_of e ≡ out_of_memory) }
+    ensures home_city { MatchResult result
+        (λ parts. string_bytes order.now.home.city ≡ string_bytes parts.2.home.city)
+        (λ e. fault_of e ≡ out_of_memory) }
+    ensures home_zip { MatchResult result
+        (λ parts. SameOption (λ a b. a ≡ b) order.now.home.zip parts.2.home.zip)
+        (λ e. fault_of e ≡ out_of_memory) }
 {
     reread(alloc, order)
 }

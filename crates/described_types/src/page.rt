@@ -82,13 +82,20 @@ impl<T: Shaped> Shaped for Page<T> {
 ///
 /// # Errors
 ///
-/// [`OutOfMemory`](serde_dynamo::ErrorImpl::OutOfMemory) alone, where the shape of the items is clear.
+/// [`OutOfMemory`](serde_dynamo::ErrorImpl::OutOfMemory) alone, where the shape of the items is
+/// clear.
 pub fn stored_page<T: Shaped>(
     alloc: Global,
     page: &Page<T>,
 ) -> serde_dynamo::Result<(AttributeValue, Value, Page<T>)>
-    ensures items { Clear T.about.shape → MatchResult result (λ parts. SameEach T.about.same page.now.items.items parts.2.items.items) (λ e. fault_of e ≡ out_of_memory) }
-    ensures next { Clear T.about.shape → MatchResult result (λ parts. SameOption (λ a b. string_bytes a ≡ string_bytes b) page.now.next parts.2.next) (λ e. fault_of e ≡ out_of_memory) }
+    ensures items { Clear T.about.shape
+        → MatchResult result
+        (λ parts. SameEach T.about.same page.now.items.items parts.2.items.items)
+        (λ e. fault_of e ≡ out_of_memory) }
+    ensures next { Clear T.about.shape
+        → MatchResult result
+        (λ parts. SameOption (λ a b. string_bytes a ≡ string_bytes b) page.now.next parts.2.next)
+        (λ e. fault_of e ≡ out_of_memory) }
 {
     reread(alloc, page)
 }

@@ -86,8 +86,10 @@ pub fn stored_parcel(
     alloc: Global,
     parcel: &Parcel,
 ) -> serde_dynamo::Result<(AttributeValue, Value, Parcel)>
-    ensures seal { MatchResult result (λ parts. parcel.now.seal ≡ parts.2.seal) (λ e. fault_of e ≡ out_of_memory) }
-    ensures weight { MatchResult result (λ parts. parcel.now.weight.0 ≡ parts.2.weight.0) (λ e. fault_of e ≡ out_of_memory) }
+    ensures seal { MatchResult result (λ parts. parcel.now.seal ≡ parts.2.seal)
+        (λ e. fault_of e ≡ out_of_memory) }
+    ensures weight { MatchResult result (λ parts. parcel.now.weight.0 ≡ parts.2.weight.0)
+        (λ e. fault_of e ≡ out_of_memory) }
 {
     reread(alloc, parcel)
 }

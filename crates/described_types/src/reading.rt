@@ -83,9 +83,14 @@ pub fn stored_reading(
     alloc: Global,
     reading: &Reading,
 ) -> serde_dynamo::Result<(AttributeValue, Value, Reading)>
-    ensures second { MatchResult result (λ parts. reading.now.0 ≡ parts.2.0) (λ e. fault_of e ≡ out_of_memory) }
-    ensures unit { MatchResult result (λ parts. SameOption (λ a b. string_bytes a ≡ string_bytes b) reading.now.1 parts.2.1) (λ e. fault_of e ≡ out_of_memory) }
-    ensures samples { MatchResult result (λ parts. SameEach (λ a b. a ≡ b) reading.now.2.items parts.2.2.items) (λ e. fault_of e ≡ out_of_memory) }
+    ensures second { MatchResult result (λ parts. reading.now.0 ≡ parts.2.0)
+        (λ e. fault_of e ≡ out_of_memory) }
+    ensures unit { MatchResult result
+        (λ parts. SameOption (λ a b. string_bytes a ≡ string_bytes b) reading.now.1 parts.2.1)
+        (λ e. fault_of e ≡ out_of_memory) }
+    ensures samples { MatchResult result
+        (λ parts. SameEach (λ a b. a ≡ b) reading.now.2.items parts.2.2.items)
+        (λ e. fault_of e ≡ out_of_memory) }
 {
     reread(alloc, reading)
 }

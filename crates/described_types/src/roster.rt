@@ -156,15 +156,28 @@ pub fn stored_roster(
     alloc: Global,
     roster: &Roster,
 ) -> serde_dynamo::Result<(AttributeValue, Value, Roster)>
-    ensures id { MatchResult result (λ parts. string_bytes roster.now.id ≡ string_bytes parts.2.id) (λ e. fault_of e ≡ out_of_memory) }
-    ensures names { MatchResult result (λ parts. SameSet (sorted.contains string_cmp) roster.now.names parts.2.names) (λ e. fault_of e ≡ out_of_memory) }
-    ensures badges { MatchResult result (λ parts. SameSet (sorted.contains nat_cmp) roster.now.badges parts.2.badges) (λ e. fault_of e ≡ out_of_memory) }
-    ensures tokens { MatchResult result (λ parts. SameSet (sorted.contains (λ a b. slice_cmp nat_cmp (octets_of a) (octets_of b)))
+    ensures id { MatchResult result (λ parts. string_bytes roster.now.id ≡ string_bytes parts.2.id)
+        (λ e. fault_of e ≡ out_of_memory) }
+    ensures names { MatchResult result
+        (λ parts. SameSet (sorted.contains string_cmp) roster.now.names parts.2.names)
+        (λ e. fault_of e ≡ out_of_memory) }
+    ensures badges { MatchResult result
+        (λ parts. SameSet (sorted.contains nat_cmp) roster.now.badges parts.2.badges)
+        (λ e. fault_of e ≡ out_of_memory) }
+    ensures tokens { MatchResult result
+        (λ parts. SameSet (sorted.contains (λ a b. slice_cmp nat_cmp (octets_of a) (octets_of b)))
         roster.now.tokens parts.2.tokens) (λ e. fault_of e ≡ out_of_memory) }
-    ensures hours { MatchResult result (λ parts. SameSet (sorted.contains nat_cmp) roster.now.hours parts.2.hours) (λ e. fault_of e ≡ out_of_memory) }
-    ensures skills { MatchResult result (λ parts. SameSet (hashed.contains string_eq) roster.now.skills parts.2.skills) (λ e. fault_of e ≡ out_of_memory) }
-    ensures rooms { MatchResult result (λ parts. SameSet (hashed.contains nat_eq) roster.now.rooms parts.2.rooms) (λ e. fault_of e ≡ out_of_memory) }
-    ensures seals { MatchResult result (λ parts. SameSet (hashed.contains (λ a b. pointwise nat_eq (octets_of a) (octets_of b)))
+    ensures hours { MatchResult result
+        (λ parts. SameSet (sorted.contains nat_cmp) roster.now.hours parts.2.hours)
+        (λ e. fault_of e ≡ out_of_memory) }
+    ensures skills { MatchResult result
+        (λ parts. SameSet (hashed.contains string_eq) roster.now.skills parts.2.skills)
+        (λ e. fault_of e ≡ out_of_memory) }
+    ensures rooms { MatchResult result
+        (λ parts. SameSet (hashed.contains nat_eq) roster.now.rooms parts.2.rooms)
+        (λ e. fault_of e ≡ out_of_memory) }
+    ensures seals { MatchResult result
+        (λ parts. SameSet (hashed.contains (λ a b. pointwise nat_eq (octets_of a) (octets_of b)))
         roster.now.seals parts.2.seals) (λ e. fault_of e ≡ out_of_memory) }
 {
     reread_clear(alloc, roster)

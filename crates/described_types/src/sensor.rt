@@ -102,9 +102,14 @@ pub fn stored_sensor(
     alloc: Global,
     sensor: &Sensor,
 ) -> serde_dynamo::Result<(AttributeValue, Value, Sensor)>
-    ensures name { MatchResult result (λ parts. string_bytes sensor.now.name ≡ string_bytes parts.2.name) (λ e. fault_of e ≡ out_of_memory) }
-    ensures labels { MatchResult result (λ parts. SameEach (λ a b. string_bytes a ≡ string_bytes b) sensor.now.labels.items parts.2.labels.items) (λ e. fault_of e ≡ out_of_memory) }
-    ensures retries { MatchResult result (λ parts. sensor.now.retries ≡ parts.2.retries) (λ e. fault_of e ≡ out_of_memory) }
+    ensures name { MatchResult result
+        (λ parts. string_bytes sensor.now.name ≡ string_bytes parts.2.name)
+        (λ e. fault_of e ≡ out_of_memory) }
+    ensures labels { MatchResult result
+        (λ parts. SameEach (λ a b. string_bytes a ≡ string_bytes b) sensor.now.labels.items
+        parts.2.labels.items) (λ e. fault_of e ≡ out_of_memory) }
+    ensures retries { MatchResult result (λ parts. sensor.now.retries ≡ parts.2.retries)
+        (λ e. fault_of e ≡ out_of_memory) }
 {
     reread(alloc, sensor)
 }

@@ -134,7 +134,8 @@ pub fn stored_settings(
     alloc: Global,
     settings: &Settings,
 ) -> serde_dynamo::Result<(AttributeValue, Value, Settings)>
-    ensures colors { MatchResult result (λ parts. SameMap (sorted.get string_cmp) (λ a b. string_bytes a ≡ string_bytes b)
+    ensures colors { MatchResult result
+        (λ parts. SameMap (sorted.get string_cmp) (λ a b. string_bytes a ≡ string_bytes b)
         settings.now.colors parts.2.colors) (λ e. fault_of e ≡ out_of_memory) }
     ensures volumes { MatchResult result (λ parts. SameMap (hashed.get string_eq) (λ a b. a ≡ b)
         settings.now.volumes parts.2.volumes) (λ e. fault_of e ≡ out_of_memory) }

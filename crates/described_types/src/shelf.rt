@@ -90,8 +90,12 @@ pub fn stored_shelf(
     alloc: Global,
     shelf: &Shelf,
 ) -> serde_dynamo::Result<(AttributeValue, Value, Shelf)>
-    ensures name { MatchResult result (λ parts. string_bytes shelf.now.name ≡ string_bytes parts.2.name) (λ e. fault_of e ≡ out_of_memory) }
-    ensures articles { MatchResult result (λ parts. SameMap (sorted.get (λ c d. string_cmp c.0 d.0)) (λ a b. a ≡ b) shelf.now.articles parts.2.articles) (λ e. fault_of e ≡ out_of_memory) }
+    ensures name { MatchResult result
+        (λ parts. string_bytes shelf.now.name ≡ string_bytes parts.2.name)
+        (λ e. fault_of e ≡ out_of_memory) }
+    ensures articles { MatchResult result
+        (λ parts. SameMap (sorted.get (λ c d. string_cmp c.0 d.0)) (λ a b. a ≡ b) shelf.now.articles
+        parts.2.articles) (λ e. fault_of e ≡ out_of_memory) }
 {
     reread(alloc, shelf)
 }

@@ -145,10 +145,24 @@ pub fn stored_shipment(
     alloc: Global,
     shipment: &Shipment,
 ) -> serde_dynamo::Result<(AttributeValue, Value, Shipment)>
-    ensures waiting { shipment.now ≡ is.Waiting → MatchResult result (λ parts. parts.2 ≡ is.Waiting) (λ e. fault_of e ≡ out_of_memory) }
-    ensures tracked { (number : String Global) → shipment.now ≡ is.Tracked number → MatchResult result (λ parts. elim parts.2 [ is.Tracked other ↦ string_bytes number ≡ string_bytes other | _ ↦ ⊥ ]) (λ e. fault_of e ≡ out_of_memory) }
-    ensures between { (from next : ℕ) → shipment.now ≡ is.Between from next → MatchResult result (λ parts. parts.2 ≡ is.Between from next) (λ e. fault_of e ≡ out_of_memory) }
-    ensures delivered { (at : ℕ) (to : Address) → shipment.now ≡ is.Delivered at to → MatchResult result (λ parts. elim parts.2 [ is.Delivered other_at other ↦ (at ≡ other_at) × (string_bytes to.city ≡ string_bytes other.city) × SameOption (λ a b. a ≡ b) to.zip other.zip | _ ↦ ⊥ ]) (λ e. fault_of e ≡ out_of_memory) }
+    ensures waiting { shipment.now ≡ is.Waiting
+        → MatchResult result (λ parts. parts.2 ≡ is.Waiting) (λ e. fault_of e ≡ out_of_memory) }
+    ensures tracked { (number : String Global) → shipment.now ≡ is.Tracked number
+        → MatchResult result
+        (λ parts. elim parts.2
+        [ is.Tracked other ↦ string_bytes number ≡ string_bytes other | _ ↦ ⊥ ])
+        (λ e. fault_of e ≡ out_of_memory) }
+    ensures between { (from next : ℕ) → shipment.now ≡ is.Between from next
+        → MatchResult result (λ parts. parts.2 ≡ is.Between from next)
+        (λ e. fault_of e ≡ out_of_memory) }
+    ensures delivered { (at : ℕ) (to : Address) → shipment.now ≡ is.Delivered at to
+        → MatchResult result
+        (λ parts. elim parts.2 [
+          | is.Delivered other_at other
+              ↦ (at ≡ other_at) × (string_bytes to.city ≡ string_bytes other.city)
+              × SameOption (λ a b. a ≡ b) to.zip other.zip
+          | _ ↦ ⊥
+        ]) (λ e. fault_of e ≡ out_of_memory) }
 {
     reread(alloc, shipment)
 }

@@ -87,9 +87,14 @@ pub fn stored_station(
     alloc: Global,
     station: &Station,
 ) -> serde_dynamo::Result<(AttributeValue, Value, Station)>
-    ensures id { MatchResult result (λ parts. string_bytes station.now.id ≡ string_bytes parts.2.id) (λ e. fault_of e ≡ out_of_memory) }
-    ensures reading { MatchResult result (λ parts. SameOption (λ a b. a ≡ b) station.now.reading parts.2.reading) (λ e. fault_of e ≡ out_of_memory) }
-    ensures tags { MatchResult result (λ parts. SameEach (λ a b. string_bytes a ≡ string_bytes b) station.now.tags.items parts.2.tags.items) (λ e. fault_of e ≡ out_of_memory) }
+    ensures id { MatchResult result (λ parts. string_bytes station.now.id ≡ string_bytes parts.2.id)
+        (λ e. fault_of e ≡ out_of_memory) }
+    ensures reading { MatchResult result
+        (λ parts. SameOption (λ a b. a ≡ b) station.now.reading parts.2.reading)
+        (λ e. fault_of e ≡ out_of_memory) }
+    ensures tags { MatchResult result
+        (λ parts. SameEach (λ a b. string_bytes a ≡ string_bytes b) station.now.tags.items
+        parts.2.tags.items) (λ e. fault_of e ≡ out_of_memory) }
 {
     reread(alloc, station)
 }

@@ -147,17 +147,22 @@ pub fn stored_ticket(
     alloc: Global,
     ticket: &Ticket,
 ) -> serde_dynamo::Result<(AttributeValue, Value, Ticket)>
-    ensures id { MatchResult result (λ parts. string_bytes ticket.now.id ≡ string_bytes parts.2.id) (λ e. fault_of e ≡ out_of_memory) }
-    ensures assigned_to { MatchResult result (λ parts. SameOption (λ a b. string_bytes a ≡ string_bytes b)
-        ticket.now.assigned_to parts.2.assigned_to) (λ e. fault_of e ≡ out_of_memory) }
-    ensures note { MatchResult result (λ parts. string_bytes ticket.now.note ≡ string_bytes parts.2.note) (λ e. fault_of e ≡ out_of_memory) }
+    ensures id { MatchResult result (λ parts. string_bytes ticket.now.id ≡ string_bytes parts.2.id)
+        (λ e. fault_of e ≡ out_of_memory) }
+    ensures assigned_to { MatchResult result
+        (λ parts. SameOption (λ a b. string_bytes a ≡ string_bytes b) ticket.now.assigned_to
+        parts.2.assigned_to) (λ e. fault_of e ≡ out_of_memory) }
+    ensures note { MatchResult result
+        (λ parts. string_bytes ticket.now.note ≡ string_bytes parts.2.note)
+        (λ e. fault_of e ≡ out_of_memory) }
     ensures replies { MatchResult result (λ parts. SameEach (λ a b. string_bytes a ≡ string_bytes b)
         ticket.now.replies.items parts.2.replies.items) (λ e. fault_of e ≡ out_of_memory) }
     ensures labels { MatchResult result (λ parts. SameEach (λ a b. string_bytes a ≡ string_bytes b)
         ticket.now.labels.items parts.2.labels.items) (λ e. fault_of e ≡ out_of_memory) }
     ensures minutes { MatchResult result (λ parts. SameMap (hashed.get string_eq) (λ a b. a ≡ b)
         ticket.now.minutes parts.2.minutes) (λ e. fault_of e ≡ out_of_memory) }
-    ensures links { MatchResult result (λ parts. SameMap (sorted.get string_cmp) (λ a b. string_bytes a ≡ string_bytes b)
+    ensures links { MatchResult result
+        (λ parts. SameMap (sorted.get string_cmp) (λ a b. string_bytes a ≡ string_bytes b)
         ticket.now.links parts.2.links) (λ e. fault_of e ≡ out_of_memory) }
 {
     reread_clear(alloc, ticket)

@@ -1,6 +1,7 @@
 ghost use Rattle.std.specs.Prelude.{ℕ, List, Option, Result, IsOk};
 ghost use Rattle.dynamo_value.specs.Fault.{Fault};
-ghost use Rattle.dynamo_de.specs.Access.{MapLeft, NextElement, NextKey, NextValue, NextEntry, ReadsVariant, OfContent, Hints};
+ghost use Rattle.dynamo_de.specs.Access.{MapLeft, NextElement, NextKey, NextValue, NextEntry};
+ghost use Rattle.dynamo_de.specs.Access.{ReadsVariant, OfContent, Hints};
 ghost use Rattle.dynamo_de.specs.Meets.{Meets};
 ghost use Rattle.dynamo_de.specs.Shown.{shown};
 ghost use Rattle.dynamo_de.specs.Shows.{IsReaderOf};
@@ -29,7 +30,8 @@ pub trait SeqAccess: Sized + Drop {
         &mut self,
         seed: T,
     ) -> Result<Option<T::Value>, Self::Error>
-        ensures { NextElement Self.Error.fault (T.reads seed) (left self.old) (left self.new) result };
+        ensures { NextElement Self.Error.fault (T.reads seed) (left self.old) (left self.new)
+            result };
 
     /// Reads the next element, or returns `None` after the last one.
     ///
@@ -83,7 +85,8 @@ pub trait MapAccess: Sized + Drop {
     /// Returns the error of reading the value. The value is taken first, so it isn't pending any
     /// more.
     fn next_value_seed<V: DeserializeSeed>(&mut self, seed: V) -> Result<V::Value, Self::Error>
-        ensures { NextValue Self.Error.fault (V.reads seed) (left self.old) (left self.new) result };
+        ensures { NextValue Self.Error.fault (V.reads seed) (left self.old) (left self.new)
+            result };
 
     /// Reads the next key and its value with seeds, or returns `None` after the last one.
     ///
@@ -96,7 +99,8 @@ pub trait MapAccess: Sized + Drop {
         key_seed: K,
         value_seed: V,
     ) -> Result<Option<(K::Value, V::Value)>, Self::Error>
-        ensures { NextEntry Self.Error.fault (K.reads key_seed) (V.reads value_seed) (left self.old) (left self.new) result }
+        ensures { NextEntry Self.Error.fault (K.reads key_seed) (V.reads value_seed) (left self.old)
+            (left self.new) result }
     {
         match self.next_key_seed(key_seed)? {
             None => Ok(None),
@@ -143,7 +147,8 @@ pub trait MapAccess: Sized + Drop {
         &mut self,
         alloc: Global,
     ) -> Result<Option<(K, V)>, Self::Error>
-        ensures { NextEntry Self.Error.fault K.reads V.reads (left self.old) (left self.new) result }
+        ensures { NextEntry Self.Error.fault K.reads V.reads (left self.old) (left self.new)
+            result }
     {
         self.next_entry_seed(TypeSeed::<K>::new(alloc), TypeSeed::<V>::new(alloc))
     }
@@ -177,7 +182,8 @@ pub trait EnumAccess: Sized + Drop {
         self,
         seed: S,
     ) -> Result<(S::Value, Self::Variant), Self::Error>
-        ensures { ReadsVariant Self.Error.fault (S.reads seed) Self.Variant.content (chosen self) result };
+        ensures { ReadsVariant Self.Error.fault (S.reads seed) Self.Variant.content (chosen self)
+            result };
 
     /// Reads the variant's name, and returns it with the access to the content.
     ///
@@ -218,7 +224,8 @@ pub trait VariantAccess: Sized + Drop {
     /// Returns an error with a message if the variant has no content, or the error for out of
     /// memory if memory runs out.
     fn reader(self) -> Result<Self::Reader, Self::Error>
-        ensures { Meets Self.Error.fault (OfContent (IsReaderOf Self.Reader.source) (content self)) result };
+        ensures { Meets Self.Error.fault (OfContent (IsReaderOf Self.Reader.source) (content self))
+            result };
 
     /// Reads the content of a newtype variant with a seed.
     ///
@@ -258,7 +265,10 @@ pub trait VariantAccess: Sized + Drop {
         _len: usize,
         visitor: V,
     ) -> Result<V::Value, Self::Error>
-        ensures { Meets Self.Error.fault (OfContent (λ s r. Visited (Takes (V.claimed visitor) (V.takes visitor)) (shown request.Seq s) r) (content self)) result }
+        ensures { Meets Self.Error.fault
+            (OfContent
+            (λ s r. Visited (Takes (V.claimed visitor) (V.takes visitor)) (shown request.Seq s) r)
+            (content self)) result }
     {
         self.reader()?.deserialize_seq(visitor)
     }
@@ -274,7 +284,10 @@ pub trait VariantAccess: Sized + Drop {
         _fields: &'static [&'static str],
         visitor: V,
     ) -> Result<V::Value, Self::Error>
-        ensures { Meets Self.Error.fault (OfContent (λ s r. Visited (Takes (V.claimed visitor) (V.takes visitor)) (shown request.Map s) r) (content self)) result }
+        ensures { Meets Self.Error.fault
+            (OfContent
+            (λ s r. Visited (Takes (V.claimed visitor) (V.takes visitor)) (shown request.Map s) r)
+            (content self)) result }
     {
         self.reader()?.deserialize_map(visitor)
     }

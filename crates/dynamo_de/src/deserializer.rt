@@ -11,7 +11,8 @@ fn offer<R: Reader, V: Visitor>(
     showing: Showing<R, R::Elements, R::Entries, R::Choice>,
     visitor: V,
 ) -> Result<V::Value, R::Error>
-    ensures { Visits R.Error.fault (V.claimed visitor) (V.takes visitor) (seen R.source R.elements R.entries R.chosen showing) result }
+    ensures { Visits R.Error.fault (V.claimed visitor) (V.takes visitor)
+        (seen R.source R.elements R.entries R.chosen showing) result }
 {
     match showing {
         Showing::Bool(v) => visitor.visit_bool(v),
@@ -57,7 +58,8 @@ pub trait Deserializer: Reader {
     /// Returns an error if the source holds other data, if the visitor refuses the data, or if
     /// memory runs out.
     final fn deserialize_any<V: Visitor>(self, visitor: V) -> Result<V::Value, Self::Error>
-        ensures { Asks Self.Error.fault (V.claimed visitor) (V.takes visitor) request.Any (Self.source self) result }
+        ensures { Asks Self.Error.fault (V.claimed visitor) (V.takes visitor) request.Any
+            (Self.source self) result }
     {
         offer::<Self, V>(self.show(Request::Any)?, visitor)
     }
@@ -69,7 +71,8 @@ pub trait Deserializer: Reader {
     /// Returns an error if the source holds other data, if the visitor refuses the data, or if
     /// memory runs out.
     final fn deserialize_bool<V: Visitor>(self, visitor: V) -> Result<V::Value, Self::Error>
-        ensures { Asks Self.Error.fault (V.claimed visitor) (V.takes visitor) request.Bool (Self.source self) result }
+        ensures { Asks Self.Error.fault (V.claimed visitor) (V.takes visitor) request.Bool
+            (Self.source self) result }
     {
         offer::<Self, V>(self.show(Request::Bool)?, visitor)
     }
@@ -81,7 +84,8 @@ pub trait Deserializer: Reader {
     /// Returns an error if the source holds other data, if the visitor refuses the data, or if
     /// memory runs out.
     final fn deserialize_i8<V: Visitor>(self, visitor: V) -> Result<V::Value, Self::Error>
-        ensures { Asks Self.Error.fault (V.claimed visitor) (V.takes visitor) (request.Integer types.I8) (Self.source self) result }
+        ensures { Asks Self.Error.fault (V.claimed visitor) (V.takes visitor)
+            (request.Integer types.I8) (Self.source self) result }
     {
         offer::<Self, V>(self.show(Request::Integer(IntegerKind::I8))?, visitor)
     }
@@ -93,7 +97,8 @@ pub trait Deserializer: Reader {
     /// Returns an error if the source holds other data, if the visitor refuses the data, or if
     /// memory runs out.
     final fn deserialize_i16<V: Visitor>(self, visitor: V) -> Result<V::Value, Self::Error>
-        ensures { Asks Self.Error.fault (V.claimed visitor) (V.takes visitor) (request.Integer types.I16) (Self.source self) result }
+        ensures { Asks Self.Error.fault (V.claimed visitor) (V.takes visitor)
+            (request.Integer types.I16) (Self.source self) result }
     {
         offer::<Self, V>(self.show(Request::Integer(IntegerKind::I16))?, visitor)
     }
@@ -105,7 +110,8 @@ pub trait Deserializer: Reader {
     /// Returns an error if the source holds other data, if the visitor refuses the data, or if
     /// memory runs out.
     final fn deserialize_i32<V: Visitor>(self, visitor: V) -> Result<V::Value, Self::Error>
-        ensures { Asks Self.Error.fault (V.claimed visitor) (V.takes visitor) (request.Integer types.I32) (Self.source self) result }
+        ensures { Asks Self.Error.fault (V.claimed visitor) (V.takes visitor)
+            (request.Integer types.I32) (Self.source self) result }
     {
         offer::<Self, V>(self.show(Request::Integer(IntegerKind::I32))?, visitor)
     }
@@ -117,7 +123,8 @@ pub trait Deserializer: Reader {
     /// Returns an error if the source holds other data, if the visitor refuses the data, or if
     /// memory runs out.
     final fn deserialize_i64<V: Visitor>(self, visitor: V) -> Result<V::Value, Self::Error>
-        ensures { Asks Self.Error.fault (V.claimed visitor) (V.takes visitor) (request.Integer types.I64) (Self.source self) result }
+        ensures { Asks Self.Error.fault (V.claimed visitor) (V.takes visitor)
+            (request.Integer types.I64) (Self.source self) result }
     {
         offer::<Self, V>(self.show(Request::Integer(IntegerKind::I64))?, visitor)
     }
@@ -129,7 +136,8 @@ pub trait Deserializer: Reader {
     /// Returns an error if the source holds other data, if the visitor refuses the data, or if
     /// memory runs out.
     final fn deserialize_i128<V: Visitor>(self, visitor: V) -> Result<V::Value, Self::Error>
-        ensures { Asks Self.Error.fault (V.claimed visitor) (V.takes visitor) (request.Integer types.I128) (Self.source self) result }
+        ensures { Asks Self.Error.fault (V.claimed visitor) (V.takes visitor)
+            (request.Integer types.I128) (Self.source self) result }
     {
         offer::<Self, V>(self.show(Request::Integer(IntegerKind::I128))?, visitor)
     }
@@ -141,7 +149,8 @@ pub trait Deserializer: Reader {
     /// Returns an error if the source holds other data, if the visitor refuses the data, or if
     /// memory runs out.
     final fn deserialize_u8<V: Visitor>(self, visitor: V) -> Result<V::Value, Self::Error>
-        ensures { Asks Self.Error.fault (V.claimed visitor) (V.takes visitor) (request.Integer types.U8) (Self.source self) result }
+        ensures { Asks Self.Error.fault (V.claimed visitor) (V.takes visitor)
+            (request.Integer types.U8) (Self.source self) result }
     {
         offer::<Self, V>(self.show(Request::Integer(IntegerKind::U8))?, visitor)
     }
@@ -153,7 +162,8 @@ pub trait Deserializer: Reader {
     /// Returns an error if the source holds other data, if the visitor refuses the data, or if
     /// memory runs out.
     final fn deserialize_u16<V: Visitor>(self, visitor: V) -> Result<V::Value, Self::Error>
-        ensures { Asks Self.Error.fault (V.claimed visitor) (V.takes visitor) (request.Integer types.U16) (Self.source self) result }
+        ensures { Asks Self.Error.fault (V.claimed visitor) (V.takes visitor)
+            (request.Integer types.U16) (Self.source self) result }
     {
         offer::<Self, V>(self.show(Request::Integer(IntegerKind::U16))?, visitor)
     }
@@ -165,7 +175,8 @@ pub trait Deserializer: Reader {
     /// Returns an error if the source holds other data, if the visitor refuses the data, or if
     /// memory runs out.
     final fn deserialize_u32<V: Visitor>(self, visitor: V) -> Result<V::Value, Self::Error>
-        ensures { Asks Self.Error.fault (V.claimed visitor) (V.takes visitor) (request.Integer types.U32) (Self.source self) result }
+        ensures { Asks Self.Error.fault (V.claimed visitor) (V.takes visitor)
+            (request.Integer types.U32) (Self.source self) result }
     {
         offer::<Self, V>(self.show(Request::Integer(IntegerKind::U32))?, visitor)
     }
@@ -177,7 +188,8 @@ pub trait Deserializer: Reader {
     /// Returns an error if the source holds other data, if the visitor refuses the data, or if
     /// memory runs out.
     final fn deserialize_u64<V: Visitor>(self, visitor: V) -> Result<V::Value, Self::Error>
-        ensures { Asks Self.Error.fault (V.claimed visitor) (V.takes visitor) (request.Integer types.U64) (Self.source self) result }
+        ensures { Asks Self.Error.fault (V.claimed visitor) (V.takes visitor)
+            (request.Integer types.U64) (Self.source self) result }
     {
         offer::<Self, V>(self.show(Request::Integer(IntegerKind::U64))?, visitor)
     }
@@ -189,7 +201,8 @@ pub trait Deserializer: Reader {
     /// Returns an error if the source holds other data, if the visitor refuses the data, or if
     /// memory runs out.
     final fn deserialize_u128<V: Visitor>(self, visitor: V) -> Result<V::Value, Self::Error>
-        ensures { Asks Self.Error.fault (V.claimed visitor) (V.takes visitor) (request.Integer types.U128) (Self.source self) result }
+        ensures { Asks Self.Error.fault (V.claimed visitor) (V.takes visitor)
+            (request.Integer types.U128) (Self.source self) result }
     {
         offer::<Self, V>(self.show(Request::Integer(IntegerKind::U128))?, visitor)
     }
@@ -201,7 +214,8 @@ pub trait Deserializer: Reader {
     /// Returns an error if the source holds other data, if the visitor refuses the data, or if
     /// memory runs out.
     final fn deserialize_char<V: Visitor>(self, visitor: V) -> Result<V::Value, Self::Error>
-        ensures { Asks Self.Error.fault (V.claimed visitor) (V.takes visitor) request.Char (Self.source self) result }
+        ensures { Asks Self.Error.fault (V.claimed visitor) (V.takes visitor) request.Char
+            (Self.source self) result }
     {
         offer::<Self, V>(self.show(Request::Char)?, visitor)
     }
@@ -213,7 +227,8 @@ pub trait Deserializer: Reader {
     /// Returns an error if the source holds other data, if the visitor refuses the data, or if
     /// memory runs out.
     final fn deserialize_str<V: Visitor>(self, visitor: V) -> Result<V::Value, Self::Error>
-        ensures { Asks Self.Error.fault (V.claimed visitor) (V.takes visitor) request.Str (Self.source self) result }
+        ensures { Asks Self.Error.fault (V.claimed visitor) (V.takes visitor) request.Str
+            (Self.source self) result }
     {
         offer::<Self, V>(self.show(Request::Str)?, visitor)
     }
@@ -225,7 +240,8 @@ pub trait Deserializer: Reader {
     /// Returns an error if the source holds other data, if the visitor refuses the data, or if
     /// memory runs out.
     final fn deserialize_string<V: Visitor>(self, visitor: V) -> Result<V::Value, Self::Error>
-        ensures { Asks Self.Error.fault (V.claimed visitor) (V.takes visitor) request.String (Self.source self) result }
+        ensures { Asks Self.Error.fault (V.claimed visitor) (V.takes visitor) request.String
+            (Self.source self) result }
     {
         offer::<Self, V>(self.show(Request::String)?, visitor)
     }
@@ -237,7 +253,8 @@ pub trait Deserializer: Reader {
     /// Returns an error if the source holds other data, if the visitor refuses the data, or if
     /// memory runs out.
     final fn deserialize_bytes<V: Visitor>(self, visitor: V) -> Result<V::Value, Self::Error>
-        ensures { Asks Self.Error.fault (V.claimed visitor) (V.takes visitor) request.Bytes (Self.source self) result }
+        ensures { Asks Self.Error.fault (V.claimed visitor) (V.takes visitor) request.Bytes
+            (Self.source self) result }
     {
         offer::<Self, V>(self.show(Request::Bytes)?, visitor)
     }
@@ -249,7 +266,8 @@ pub trait Deserializer: Reader {
     /// Returns an error if the source holds other data, if the visitor refuses the data, or if
     /// memory runs out.
     final fn deserialize_byte_buf<V: Visitor>(self, visitor: V) -> Result<V::Value, Self::Error>
-        ensures { Asks Self.Error.fault (V.claimed visitor) (V.takes visitor) request.ByteBuf (Self.source self) result }
+        ensures { Asks Self.Error.fault (V.claimed visitor) (V.takes visitor) request.ByteBuf
+            (Self.source self) result }
     {
         offer::<Self, V>(self.show(Request::ByteBuf)?, visitor)
     }
@@ -261,7 +279,8 @@ pub trait Deserializer: Reader {
     /// Returns an error if the source holds other data, if the visitor refuses the data, or if
     /// memory runs out.
     final fn deserialize_option<V: Visitor>(self, visitor: V) -> Result<V::Value, Self::Error>
-        ensures { Asks Self.Error.fault (V.claimed visitor) (V.takes visitor) request.Option (Self.source self) result }
+        ensures { Asks Self.Error.fault (V.claimed visitor) (V.takes visitor) request.Option
+            (Self.source self) result }
     {
         offer::<Self, V>(self.show(Request::Option)?, visitor)
     }
@@ -273,7 +292,8 @@ pub trait Deserializer: Reader {
     /// Returns an error if the source holds other data, if the visitor refuses the data, or if
     /// memory runs out.
     final fn deserialize_unit<V: Visitor>(self, visitor: V) -> Result<V::Value, Self::Error>
-        ensures { Asks Self.Error.fault (V.claimed visitor) (V.takes visitor) request.Unit (Self.source self) result }
+        ensures { Asks Self.Error.fault (V.claimed visitor) (V.takes visitor) request.Unit
+            (Self.source self) result }
     {
         offer::<Self, V>(self.show(Request::Unit)?, visitor)
     }
@@ -289,7 +309,8 @@ pub trait Deserializer: Reader {
         _name: &'static str,
         visitor: V,
     ) -> Result<V::Value, Self::Error>
-        ensures { Asks Self.Error.fault (V.claimed visitor) (V.takes visitor) request.UnitStruct (Self.source self) result }
+        ensures { Asks Self.Error.fault (V.claimed visitor) (V.takes visitor) request.UnitStruct
+            (Self.source self) result }
     {
         offer::<Self, V>(self.show(Request::UnitStruct)?, visitor)
     }
@@ -305,7 +326,8 @@ pub trait Deserializer: Reader {
         _name: &'static str,
         visitor: V,
     ) -> Result<V::Value, Self::Error>
-        ensures { Asks Self.Error.fault (V.claimed visitor) (V.takes visitor) request.NewtypeStruct (Self.source self) result }
+        ensures { Asks Self.Error.fault (V.claimed visitor) (V.takes visitor) request.NewtypeStruct
+            (Self.source self) result }
     {
         offer::<Self, V>(self.show(Request::NewtypeStruct)?, visitor)
     }
@@ -317,7 +339,8 @@ pub trait Deserializer: Reader {
     /// Returns an error if the source holds other data, if the visitor refuses the data, or if
     /// memory runs out.
     final fn deserialize_seq<V: Visitor>(self, visitor: V) -> Result<V::Value, Self::Error>
-        ensures { Asks Self.Error.fault (V.claimed visitor) (V.takes visitor) request.Seq (Self.source self) result }
+        ensures { Asks Self.Error.fault (V.claimed visitor) (V.takes visitor) request.Seq
+            (Self.source self) result }
     {
         offer::<Self, V>(self.show(Request::Seq)?, visitor)
     }
@@ -333,7 +356,8 @@ pub trait Deserializer: Reader {
         _len: usize,
         visitor: V,
     ) -> Result<V::Value, Self::Error>
-        ensures { Asks Self.Error.fault (V.claimed visitor) (V.takes visitor) request.Tuple (Self.source self) result }
+        ensures { Asks Self.Error.fault (V.claimed visitor) (V.takes visitor) request.Tuple
+            (Self.source self) result }
     {
         offer::<Self, V>(self.show(Request::Tuple)?, visitor)
     }
@@ -350,7 +374,8 @@ pub trait Deserializer: Reader {
         _len: usize,
         visitor: V,
     ) -> Result<V::Value, Self::Error>
-        ensures { Asks Self.Error.fault (V.claimed visitor) (V.takes visitor) request.TupleStruct (Self.source self) result }
+        ensures { Asks Self.Error.fault (V.claimed visitor) (V.takes visitor) request.TupleStruct
+            (Self.source self) result }
     {
         offer::<Self, V>(self.show(Request::TupleStruct)?, visitor)
     }
@@ -362,7 +387,8 @@ pub trait Deserializer: Reader {
     /// Returns an error if the source holds other data, if the visitor refuses the data, or if
     /// memory runs out.
     final fn deserialize_map<V: Visitor>(self, visitor: V) -> Result<V::Value, Self::Error>
-        ensures { Asks Self.Error.fault (V.claimed visitor) (V.takes visitor) request.Map (Self.source self) result }
+        ensures { Asks Self.Error.fault (V.claimed visitor) (V.takes visitor) request.Map
+            (Self.source self) result }
     {
         offer::<Self, V>(self.show(Request::Map)?, visitor)
     }
@@ -379,7 +405,8 @@ pub trait Deserializer: Reader {
         _fields: &'static [&'static str],
         visitor: V,
     ) -> Result<V::Value, Self::Error>
-        ensures { Asks Self.Error.fault (V.claimed visitor) (V.takes visitor) request.Struct (Self.source self) result }
+        ensures { Asks Self.Error.fault (V.claimed visitor) (V.takes visitor) request.Struct
+            (Self.source self) result }
     {
         offer::<Self, V>(self.show(Request::Struct)?, visitor)
     }
@@ -396,7 +423,8 @@ pub trait Deserializer: Reader {
         _variants: &'static [&'static str],
         visitor: V,
     ) -> Result<V::Value, Self::Error>
-        ensures { Asks Self.Error.fault (V.claimed visitor) (V.takes visitor) request.Enum (Self.source self) result }
+        ensures { Asks Self.Error.fault (V.claimed visitor) (V.takes visitor) request.Enum
+            (Self.source self) result }
     {
         offer::<Self, V>(self.show(Request::Enum)?, visitor)
     }
@@ -408,7 +436,8 @@ pub trait Deserializer: Reader {
     /// Returns an error if the source holds other data, if the visitor refuses the data, or if
     /// memory runs out.
     final fn deserialize_identifier<V: Visitor>(self, visitor: V) -> Result<V::Value, Self::Error>
-        ensures { Asks Self.Error.fault (V.claimed visitor) (V.takes visitor) request.Identifier (Self.source self) result }
+        ensures { Asks Self.Error.fault (V.claimed visitor) (V.takes visitor) request.Identifier
+            (Self.source self) result }
     {
         offer::<Self, V>(self.show(Request::Identifier)?, visitor)
     }
@@ -420,7 +449,8 @@ pub trait Deserializer: Reader {
     /// Returns an error if the source holds other data, if the visitor refuses the data, or if
     /// memory runs out.
     final fn deserialize_ignored_any<V: Visitor>(self, visitor: V) -> Result<V::Value, Self::Error>
-        ensures { Asks Self.Error.fault (V.claimed visitor) (V.takes visitor) request.IgnoredAny (Self.source self) result }
+        ensures { Asks Self.Error.fault (V.claimed visitor) (V.takes visitor) request.IgnoredAny
+            (Self.source self) result }
     {
         offer::<Self, V>(self.show(Request::IgnoredAny)?, visitor)
     }

@@ -1,5 +1,6 @@
 ghost use Rattle.dynamo_de.specs.Answer.{Gives};
-ghost use Rattle.dynamo_de.specs.Ignored.{read_ignored, ignore_sources, ignore_entries as ignored_entries};
+ghost use Rattle.dynamo_de.specs.Ignored.{read_ignored, ignore_sources};
+ghost use Rattle.dynamo_de.specs.Ignored.{ignore_entries as ignored_entries};
 ghost use Rattle.dynamo_de.specs.Meets.{Meets};
 
 use crate::{Deserialize, Deserializer, Inside, Reader};

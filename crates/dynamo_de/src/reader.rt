@@ -61,7 +61,8 @@ pub trait Reader: Sized + Drop {
         self,
         request: Request,
     ) -> Result<Showing<Self, Self::Elements, Self::Entries, Self::Choice>, Self::Error>
-        ensures { Shows Self.Error.fault source elements entries chosen (shown request (source self)) result };
+        ensures { Shows Self.Error.fault source elements entries chosen
+            (shown request (source self)) result };
 
     /// Returns what the source holds without its contents. It suffices for scalars.
     ///
@@ -82,7 +83,8 @@ pub trait Reader: Sized + Drop {
     ///
     /// Returns an error if the source can't be ignored, or if memory runs out.
     fn inside(self) -> Result<Inside<Self::Elements, Self::Entries>, Self::Error>
-        ensures { ShowsInside Self.Error.fault elements entries (shown request.IgnoredAny (source self)) result }
+        ensures { ShowsInside Self.Error.fault elements entries
+            (shown request.IgnoredAny (source self)) result }
     {
         Ok(self.show(Request::IgnoredAny)?.inside())
     }

@@ -39,7 +39,8 @@ impl<R: Reader> SeqAccess for ReaderSeqAccess<R> {
         &mut self,
         seed: T,
     ) -> Result<Option<T::Value>, R::Error>
-        ensures next { NextElement R.Error.fault (T.reads seed) (R.elements self.old.elements) (R.elements self.new.elements) result }
+        ensures next { NextElement R.Error.fault (T.reads seed) (R.elements self.old.elements)
+            (R.elements self.new.elements) result }
         ensures same { R.counted self.new.elements ≡ R.counted self.old.elements }
     {
         match R::next_element(&mut self.elements) {
@@ -49,7 +50,8 @@ impl<R: Reader> SeqAccess for ReaderSeqAccess<R> {
     }
 
     fn next_element<T: Deserialize>(&mut self, alloc: Global) -> Result<Option<T>, R::Error>
-        ensures next { NextElement R.Error.fault T.reads (R.elements self.old.elements) (R.elements self.new.elements) result }
+        ensures next { NextElement R.Error.fault T.reads (R.elements self.old.elements)
+            (R.elements self.new.elements) result }
         ensures same { R.counted self.new.elements ≡ R.counted self.old.elements }
     {
         self.next_element_seed(TypeSeed::<T>::new(alloc))
@@ -58,7 +60,8 @@ impl<R: Reader> SeqAccess for ReaderSeqAccess<R> {
     /// Returns the number of remaining elements, if the reader counts them.
     fn size_hint(&self) -> Option<usize>
         ensures hint { Hints (R.elements self.now.elements) result }
-        ensures exact { result ≡ hint_of (R.counted self.now.elements) (R.elements self.now.elements) }
+        ensures exact { result
+            ≡ hint_of (R.counted self.now.elements) (R.elements self.now.elements) }
     {
         R::elements_left(&self.elements)
     }
@@ -94,7 +97,8 @@ impl<R: Reader> ReaderMapAccess<R> {
 impl<R: Reader> MapAccess for ReaderMapAccess<R> {
     type Error = R::Error;
 
-    ghost left = { λ a. record { entries = R.entries a.entries; pending = content_of R.source a.pending } };
+    ghost left = { λ a. record
+        { entries = R.entries a.entries; pending = content_of R.source a.pending } };
 
     fn next_key_seed<K: DeserializeSeed>(&mut self, seed: K) -> Result<Option<K::Value>, R::Error> {
         match R::next_entry(&mut self.entries) {
@@ -116,7 +120,8 @@ impl<R: Reader> MapAccess for ReaderMapAccess<R> {
     /// Returns the number of remaining entries, if the reader counts them.
     fn size_hint(&self) -> Option<usize>
         ensures hint { Hints (R.entries self.now.entries) result }
-        ensures exact { result ≡ hint_of (R.counted_entries self.now.entries) (R.entries self.now.entries) }
+        ensures exact { result
+            ≡ hint_of (R.counted_entries self.now.entries) (R.entries self.now.entries) }
     {
         R::entries_left(&self.entries)
     }

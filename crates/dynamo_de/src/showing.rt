@@ -98,7 +98,8 @@ impl<D, L, M, C> Showing<D, L, M, C> {
         L: Drop,
         M: Drop,
         C: Drop,
-        ensures { (source : D → Source) (elements : L → List Source) (entries : M → List Entry) (variants : C → Result (List ℕ × Option Source) Fault)
+        ensures { (source : D → Source) (elements : L → List Source) (entries : M → List Entry)
+            (variants : C → Result (List ℕ × Option Source) Fault)
             → IsSurface result (seen source elements entries variants self) }
     {
         match self {
@@ -126,7 +127,8 @@ impl<D, L, M, C> Showing<D, L, M, C> {
         C: Drop,
         ensures { (source : D → Source) (elements : L → List Source) (entries : M → List Entry)
             (variants : C → Result (List ℕ × Option Source) Fault)
-            → inside_shown (Ok (seen source elements entries variants self)) ≡ Ok (inside_seen elements entries result) }
+            → inside_shown (Ok (seen source elements entries variants self))
+            ≡ Ok (inside_seen elements entries result) }
     {
         match self {
             Showing::Sequence(elements) => Inside::Elements(elements),

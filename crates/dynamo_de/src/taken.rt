@@ -80,7 +80,8 @@ pub fn elements_of<R: Reader>(
     reader: R,
     expecting: &str,
 ) -> Result<R::Elements, R::Error>
-    ensures { Meets R.Error.fault (Gives R.elements (taken_from claims_seq take_elements request (R.source reader))) result }
+    ensures { Meets R.Error.fault
+        (Gives R.elements (taken_from claims_seq take_elements request (R.source reader))) result }
 {
     match reader.show(request)? {
         Showing::Sequence(elements) => Ok(elements),

@@ -60,7 +60,8 @@ pub trait Visitor: Sized + Drop {
     ///
     /// Returns an error if the visitor refuses the data, or if memory runs out.
     fn visit_i8<E: Error>(self, v: i8) -> Result<Self::Value, E>
-        ensures { Visits E.fault (claimed self) (takes self) (showing.integer integers.i8 v) result }
+        ensures { Visits E.fault (claimed self) (takes self) (showing.integer integers.i8 v)
+            result }
     {
         if self.claims(Kind::Integer(IntegerKind::I8)) {
             return Err(E::out_of_memory());
@@ -74,7 +75,8 @@ pub trait Visitor: Sized + Drop {
     ///
     /// Returns an error if the visitor refuses the data, or if memory runs out.
     fn visit_i16<E: Error>(self, v: i16) -> Result<Self::Value, E>
-        ensures { Visits E.fault (claimed self) (takes self) (showing.integer integers.i16 v) result }
+        ensures { Visits E.fault (claimed self) (takes self) (showing.integer integers.i16 v)
+            result }
     {
         if self.claims(Kind::Integer(IntegerKind::I16)) {
             return Err(E::out_of_memory());
@@ -88,7 +90,8 @@ pub trait Visitor: Sized + Drop {
     ///
     /// Returns an error if the visitor refuses the data, or if memory runs out.
     fn visit_i32<E: Error>(self, v: i32) -> Result<Self::Value, E>
-        ensures { Visits E.fault (claimed self) (takes self) (showing.integer integers.i32 v) result }
+        ensures { Visits E.fault (claimed self) (takes self) (showing.integer integers.i32 v)
+            result }
     {
         if self.claims(Kind::Integer(IntegerKind::I32)) {
             return Err(E::out_of_memory());
@@ -102,7 +105,8 @@ pub trait Visitor: Sized + Drop {
     ///
     /// Returns an error if the visitor refuses the data, or if memory runs out.
     fn visit_i64<E: Error>(self, v: i64) -> Result<Self::Value, E>
-        ensures { Visits E.fault (claimed self) (takes self) (showing.integer integers.i64 v) result }
+        ensures { Visits E.fault (claimed self) (takes self) (showing.integer integers.i64 v)
+            result }
     {
         refuse(
             self.alloc(),
@@ -118,7 +122,8 @@ pub trait Visitor: Sized + Drop {
     ///
     /// Returns an error if the visitor refuses the data, or if memory runs out.
     fn visit_i128<E: Error>(self, v: i128) -> Result<Self::Value, E>
-        ensures { Visits E.fault (claimed self) (takes self) (showing.integer integers.i128 v) result }
+        ensures { Visits E.fault (claimed self) (takes self) (showing.integer integers.i128 v)
+            result }
     {
         refuse(
             self.alloc(),
@@ -134,7 +139,8 @@ pub trait Visitor: Sized + Drop {
     ///
     /// Returns an error if the visitor refuses the data, or if memory runs out.
     fn visit_u8<E: Error>(self, v: u8) -> Result<Self::Value, E>
-        ensures { Visits E.fault (claimed self) (takes self) (showing.integer integers.u8 (pos v)) result }
+        ensures { Visits E.fault (claimed self) (takes self) (showing.integer integers.u8 (pos v))
+            result }
     {
         if self.claims(Kind::Integer(IntegerKind::U8)) {
             return Err(E::out_of_memory());
@@ -148,7 +154,8 @@ pub trait Visitor: Sized + Drop {
     ///
     /// Returns an error if the visitor refuses the data, or if memory runs out.
     fn visit_u16<E: Error>(self, v: u16) -> Result<Self::Value, E>
-        ensures { Visits E.fault (claimed self) (takes self) (showing.integer integers.u16 (pos v)) result }
+        ensures { Visits E.fault (claimed self) (takes self) (showing.integer integers.u16 (pos v))
+            result }
     {
         if self.claims(Kind::Integer(IntegerKind::U16)) {
             return Err(E::out_of_memory());
@@ -162,7 +169,8 @@ pub trait Visitor: Sized + Drop {
     ///
     /// Returns an error if the visitor refuses the data, or if memory runs out.
     fn visit_u32<E: Error>(self, v: u32) -> Result<Self::Value, E>
-        ensures { Visits E.fault (claimed self) (takes self) (showing.integer integers.u32 (pos v)) result }
+        ensures { Visits E.fault (claimed self) (takes self) (showing.integer integers.u32 (pos v))
+            result }
     {
         if self.claims(Kind::Integer(IntegerKind::U32)) {
             return Err(E::out_of_memory());
@@ -176,7 +184,8 @@ pub trait Visitor: Sized + Drop {
     ///
     /// Returns an error if the visitor refuses the data, or if memory runs out.
     fn visit_u64<E: Error>(self, v: u64) -> Result<Self::Value, E>
-        ensures { Visits E.fault (claimed self) (takes self) (showing.integer integers.u64 (pos v)) result }
+        ensures { Visits E.fault (claimed self) (takes self) (showing.integer integers.u64 (pos v))
+            result }
     {
         refuse(
             self.alloc(),
@@ -192,7 +201,8 @@ pub trait Visitor: Sized + Drop {
     ///
     /// Returns an error if the visitor refuses the data, or if memory runs out.
     fn visit_u128<E: Error>(self, v: u128) -> Result<Self::Value, E>
-        ensures { Visits E.fault (claimed self) (takes self) (showing.integer integers.u128 (pos v)) result }
+        ensures { Visits E.fault (claimed self) (takes self) (showing.integer integers.u128 (pos v))
+            result }
     {
         refuse(
             self.alloc(),
@@ -255,7 +265,8 @@ pub trait Visitor: Sized + Drop {
     ///
     /// Returns an error if the visitor refuses the data, or if memory runs out.
     fn visit_string<E: Error>(self, v: String) -> Result<Self::Value, E>
-        ensures { Visits E.fault (claimed self) (takes self) (showing.text (string_bytes v)) result }
+        ensures { Visits E.fault (claimed self) (takes self) (showing.text (string_bytes v))
+            result }
     {
         self.visit_str(v.as_str())
     }
@@ -310,7 +321,8 @@ pub trait Visitor: Sized + Drop {
     /// Returns an error if the visitor refuses the data, if reading the content fails, or if memory
     /// runs out.
     fn visit_some<D: Deserializer>(self, deserializer: D) -> Result<Self::Value, D::Error>
-        ensures { Visits D.Error.fault (claimed self) (takes self) (showing.some (D.source deserializer)) result }
+        ensures { Visits D.Error.fault (claimed self) (takes self)
+            (showing.some (D.source deserializer)) result }
     {
         refuse(
             self.alloc(),
@@ -343,7 +355,8 @@ pub trait Visitor: Sized + Drop {
     /// Returns an error if the visitor refuses the data, if reading the content fails, or if memory
     /// runs out.
     fn visit_newtype_struct<D: Deserializer>(self, deserializer: D) -> Result<Self::Value, D::Error>
-        ensures { Visits D.Error.fault (claimed self) (takes self) (showing.newtype (D.source deserializer)) result }
+        ensures { Visits D.Error.fault (claimed self) (takes self)
+            (showing.newtype (D.source deserializer)) result }
     {
         refuse(
             self.alloc(),
@@ -360,7 +373,8 @@ pub trait Visitor: Sized + Drop {
     /// Returns an error if the visitor refuses the data, if reading an element fails, or if memory
     /// runs out.
     fn visit_seq<A: SeqAccess>(self, seq: A) -> Result<Self::Value, A::Error>
-        ensures { Visits A.Error.fault (claimed self) (takes self) (showing.sequence (A.left seq)) result }
+        ensures { Visits A.Error.fault (claimed self) (takes self) (showing.sequence (A.left seq))
+            result }
     {
         refuse(
             self.alloc(),
@@ -377,7 +391,9 @@ pub trait Visitor: Sized + Drop {
     /// Returns an error if the visitor refuses the data, if reading an entry fails, or if memory
     /// runs out.
     fn visit_map<A: MapAccess>(self, map: A) -> Result<Self::Value, A::Error>
-        ensures { (A.left map).pending ≡ None → Visits A.Error.fault (claimed self) (takes self) (showing.entries (A.left map).entries) result }
+        ensures { (A.left map).pending ≡ None
+            → Visits A.Error.fault (claimed self) (takes self)
+            (showing.entries (A.left map).entries) result }
     {
         refuse(
             self.alloc(),
@@ -394,7 +410,8 @@ pub trait Visitor: Sized + Drop {
     /// Returns an error if the visitor refuses the data, if reading the variant fails, or if memory
     /// runs out.
     fn visit_enum<A: EnumAccess>(self, variant: A) -> Result<Self::Value, A::Error>
-        ensures { Visits A.Error.fault (claimed self) (takes self) (showing.variant (A.chosen variant)) result }
+        ensures { Visits A.Error.fault (claimed self) (takes self)
+            (showing.variant (A.chosen variant)) result }
     {
         refuse(
             self.alloc(),

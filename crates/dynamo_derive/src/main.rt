@@ -1,5 +1,6 @@
-//! Reads structs and enums with serde's attributes from standard input, and prints the file of the module that has them, described by
-//! `dynamo_record`. The launcher of the program lays it out by `rt fmt`.
+//! Reads structs and enums with serde's attributes from standard input, and prints the file of the
+//! module that has them, described by `dynamo_record`. The launcher of the program lays it out by
+//! `rt fmt`.
 #![tactic(auto)]
 
 use declarations::{Failure, read_declarations, read_module};

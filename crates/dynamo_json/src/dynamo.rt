@@ -1,4 +1,5 @@
-ghost use Rattle.std.specs.Prelude.{◌≡◌, ◌++◌, Option, Some, None, Ok, IfOk, IfErr, OnOk, MatchResult, string_bytes};
+ghost use Rattle.std.specs.Prelude.{◌≡◌, ◌++◌, Option, Some, None, Ok, IfOk, IfErr, OnOk};
+ghost use Rattle.std.specs.Prelude.{MatchResult, string_bytes};
 ghost use Rattle.serde_json.specs.Data.{Data};
 ghost use Rattle.serde_json.specs.Read.{read};
 ghost use Rattle.serde_json.specs.View as sj;
@@ -69,7 +70,8 @@ pub trait DynamoJson: Sized + Drop {
     /// assert!(rt; matches!(json.get("BOOL"), Some(serde_json::Value::Bool(true))));
     /// ```
     fn to_json(&self, alloc: Global) -> Result<Value>
-        ensures { MatchResult result (λ json. sj.view json ≡ json_value self.now) (λ e. fault_of e ≡ out_of_memory) };
+        ensures { MatchResult result (λ json. sj.view json ≡ json_value self.now)
+            (λ e. fault_of e ≡ out_of_memory) };
 
     /// Returns the JSON text, without blanks. It is the string that `to_json` and then `to_string`
     /// return, but no JSON value is made.
@@ -78,7 +80,9 @@ pub trait DynamoJson: Sized + Drop {
     ///
     /// Returns [`ErrorImpl::OutOfMemory`](dynamo_value::ErrorImpl::OutOfMemory) if memory runs out.
     fn to_json_text(&self, alloc: Global) -> Result<String>
-        ensures { MatchResult result (λ text. string_bytes text ≡ compact_text (json_value self.now)) (λ e. fault_of e ≡ out_of_memory) }
+        ensures { MatchResult result
+            (λ text. string_bytes text ≡ compact_text (json_value self.now))
+            (λ e. fault_of e ≡ out_of_memory) }
     {
         let mut text = String::new(alloc);
         self.push_json_text(&mut text)?;
@@ -106,7 +110,10 @@ pub trait DynamoJson: Sized + Drop {
     /// assert_eq!(rt; lines.as_str(), "{\"BOOL\":true}\n{\"NULL\":true}\n");
     /// ```
     fn push_json_text(&self, text: &mut String) -> Result<()>
-        ensures { MatchResult result (λ _. string_bytes text.new ≡ string_bytes text.old ++ compact_text (json_value self.now)) (λ e. (fault_of e ≡ out_of_memory) × (string_bytes text.new ≡ string_bytes text.old)) };
+        ensures { MatchResult result
+            (λ _. string_bytes text.new
+            ≡ string_bytes text.old ++ compact_text (json_value self.now))
+            (λ e. (fault_of e ≡ out_of_memory) × (string_bytes text.new ≡ string_bytes text.old)) };
 
     /// Reads a value from its JSON value.
     ///
@@ -189,7 +196,8 @@ impl DynamoJson for AttributeValue {
 
     /// Returns the JSON value. It is that of no other attribute value.
     fn to_json(&self, alloc: Global) -> Result<Value>
-        ensures json { MatchResult result (λ json. sj.view json ≡ json_of (av.view self.now)) (λ e. fault_of e ≡ out_of_memory) }
+        ensures json { MatchResult result (λ json. sj.view json ≡ json_of (av.view self.now))
+            (λ e. fault_of e ≡ out_of_memory) }
         ensures bytes { OnOk result (HasBytes (av.view self.now)) }
         ensures keys { OnOk result (KeysDiffer self.now) }
     {
@@ -203,7 +211,8 @@ impl DynamoJson for AttributeValue {
     /// Reads an attribute value from its JSON value.
     fn from_json(alloc: Global, json: &Value) -> Result<Self>
         ensures ok { IfOk result (λ value. sj.view json.now ≡ json_of (av.view value)) }
-        ensures err { IfErr result (λ e. Refused (refusal_in (parsed (sj.view json.now))) (fault_of e)) }
+        ensures err { IfErr result
+            (λ e. Refused (refusal_in (parsed (sj.view json.now))) (fault_of e)) }
         ensures read { IfOk result (λ value. parsed (sj.view json.now) ≡ Ok (av.view value)) }
     {
         from_json::value(alloc, json)
@@ -212,8 +221,10 @@ impl DynamoJson for AttributeValue {
     /// Reads an attribute value from its JSON text.
     fn from_json_text(alloc: Global, text: &str) -> Result<Self, TextError>
         ensures ok { IfOk result (λ value. read text.now ≡ Some (json_of (av.view value))) }
-        ensures err { IfErr result (λ e. RefusedText (λ json. refusal_in (parsed json)) text.now (fault_in e)) }
-        ensures read { IfOk result (λ value. parsed (json_of (av.view value)) ≡ Ok (av.view value)) }
+        ensures err { IfErr result
+            (λ e. RefusedText (λ json. refusal_in (parsed json)) text.now (fault_in e)) }
+        ensures read { IfOk result
+            (λ value. parsed (json_of (av.view value)) ≡ Ok (av.view value)) }
     {
         match from_text::attribute_value(alloc, text) {
             Ok(value) => Ok(value),
@@ -238,7 +249,8 @@ impl DynamoJson for Item {
 
     /// Returns the JSON value. It is that of no other item.
     fn to_json(&self, alloc: Global) -> Result<Value>
-        ensures json { MatchResult result (λ json. sj.view json ≡ item_json (item_view self.now)) (λ e. fault_of e ≡ out_of_memory) }
+        ensures json { MatchResult result (λ json. sj.view json ≡ item_json (item_view self.now))
+            (λ e. fault_of e ≡ out_of_memory) }
         ensures bytes { OnOk result (MembersHaveBytes (item_view self.now)) }
         ensures keys { OnOk result (ItemKeysDiffer self.now) }
     {
@@ -252,7 +264,8 @@ impl DynamoJson for Item {
     /// Reads an item from its JSON value.
     fn from_json(alloc: Global, json: &Value) -> Result<Self>
         ensures ok { IfOk result (λ item. sj.view json.now ≡ item_json (item_view item)) }
-        ensures err { IfErr result (λ e. Refused (refusal_in (parsed_item (sj.view json.now))) (fault_of e)) }
+        ensures err { IfErr result
+            (λ e. Refused (refusal_in (parsed_item (sj.view json.now))) (fault_of e)) }
         ensures read { IfOk result (λ item. parsed_item (sj.view json.now) ≡ Ok (item_view item)) }
     {
         let Value::Object(object) = json else {
@@ -264,8 +277,10 @@ impl DynamoJson for Item {
     /// Reads an item from its JSON text.
     fn from_json_text(alloc: Global, text: &str) -> Result<Self, TextError>
         ensures ok { IfOk result (λ item. read text.now ≡ Some (item_json (item_view item))) }
-        ensures err { IfErr result (λ e. RefusedText (λ json. refusal_in (parsed_item json)) text.now (fault_in e)) }
-        ensures read { IfOk result (λ item. parsed_item (item_json (item_view item)) ≡ Ok (item_view item)) }
+        ensures err { IfErr result
+            (λ e. RefusedText (λ json. refusal_in (parsed_item json)) text.now (fault_in e)) }
+        ensures read { IfOk result
+            (λ item. parsed_item (item_json (item_view item)) ≡ Ok (item_view item)) }
     {
         match from_text::attributes(alloc, text) {
             Ok(map) => Ok(Item::from(map)),

@@ -6,7 +6,8 @@ ghost use Rattle.dynamo_value.specs.Kind.{fault_of};
 ghost use Rattle.dynamo_value.specs.PrefixView.{prefix_view};
 ghost use Rattle.dynamo_value.specs.Refusal.{Refused, refusal_in};
 ghost use Rattle.dynamo_value.specs.View.{view, elements_view, members_view};
-ghost use Rattle.dynamo_json.specs.Parsed.{parsed, parsed_content, parsed_elements, parsed_members, each_in, string_in, blob_in};
+ghost use Rattle.dynamo_json.specs.Parsed.{parsed, parsed_content, parsed_elements, parsed_members};
+ghost use Rattle.dynamo_json.specs.Parsed.{each_in, string_in, blob_in};
 
 use dynamo_value::{AttributeValue, Prefix, Result, base64_text, refusal};
 use serde_json::{Map, Value};
@@ -17,7 +18,8 @@ use std::collections::HashMap;
 #[cycle(read)]
 pub(crate) fn value(alloc: Global, json: &Value) -> Result<AttributeValue>
     ensures ok { IfOk result (λ a. parsed (sj.view json.now) ≡ Ok (view a)) }
-    ensures err { IfErr result (λ e. Refused (refusal_in (parsed (sj.view json.now))) (fault_of e)) }
+    ensures err { IfErr result
+        (λ e. Refused (refusal_in (parsed (sj.view json.now))) (fault_of e)) }
 {
     let Value::Object(object) = json else {
         return Err(refusal::not_an_object(alloc));
@@ -38,8 +40,11 @@ pub(crate) fn value(alloc: Global, json: &Value) -> Result<AttributeValue>
 // The attribute value of the content under a prefix.
 #[cycle(read)]
 fn under(alloc: Global, prefix: Prefix, content: &Value) -> Result<AttributeValue>
-    ensures ok { IfOk result (λ a. parsed_content (sj.view content.now) (prefix_view prefix) ≡ Ok (view a)) }
-    ensures err { IfErr result (λ e. Refused (refusal_in (parsed_content (sj.view content.now) (prefix_view prefix))) (fault_of e)) }
+    ensures ok { IfOk result
+        (λ a. parsed_content (sj.view content.now) (prefix_view prefix) ≡ Ok (view a)) }
+    ensures err { IfErr result
+        (λ e. Refused (refusal_in (parsed_content (sj.view content.now) (prefix_view prefix)))
+        (fault_of e)) }
 {
     match (prefix, content) {
         (Prefix::N, Value::String(text)) => Ok(AttributeValue::N(text.clone()?)),
@@ -66,8 +71,11 @@ pub(crate) fn members(
     alloc: Global,
     object: &Map<String, Value>,
 ) -> Result<HashMap<String, AttributeValue>>
-    ensures ok { IfOk result (λ m. parsed_members (sj.members_view object.now.entries) ≡ Ok (members_view m.entries)) }
-    ensures err { IfErr result (λ e. Refused (refusal_in (parsed_members (sj.members_view object.now.entries))) (fault_of e)) }
+    ensures ok { IfOk result
+        (λ m. parsed_members (sj.members_view object.now.entries) ≡ Ok (members_view m.entries)) }
+    ensures err { IfErr result
+        (λ e. Refused (refusal_in (parsed_members (sj.members_view object.now.entries)))
+        (fault_of e)) }
 {
     let mut map = HashMap::with_capacity(alloc, object.len())?;
     for (key, json) in object.iter() {
@@ -80,8 +88,10 @@ pub(crate) fn members(
 // The values of an array, in order.
 #[cycle(read)]
 fn elements(alloc: Global, array: &Vec<Value>) -> Result<Vec<AttributeValue>>
-    ensures ok { IfOk result (λ v. parsed_elements (sj.items_view array.now.items) ≡ Ok (elements_view v.items)) }
-    ensures err { IfErr result (λ e. Refused (refusal_in (parsed_elements (sj.items_view array.now.items))) (fault_of e)) }
+    ensures ok { IfOk result
+        (λ v. parsed_elements (sj.items_view array.now.items) ≡ Ok (elements_view v.items)) }
+    ensures err { IfErr result
+        (λ e. Refused (refusal_in (parsed_elements (sj.items_view array.now.items))) (fault_of e)) }
 {
     let mut elements = Vec::with_capacity(alloc, array.len())?;
     for json in array {
@@ -92,8 +102,11 @@ fn elements(alloc: Global, array: &Vec<Value>) -> Result<Vec<AttributeValue>>
 
 // The strings of an array, in order.
 fn strings(alloc: Global, array: &Vec<Value>) -> Result<Vec<String>>
-    ensures ok { IfOk result (λ v. each_in string_in (sj.items_view array.now.items) ≡ Ok (map string_bytes v.items)) }
-    ensures err { IfErr result (λ e. Refused (refusal_in (each_in string_in (sj.items_view array.now.items))) (fault_of e)) }
+    ensures ok { IfOk result
+        (λ v. each_in string_in (sj.items_view array.now.items) ≡ Ok (map string_bytes v.items)) }
+    ensures err { IfErr result
+        (λ e. Refused (refusal_in (each_in string_in (sj.items_view array.now.items)))
+        (fault_of e)) }
 {
     let mut strings = Vec::with_capacity(alloc, array.len())?;
     for json in array {
@@ -104,8 +117,10 @@ fn strings(alloc: Global, array: &Vec<Value>) -> Result<Vec<String>>
 
 // The byte strings of an array of base64 strings, in order.
 fn blobs(alloc: Global, array: &Vec<Value>) -> Result<Vec<Vec<u8>>>
-    ensures ok { IfOk result (λ v. each_in blob_in (sj.items_view array.now.items) ≡ Ok (map (λ b. b.items) v.items)) }
-    ensures err { IfErr result (λ e. Refused (refusal_in (each_in blob_in (sj.items_view array.now.items))) (fault_of e)) }
+    ensures ok { IfOk result
+        (λ v. each_in blob_in (sj.items_view array.now.items) ≡ Ok (map (λ b. b.items) v.items)) }
+    ensures err { IfErr result
+        (λ e. Refused (refusal_in (each_in blob_in (sj.items_view array.now.items))) (fault_of e)) }
 {
     let mut blobs = Vec::with_capacity(alloc, array.len())?;
     for json in array {
@@ -117,7 +132,8 @@ fn blobs(alloc: Global, array: &Vec<Value>) -> Result<Vec<Vec<u8>>>
 // The string of a JSON value.
 fn string<'a>(alloc: Global, json: &'a Value) -> Result<&'a str>
     ensures ok { IfOk result (λ text. string_in (sj.view json.now) ≡ Ok text.now) }
-    ensures err { IfErr result (λ e. Refused (refusal_in (string_in (sj.view json.now))) (fault_of e)) }
+    ensures err { IfErr result
+        (λ e. Refused (refusal_in (string_in (sj.view json.now))) (fault_of e)) }
 {
     let Value::String(text) = json else {
         return Err(refusal::message(

@@ -5,7 +5,8 @@
 //! makes the JSON value of the text, to find the error.
 
 ghost use Rattle.std.specs.List.{AllByRecursion};
-ghost use Rattle.std.specs.Prelude.{◌≡◌, ◌≢◌, ◌<◌, ℕ, List, [], ◌∷◌, length, map, Some, IfOk, IfErr, OnOk, OnErr, string_bytes};
+ghost use Rattle.std.specs.Prelude.{◌≡◌, ◌≢◌, ◌<◌, ℕ, List, [], ◌∷◌, length, map, Some, IfOk};
+ghost use Rattle.std.specs.Prelude.{IfErr, OnOk, OnErr, string_bytes};
 ghost use Rattle.base64.specs.GeneralPurpose.{IsBytes};
 ghost use Rattle.json.specs.Json.{read_key};
 ghost use Rattle.json.specs.Token as token;
@@ -15,9 +16,12 @@ ghost use Rattle.dynamo_value.specs.Base64.{base64_text};
 ghost use Rattle.dynamo_value.specs.HasBytes.{HasBytes, ElementsHaveBytes, MembersHaveBytes};
 ghost use Rattle.dynamo_value.specs.PrefixView.{prefix_view};
 ghost use Rattle.dynamo_value.specs.View.{view, elements_view, members_view};
-ghost use Rattle.dynamo_json.specs.Followed.{SpellsItem, ValueIsNext, ContentIsNext, ElementsAreNext, MembersAreNext, TextsAreNext, BlobsAreNext};
+ghost use Rattle.dynamo_json.specs.Followed.{SpellsItem, ValueIsNext, ContentIsNext};
+ghost use Rattle.dynamo_json.specs.Followed.{ElementsAreNext, MembersAreNext, TextsAreNext};
+ghost use Rattle.dynamo_json.specs.Followed.{BlobsAreNext};
 ghost use Rattle.dynamo_json.specs.Json.{json_of, item_json, elements_json, members_json};
-ghost use Rattle.dynamo_json.specs.OfText.{Stands, ContentStands, ItemsStand, MembersStand, texts_json};
+ghost use Rattle.dynamo_json.specs.OfText.{Stands, ContentStands, ItemsStand, MembersStand};
+ghost use Rattle.dynamo_json.specs.OfText.{texts_json};
 ghost use Rattle.dynamo_json.specs.OneMember.{one_member};
 
 use crate::layout::Layout;
@@ -116,7 +120,8 @@ pub(crate) fn attributes_under(
     ensures members { IfOk result (λ m.
         read text.now ≡ Some (one_member name.now (item_json (members_view m.entries)))) }
     ensures bytes { IfOk result (λ m. MembersHaveBytes (members_view m.entries)) }
-    ensures follows { IfErr result (λ stop. stop ≡ Stop.Unlike → (ms : Members) → SpellsItem text.now name.now ms → ⊥) }
+    ensures follows { IfErr result
+        (λ stop. stop ≡ Stop.Unlike → (ms : Members) → SpellsItem text.now name.now ms → ⊥) }
 {
     let mut reader = Reader::new(text, scratch)?;
     begin_object(&mut reader)?;
@@ -165,9 +170,11 @@ fn content(
     prefix: Prefix,
     depth: usize,
 ) -> Result<AttributeValue, Stop>
-    ensures value { IfOk result (λ a. ContentStands depth reader.old (prefix_view prefix) (view a) reader.new) }
+    ensures value { IfOk result
+        (λ a. ContentStands depth reader.old (prefix_view prefix) (view a) reader.new) }
     ensures bytes { IfOk result (λ a. HasBytes (view a)) }
-    ensures follows { IfErr result (λ stop. stop ≡ Stop.Unlike → ContentIsNext depth (prefix_view prefix) reader.old → ⊥) }
+    ensures follows { IfErr result
+        (λ stop. stop ≡ Stop.Unlike → ContentIsNext depth (prefix_view prefix) reader.old → ⊥) }
     ensures shorter { OnOk result (length reader.new < length reader.old) }
 {
     match (prefix, reader.next().ok_or(Stop::Unlike)?) {
@@ -210,9 +217,11 @@ fn members(
     reader: &mut Reader<'_>,
     depth: usize,
 ) -> Result<HashMap<String, AttributeValue>, Stop>
-    ensures members { IfOk result (λ m. MembersStand depth reader.old (members_json (members_view m.entries)) reader.new) }
+    ensures members { IfOk result
+        (λ m. MembersStand depth reader.old (members_json (members_view m.entries)) reader.new) }
     ensures bytes { IfOk result (λ m. MembersHaveBytes (members_view m.entries)) }
-    ensures follows { IfErr result (λ stop. stop ≡ Stop.Unlike → MembersAreNext depth reader.old → ⊥) }
+    ensures follows { IfErr result
+        (λ stop. stop ≡ Stop.Unlike → MembersAreNext depth reader.old → ⊥) }
     ensures shorter { OnOk result (length reader.new < length reader.old) }
 {
     let mut map = HashMap::new(alloc);
@@ -232,9 +241,11 @@ fn elements(
     reader: &mut Reader<'_>,
     depth: usize,
 ) -> Result<Vec<AttributeValue>, Stop>
-    ensures elements { IfOk result (λ v. ItemsStand depth reader.old (elements_json (elements_view v.items)) reader.new) }
+    ensures elements { IfOk result
+        (λ v. ItemsStand depth reader.old (elements_json (elements_view v.items)) reader.new) }
     ensures bytes { IfOk result (λ v. ElementsHaveBytes (elements_view v.items)) }
-    ensures follows { IfErr result (λ stop. stop ≡ Stop.Unlike → ElementsAreNext depth reader.old → ⊥) }
+    ensures follows { IfErr result
+        (λ stop. stop ≡ Stop.Unlike → ElementsAreNext depth reader.old → ⊥) }
     ensures shorter { OnOk result (length reader.new < length reader.old) }
 {
     let mut elements = Vec::new(alloc);
@@ -247,7 +258,9 @@ fn elements(
 
 // The next strings, to the end of their array.
 fn strings(alloc: Global, layout: Layout, reader: &mut Reader<'_>) -> Result<Vec<String>, Stop>
-    ensures strings { IfOk result (λ v. (depth : ℕ) → ItemsStand depth reader.old (texts_json (map string_bytes v.items)) reader.new) }
+    ensures strings { IfOk result
+        (λ v. (depth : ℕ)
+        → ItemsStand depth reader.old (texts_json (map string_bytes v.items)) reader.new) }
     ensures follows { IfErr result (λ stop. stop ≡ Stop.Unlike → TextsAreNext reader.old → ⊥) }
     ensures shorter { OnOk result (length reader.new < length reader.old) }
 {
@@ -261,7 +274,10 @@ fn strings(alloc: Global, layout: Layout, reader: &mut Reader<'_>) -> Result<Vec
 
 // The byte strings of the next base64 strings, to the end of their array.
 fn blobs(alloc: Global, layout: Layout, reader: &mut Reader<'_>) -> Result<Vec<Vec<u8>>, Stop>
-    ensures blobs { IfOk result (λ v. (depth : ℕ) → ItemsStand depth reader.old (texts_json (map base64_text (map (λ b. b.items) v.items))) reader.new) }
+    ensures blobs { IfOk result
+        (λ v. (depth : ℕ)
+        → ItemsStand depth reader.old (texts_json (map base64_text (map (λ b. b.items) v.items)))
+        reader.new) }
     ensures bytes { IfOk result (λ v. AllByRecursion IsBytes (map (λ b. b.items) v.items)) }
     ensures follows { IfErr result (λ stop. stop ≡ Stop.Unlike → BlobsAreNext reader.old → ⊥) }
     ensures shorter { OnOk result (length reader.new < length reader.old) }
@@ -278,7 +294,8 @@ fn blobs(alloc: Global, layout: Layout, reader: &mut Reader<'_>) -> Result<Vec<V
 
 fn string<'a>(reader: &mut Reader<'a>) -> Result<&'a str, Stop>
     ensures ok { IfOk result (λ text. reader.old ≡ token.string text.now ∷ reader.new) }
-    ensures err { OnErr result ((text : List ℕ) (rest : List token.Token) → reader.old ≢ token.string text ∷ rest) }
+    ensures err { OnErr result
+        ((text : List ℕ) (rest : List token.Token) → reader.old ≢ token.string text ∷ rest) }
 {
     match reader.next() {
         Some(Token::String(text)) => Ok(text),
@@ -288,7 +305,8 @@ fn string<'a>(reader: &mut Reader<'a>) -> Result<&'a str, Stop>
 
 fn begin_object(reader: &mut Reader<'_>) -> Result<(), Stop>
     ensures ok { OnOk result (reader.old ≡ token.begin_object ∷ reader.new) }
-    ensures err { OnErr result ((rest : List token.Token) → reader.old ≢ token.begin_object ∷ rest) }
+    ensures err { OnErr result
+        ((rest : List token.Token) → reader.old ≢ token.begin_object ∷ rest) }
 {
     match reader.next() {
         Some(Token::BeginObject) => Ok(()),
@@ -309,7 +327,8 @@ fn end_object(reader: &mut Reader<'_>) -> Result<(), Stop>
 // Checks that the next token is the key of this name.
 fn key_named(reader: &mut Reader<'_>, name: &str) -> Result<(), Stop>
     ensures ok { OnOk result (read_key reader.old ≡ Some (Some name.now, reader.new)) }
-    ensures err { OnErr result ((rest : List token.Token) → read_key reader.old ≢ Some (Some name.now, rest)) }
+    ensures err { OnErr result
+        ((rest : List token.Token) → read_key reader.old ≢ Some (Some name.now, rest)) }
 {
     match reader.next_key()? {
         Some(key) if key == name => Ok(()),

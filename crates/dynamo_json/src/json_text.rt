@@ -1,6 +1,7 @@
 //! Writes attribute values as the text of their DynamoDB JSON, without a JSON value in between.
 
-ghost use Rattle.std.specs.Prelude.{◌≡◌, [], ◌++◌, IfOk, OnOk, IsUtf8, MatchResult, length, map, string_bytes, if◌then◌else◌};
+ghost use Rattle.std.specs.Prelude.{◌≡◌, [], ◌++◌, IfOk, OnOk, IsUtf8, MatchResult, length, map};
+ghost use Rattle.std.specs.Prelude.{string_bytes, if◌then◌else◌};
 ghost use Rattle.json.specs.Print.{print};
 ghost use Rattle.serde_json.specs.Written.{compact_text};
 ghost use Rattle.dynamo_value.specs.Base64.{base64_text};
@@ -25,7 +26,10 @@ pub use stored::stored_text;
 
 /// Appends the JSON text of an attribute value. If memory runs out, the string is unchanged.
 pub(crate) fn push_value(text: &mut String, value: &AttributeValue) -> Result<(), AllocError>
-    ensures { MatchResult result (λ _. string_bytes text.new ≡ string_bytes text.old ++ compact_text (json_of (view value.now))) (λ _. string_bytes text.new ≡ string_bytes text.old) }
+    ensures { MatchResult result
+        (λ _. string_bytes text.new
+        ≡ string_bytes text.old ++ compact_text (json_of (view value.now)))
+        (λ _. string_bytes text.new ≡ string_bytes text.old) }
 {
     let before = text.len();
     let mut printer = Printer::after(text);
@@ -39,7 +43,10 @@ pub(crate) fn push_members(
     text: &mut String,
     map: &HashMap<String, AttributeValue>,
 ) -> Result<(), AllocError>
-    ensures { MatchResult result (λ _. string_bytes text.new ≡ string_bytes text.old ++ compact_text (item_json (members_view map.now.entries))) (λ _. string_bytes text.new ≡ string_bytes text.old) }
+    ensures { MatchResult result
+        (λ _. string_bytes text.new
+        ≡ string_bytes text.old ++ compact_text (item_json (members_view map.now.entries)))
+        (λ _. string_bytes text.new ≡ string_bytes text.old) }
 {
     let before = text.len();
     let mut printer = Printer::after(text);
@@ -75,7 +82,8 @@ impl Printer {
     fn into_text(self, before: usize, whole: bool) -> String
         requires utf8 { IsUtf8 self.out.before }
         requires len { before ≡ length self.out.before }
-        ensures { string_bytes result ≡ (if whole then self.out.before ++ print self.out.tokens else self.out.before) }
+        ensures { string_bytes result
+            ≡ (if whole then self.out.before ++ print self.out.tokens else self.out.before) }
     {
         let Printer { out, .. } = self;
         let mut bytes = out.into_inner();
@@ -88,7 +96,8 @@ impl Printer {
     // The object of one member that an attribute value is.
     #[cycle(print)]
     fn value(&mut self, value: &AttributeValue) -> Result<(), AllocError>
-        ensures ok { OnOk result (self.new.out.tokens ≡ self.old.out.tokens ++ tokens_of (json_of (view value.now))) }
+        ensures ok { OnOk result
+            (self.new.out.tokens ≡ self.old.out.tokens ++ tokens_of (json_of (view value.now))) }
         ensures before { self.new.out.before ≡ self.old.out.before }
     {
         match value {
@@ -116,7 +125,9 @@ impl Printer {
     // The object of the members of a map.
     #[cycle(print)]
     fn object(&mut self, map: &HashMap<String, AttributeValue>) -> Result<(), AllocError>
-        ensures ok { OnOk result (self.new.out.tokens ≡ self.old.out.tokens ++ tokens_of (item_json (members_view map.now.entries))) }
+        ensures ok { OnOk result
+            (self.new.out.tokens
+            ≡ self.old.out.tokens ++ tokens_of (item_json (members_view map.now.entries))) }
         ensures before { self.new.out.before ≡ self.old.out.before }
     {
         let members = by_key(*self.room.allocator(), map)?;
@@ -131,7 +142,10 @@ impl Printer {
     // The array of the values of a list, in order.
     #[cycle(print)]
     fn elements(&mut self, list: &Vec<AttributeValue>) -> Result<(), AllocError>
-        ensures ok { OnOk result (self.new.out.tokens ≡ self.old.out.tokens ++ tokens_of (json.array (elements_json (elements_view list.now.items)))) }
+        ensures ok { OnOk result
+            (self.new.out.tokens
+            ≡ self.old.out.tokens
+            ++ tokens_of (json.array (elements_json (elements_view list.now.items)))) }
         ensures before { self.new.out.before ≡ self.old.out.before }
     {
         self.out.begin_array()?;
@@ -144,7 +158,10 @@ impl Printer {
     // A number or a string: its string under the prefix.
     #[inline(never)]
     fn text(&mut self, prefix: Prefix, text: &str) -> Result<(), AllocError>
-        ensures ok { OnOk result (self.new.out.tokens ≡ self.old.out.tokens ++ tokens_of (under (prefix_view prefix) (json.string text.now))) }
+        ensures ok { OnOk result
+            (self.new.out.tokens
+            ≡ self.old.out.tokens
+            ++ tokens_of (under (prefix_view prefix) (json.string text.now))) }
         ensures before { self.new.out.before ≡ self.old.out.before }
     {
         self.begin(prefix)?;
@@ -155,7 +172,9 @@ impl Printer {
     // A boolean under the prefix.
     #[inline(never)]
     fn flag(&mut self, prefix: Prefix, flag: bool) -> Result<(), AllocError>
-        ensures ok { OnOk result (self.new.out.tokens ≡ self.old.out.tokens ++ tokens_of (under (prefix_view prefix) (json.boolean flag))) }
+        ensures ok { OnOk result
+            (self.new.out.tokens
+            ≡ self.old.out.tokens ++ tokens_of (under (prefix_view prefix) (json.boolean flag))) }
         ensures before { self.new.out.before ≡ self.old.out.before }
     {
         self.begin(prefix)?;
@@ -166,7 +185,10 @@ impl Printer {
     // A byte string: its base64 string.
     #[inline(never)]
     fn bytes(&mut self, bytes: &[u8]) -> Result<(), AllocError>
-        ensures ok { OnOk result (self.new.out.tokens ≡ self.old.out.tokens ++ tokens_of (under kind.B (json.string (base64_text bytes.now)))) }
+        ensures ok { OnOk result
+            (self.new.out.tokens
+            ≡ self.old.out.tokens
+            ++ tokens_of (under kind.B (json.string (base64_text bytes.now)))) }
         ensures before { self.new.out.before ≡ self.old.out.before }
     {
         self.begin(Prefix::B)?;
@@ -177,7 +199,10 @@ impl Printer {
     // The array of strings under the prefix, in order.
     #[inline(never)]
     fn texts(&mut self, prefix: Prefix, set: &Vec<String>) -> Result<(), AllocError>
-        ensures ok { OnOk result (self.new.out.tokens ≡ self.old.out.tokens ++ tokens_of (under (prefix_view prefix) (strings (map string_bytes set.now.items)))) }
+        ensures ok { OnOk result
+            (self.new.out.tokens
+            ≡ self.old.out.tokens
+            ++ tokens_of (under (prefix_view prefix) (strings (map string_bytes set.now.items)))) }
         ensures before { self.new.out.before ≡ self.old.out.before }
     {
         self.begin(prefix)?;
@@ -188,7 +213,9 @@ impl Printer {
     // The array of strings, in order.
     #[inline(never)]
     fn array(&mut self, set: &Vec<String>) -> Result<(), AllocError>
-        ensures ok { OnOk result (self.new.out.tokens ≡ self.old.out.tokens ++ tokens_of (strings (map string_bytes set.now.items))) }
+        ensures ok { OnOk result
+            (self.new.out.tokens
+            ≡ self.old.out.tokens ++ tokens_of (strings (map string_bytes set.now.items))) }
         ensures before { self.new.out.before ≡ self.old.out.before }
     {
         self.out.begin_array()?;
@@ -201,7 +228,11 @@ impl Printer {
     // The array of the base64 strings of byte strings, in order.
     #[inline(never)]
     fn blobs(&mut self, set: &Vec<Vec<u8>>) -> Result<(), AllocError>
-        ensures ok { OnOk result (self.new.out.tokens ≡ self.old.out.tokens ++ tokens_of (under kind.Bs (strings (map base64_text (map (λ b. b.items) set.now.items))))) }
+        ensures ok { OnOk result
+            (self.new.out.tokens
+            ≡ self.old.out.tokens
+            ++ tokens_of
+            (under kind.Bs (strings (map base64_text (map (λ b. b.items) set.now.items))))) }
         ensures before { self.new.out.before ≡ self.old.out.before }
     {
         self.begin(Prefix::Bs)?;
@@ -215,7 +246,9 @@ impl Printer {
 
     // The base64 string of bytes.
     fn base64(&mut self, bytes: &[u8]) -> Result<(), AllocError>
-        ensures ok { OnOk result (self.new.out.tokens ≡ self.old.out.tokens ++ tokens_of (json.string (base64_text bytes.now))) }
+        ensures ok { OnOk result
+            (self.new.out.tokens
+            ≡ self.old.out.tokens ++ tokens_of (json.string (base64_text bytes.now))) }
         ensures before { self.new.out.before ≡ self.old.out.before }
     {
         self.room.clear();
@@ -225,7 +258,8 @@ impl Printer {
 
     // The beginning of the object of one member: its key is the prefix.
     fn begin(&mut self, prefix: Prefix) -> Result<(), AllocError>
-        ensures ok { OnOk result (self.new.out.tokens ≡ self.old.out.tokens ++ begun (prefix_view prefix)) }
+        ensures ok { OnOk result
+            (self.new.out.tokens ≡ self.old.out.tokens ++ begun (prefix_view prefix)) }
         ensures before { self.new.out.before ≡ self.old.out.before }
     {
         self.out.begin_object()?;

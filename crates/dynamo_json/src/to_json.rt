@@ -49,7 +49,8 @@ pub(crate) fn object(
     alloc: Global,
     map: &HashMap<String, AttributeValue>,
 ) -> Result<Map<String, Value>, AllocError>
-    ensures json { IfOk result (λ m. sj.members_view m.entries ≡ members_json (members_view map.now.entries)) }
+    ensures json { IfOk result
+        (λ m. sj.members_view m.entries ≡ members_json (members_view map.now.entries)) }
     ensures bytes { OnOk result (MembersHaveBytes (members_view map.now.entries)) }
     ensures keys { OnOk result (EntriesDiffer map.now.entries) }
 {
@@ -64,7 +65,8 @@ pub(crate) fn object(
 // The array of the values of a list, in order.
 #[cycle(write)]
 fn array(alloc: Global, list: &Vec<AttributeValue>) -> Result<Vec<Value>, AllocError>
-    ensures json { IfOk result (λ v. sj.items_view v.items ≡ elements_json (elements_view list.now.items)) }
+    ensures json { IfOk result
+        (λ v. sj.items_view v.items ≡ elements_json (elements_view list.now.items)) }
     ensures bytes { OnOk result (ElementsHaveBytes (elements_view list.now.items)) }
     ensures keys { OnOk result (ElementsDiffer list.now.items) }
 {
@@ -77,7 +79,8 @@ fn array(alloc: Global, list: &Vec<AttributeValue>) -> Result<Vec<Value>, AllocE
 
 // The array of strings, in order.
 fn texts(alloc: Global, set: &Vec<String>) -> Result<Vec<Value>, AllocError>
-    ensures { IfOk result (λ v. json.array (sj.items_view v.items) ≡ strings (map string_bytes set.now.items)) }
+    ensures { IfOk result
+        (λ v. json.array (sj.items_view v.items) ≡ strings (map string_bytes set.now.items)) }
 {
     let mut array = Vec::with_capacity(alloc, set.len())?;
     for text in set {
@@ -88,7 +91,9 @@ fn texts(alloc: Global, set: &Vec<String>) -> Result<Vec<Value>, AllocError>
 
 // The array of the base64 strings of byte strings, in order.
 fn blobs(alloc: Global, set: &Vec<Vec<u8>>) -> Result<Vec<Value>, AllocError>
-    ensures json { IfOk result (λ v. json.array (sj.items_view v.items) ≡ strings (map base64_text (map (λ b. b.items) set.now.items))) }
+    ensures json { IfOk result
+        (λ v. json.array (sj.items_view v.items)
+        ≡ strings (map base64_text (map (λ b. b.items) set.now.items))) }
     ensures bytes { OnOk result (AllByRecursion IsBytes (map (λ b. b.items) set.now.items)) }
 {
     let mut array = Vec::with_capacity(alloc, set.len())?;

@@ -57,7 +57,8 @@ pub fn item_under(
         read text.now ≡ Some (one_member name.now (item_json (item_view item))))) }
     ensures read { IfOk result (λ found. IfSome found (λ item.
         parsed_item (item_json (item_view item)) ≡ Ok (item_view item))) }
-    ensures spelled { (members : Members) → SpellsItem text.now name.now members → result ≢ Ok None }
+    ensures spelled { (members : Members) → SpellsItem text.now name.now members
+        → result ≢ Ok None }
     ensures written { (members : Members) → IsWritable name.now members
         → text.now ≡ compact_text (one_member name.now (item_json members)) → result ≢ Ok None }
 {

@@ -53,7 +53,8 @@ impl Reader for DeserializerBytes {
     }
 
     fn show(self, _request: Request) -> Result<Showing<Self, NoElements, NoEntries, NoVariant>>
-        ensures { ShowsOutright fault_of bytes_source (λ _. Err expected_enum) (shown _request (bytes_source self)) result }
+        ensures { ShowsOutright fault_of bytes_source (λ _. Err expected_enum)
+            (shown _request (bytes_source self)) result }
     {
         Ok(Showing::Bytes(self.bytes))
     }

@@ -4,7 +4,8 @@ ghost use Rattle.dynamo_value.specs.Kind.{fault_of};
 ghost use Rattle.dynamo_value.specs.IntegerTypes.{kind_of};
 ghost use Rattle.dynamo_de.specs.Showing.{integer_showing};
 ghost use Rattle.dynamo_de.specs.Number.{parse};
-ghost use Rattle.dynamo_de.specs.Shown.{bool_key_shown, key_shown, number_shown, number_text_shown, plain_text_shown};
+ghost use Rattle.dynamo_de.specs.Shown.{bool_key_shown, key_shown, number_shown, number_text_shown};
+ghost use Rattle.dynamo_de.specs.Shown.{plain_text_shown};
 ghost use Rattle.dynamo_de.specs.Showing as showing;
 ghost use Rattle.dynamo_leaf.specs.Leaf.{ShowsLeaf, leaf_showing, no_number_fault};
 
@@ -16,8 +17,8 @@ use dynamo_de::{Integer, IntegerKind, Request};
 use dynamo_value::{Error, ErrorImpl, Result};
 use std::num::ParseIntError;
 
-/// What a borrowed string holds: a boolean, an integer, or the string itself, which the leaf doesn't
-/// keep.
+/// What a borrowed string holds: a boolean, an integer, or the string itself, which the leaf
+/// doesn't keep.
 #[derive(Debug, Drop, PartialEq, Eq)]
 pub enum Leaf {
     /// A boolean.
@@ -57,7 +58,8 @@ impl NoNumber {
 
 // The integer of a string, or why the string isn't one of this type.
 fn read_integer(kind: IntegerKind, text: &str) -> Result<Integer, ParseIntError>
-    ensures { option_map integer_showing (result_ok result) ≡ option_map (showing.integer (kind_of kind)) (parse (kind_of kind) text.now) }
+    ensures { option_map integer_showing (result_ok result)
+        ≡ option_map (showing.integer (kind_of kind)) (parse (kind_of kind) text.now) }
 {
     match kind {
         IntegerKind::I8 => parse_i8(text).map(Integer::I8),
@@ -127,7 +129,8 @@ fn show_bool(key: &str) -> Result<Leaf>
 /// assert!(rt; show_number(asked, "256").is_err());
 /// ```
 pub fn show_number(request: Request, text: &str) -> Result<Leaf, NoNumber>
-    ensures { ShowsLeaf (no_number_fault text.now) text.now (number_text_shown request text.now) result }
+    ensures { ShowsLeaf (no_number_fault text.now) text.now (number_text_shown request text.now)
+        result }
 {
     match request {
         Request::Integer(kind) => match read_integer(kind, text) {

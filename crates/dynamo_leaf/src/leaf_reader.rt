@@ -38,7 +38,8 @@ pub fn raise<R: LeafReader, L, M>(
     text: String,
 ) -> Showing<R, L, M, R::Choice>
     ensures { (elements : L → List Source) (entries : M → List Entry)
-        → seen R.leaf_source elements entries R.leaf_chosen result ≡ leaf_showing (string_bytes text) leaf }
+        → seen R.leaf_source elements entries R.leaf_chosen result
+        ≡ leaf_showing (string_bytes text) leaf }
 {
     match leaf {
         Leaf::Bool(v) => Showing::Bool(v),

@@ -109,7 +109,8 @@ impl<P: TextKind> Reader for TextDeserializer<P> {
     }
 
     fn show(self, request: Request) -> Result<Showing<Self, NoElements, NoEntries, VariantName>>
-        ensures { ShowsOutright fault_of (text_source P.of_text) name_chosen (shown request (text_source P.of_text self)) result }
+        ensures { ShowsOutright fault_of (text_source P.of_text) name_chosen
+            (shown request (text_source P.of_text self)) result }
     {
         let TextDeserializer {
             alloc,

@@ -18,9 +18,9 @@ use std::alloc::Global;
 
 /// Reading DynamoDB JSON as [`DynamoJson`] does, with the place of an error.
 ///
-/// The [`Place`](crate::Place) is in the attribute value or the item, as `orders[3].price`, so data type
-/// descriptors are no steps. It leads to the attribute value that can't be read, or to the element of
-/// a set.
+/// The [`Place`](crate::Place) is in the attribute value or the item, as `orders[3].price`, so data
+/// type descriptors are no steps. It leads to the attribute value that can't be read, or to the
+/// element of a set.
 ///
 /// # Examples
 ///
@@ -60,7 +60,8 @@ pub trait DynamoJsonLocated: DynamoJson {
     /// ```
     fn from_json_located(alloc: Global, json: &Value) -> Result<Self, LocatedError<Error>>
         ensures ok { IfOk result (λ value. sj.view json.now ≡ Self.json_value value) }
-        ensures err { IfErr result (λ e. Refused (Self.refusal (sj.view json.now)) (fault_of e.error)) };
+        ensures err { IfErr result
+            (λ e. Refused (Self.refusal (sj.view json.now)) (fault_of e.error)) };
 
     /// Reads a value from its JSON text as [`from_json_text`](DynamoJson::from_json_text) does, and
     /// says where an error was found. After an error the text is read again.
@@ -91,7 +92,8 @@ impl DynamoJsonLocated for AttributeValue {
     /// Reads an attribute value from its JSON value, and says where an error was found.
     fn from_json_located(alloc: Global, json: &Value) -> Result<Self, LocatedError<Error>>
         ensures ok { IfOk result (λ value. sj.view json.now ≡ json_of (av.view value)) }
-        ensures err { IfErr result (λ e. Refused (refusal_in (parsed (sj.view json.now))) (fault_of e.error)) }
+        ensures err { IfErr result
+            (λ e. Refused (refusal_in (parsed (sj.view json.now))) (fault_of e.error)) }
         ensures read { IfOk result (λ value. parsed (sj.view json.now) ≡ Ok (av.view value)) }
     {
         match Self::from_json(alloc, json) {
@@ -103,8 +105,10 @@ impl DynamoJsonLocated for AttributeValue {
     /// Reads an attribute value from its JSON text, and says where an error was found.
     fn from_json_text_located(alloc: Global, text: &str) -> Result<Self, LocatedError<TextError>>
         ensures ok { IfOk result (λ value. read text.now ≡ Some (json_of (av.view value))) }
-        ensures err { IfErr result (λ e. RefusedText (λ json. refusal_in (parsed json)) text.now (fault_in e.error)) }
-        ensures read { IfOk result (λ value. parsed (json_of (av.view value)) ≡ Ok (av.view value)) }
+        ensures err { IfErr result
+            (λ e. RefusedText (λ json. refusal_in (parsed json)) text.now (fault_in e.error)) }
+        ensures read { IfOk result
+            (λ value. parsed (json_of (av.view value)) ≡ Ok (av.view value)) }
     {
         match Self::from_json_text(alloc, text) {
             Ok(value) => Ok(value),
@@ -117,7 +121,8 @@ impl DynamoJsonLocated for Item {
     /// Reads an item from its JSON value, and says where an error was found.
     fn from_json_located(alloc: Global, json: &Value) -> Result<Self, LocatedError<Error>>
         ensures ok { IfOk result (λ item. sj.view json.now ≡ item_json (item_view item)) }
-        ensures err { IfErr result (λ e. Refused (refusal_in (parsed_item (sj.view json.now))) (fault_of e.error)) }
+        ensures err { IfErr result
+            (λ e. Refused (refusal_in (parsed_item (sj.view json.now))) (fault_of e.error)) }
         ensures read { IfOk result (λ item. parsed_item (sj.view json.now) ≡ Ok (item_view item)) }
     {
         match Self::from_json(alloc, json) {
@@ -129,8 +134,10 @@ impl DynamoJsonLocated for Item {
     /// Reads an item from its JSON text, and says where an error was found.
     fn from_json_text_located(alloc: Global, text: &str) -> Result<Self, LocatedError<TextError>>
         ensures ok { IfOk result (λ item. read text.now ≡ Some (item_json (item_view item))) }
-        ensures err { IfErr result (λ e. RefusedText (λ json. refusal_in (parsed_item json)) text.now (fault_in e.error)) }
-        ensures read { IfOk result (λ item. parsed_item (item_json (item_view item)) ≡ Ok (item_view item)) }
+        ensures err { IfErr result
+            (λ e. RefusedText (λ json. refusal_in (parsed_item json)) text.now (fault_in e.error)) }
+        ensures read { IfOk result
+            (λ item. parsed_item (item_json (item_view item)) ≡ Ok (item_view item)) }
     {
         match Self::from_json_text(alloc, text) {
             Ok(item) => Ok(item),

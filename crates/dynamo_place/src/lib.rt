@@ -1,11 +1,12 @@
-//! Reading with places: an error says where in the value it was found, as `orders[3].price: Expected num`.
+//! Reading with places: an error says where in the value it was found, as
+//! `orders[3].price: Expected num`.
 //!
-//! [`from_attribute_value_located`], [`from_item_located`], [`from_item_ref_located`] and [`from_items_located`]
-//! return what their namesakes in `dynamo_read` return, with the [`Place`] of an error. [`read_located`] does the
-//! same for any [`Reader`](dynamo_de::Reader).
+//! [`from_attribute_value_located`], [`from_item_located`], [`from_item_ref_located`] and
+//! [`from_items_located`] return what their namesakes in `dynamo_read` return, with the [`Place`]
+//! of an error. [`read_located`] does the same for any [`Reader`](dynamo_de::Reader).
 //!
-//! [`to_attribute_value_located`] and [`to_item_located`] return what their namesakes in `dynamo_write` return, with
-//! the [`Place`] of an error in the value that is written.
+//! [`to_attribute_value_located`] and [`to_item_located`] return what their namesakes in
+//! `dynamo_write` return, with the [`Place`] of an error in the value that is written.
 #![tactic(auto)]
 
 mod fault;

@@ -5,7 +5,8 @@ use std::fmt;
 
 /// An error of reading, and the place that reading had come to.
 ///
-/// It is printed as the place and the error, `orders[3].price: Expected num`; of a whole value the error alone.
+/// It is printed as the place and the error, `orders[3].price: Expected num`; of a whole value the
+/// error alone.
 #[derive(Debug, Drop)]
 pub struct LocatedError<E> {
     /// Where the error was found. It is shorter than it could be if memory for it ran out.

@@ -7,10 +7,11 @@ use dynamo_value::{Error, ErrorImpl, Integer, Result};
 use dynamo_write::SetKind;
 use std::alloc::Global;
 
-/// A serializer that refuses what [`dynamo_write::Serializer`] refuses, and keeps the steps to the value on a trail. It makes
-/// no attribute values.
+/// A serializer that refuses what [`dynamo_write::Serializer`] refuses, and keeps the steps to the
+/// value on a trail. It makes no attribute values.
 ///
-/// When a value is written, the trail is where it was before. After an error it ends where the error was met.
+/// When a value is written, the trail is where it was before. After an error it ends where the
+/// error was met.
 #[derive(Clone, Copy)]
 pub struct LocatingSerializer<'a> {
     alloc: Global,
@@ -67,8 +68,8 @@ pub enum Written {
     Other,
 }
 
-/// The index of the first element of a list that is no string, that of the first one that is no number, and that of the
-/// first one that is no byte string.
+/// The index of the first element of a list that is no string, that of the first one that is no
+/// number, and that of the first one that is no byte string.
 #[derive(Clone, Copy)]
 pub struct Misfits {
     strings: Option<usize>,
@@ -96,7 +97,8 @@ impl Misfits {
     }
 }
 
-// The first misfit, given that among the elements before, and whether the element at this index fits.
+// The first misfit, given that among the elements before, and whether the element at this index
+// fits.
 fn first_misfit(before: Option<usize>, index: usize, fits: bool) -> Option<usize> {
     if before.is_none() && !fits {
         Some(index)

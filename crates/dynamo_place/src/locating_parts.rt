@@ -23,7 +23,8 @@ pub struct LocatingParts<'a> {
 }
 
 impl<'a> LocatingParts<'a> {
-    /// Returns the builder of a value whose parts are right inside it, and which is written as this if it has none.
+    /// Returns the builder of a value whose parts are right inside it, and which is written as this
+    /// if it has none.
     pub(crate) fn new(serializer: LocatingSerializer<'a>, written: Written) -> Self
         ensures { result.next_key ≡ None }
     {

@@ -1,7 +1,8 @@
 ghost use Rattle.std.specs.Prelude.{◌≡◌, [], option_map};
 ghost use Rattle.std.specs.Fmt.{DisplaysOnOk};
 ghost use Rattle.dynamo_place.specs.Found.{IsAt, IsPart, IsUnder, IsUnderName, steps_of};
-ghost use Rattle.dynamo_place.specs.PlaceText.{further_text, further_texts, is_plain_char, is_plain_name, place_text, step_text};
+ghost use Rattle.dynamo_place.specs.PlaceText.{further_text, further_texts, is_plain_char};
+ghost use Rattle.dynamo_place.specs.PlaceText.{is_plain_name, place_text, step_text};
 
 use crate::WithoutIndexes;
 use dynamo_value::AttributeValue;
@@ -20,9 +21,10 @@ pub enum Step {
 
 /// The way from a value to a part of it, as `orders[3].price`.
 ///
-/// It is printed as DynamoDB writes document paths: the names of attributes with a dot between them, and the indexes
-/// of elements in brackets. A name that is empty, or has another character than a letter, a digit, `_` or `-`, is
-/// printed as a string literal: `orders."unit price"`. The place of the whole value is empty.
+/// It is printed as DynamoDB writes document paths: the names of attributes with a dot between
+/// them, and the indexes of elements in brackets. A name that is empty, or has another character
+/// than a letter, a digit, `_` or `-`, is printed as a string literal: `orders."unit price"`. The
+/// place of the whole value is empty.
 ///
 /// # Examples
 ///
@@ -82,8 +84,8 @@ impl Place {
         }
     }
 
-    /// Returns this place as seen from a list whose element at `index` has it. If memory runs out, it is
-    /// the place of the whole list.
+    /// Returns this place as seen from a list whose element at `index` has it. If memory runs out,
+    /// it is the place of the whole list.
     ///
     /// # Examples
     ///
@@ -99,8 +101,8 @@ impl Place {
         self.under(alloc, Step::Element(index))
     }
 
-    /// Returns this place as seen from an item or a map whose attribute of this name has it. If memory
-    /// runs out, it is the place of the whole item.
+    /// Returns this place as seen from an item or a map whose attribute of this name has it. If
+    /// memory runs out, it is the place of the whole item.
     pub fn in_attribute(self, alloc: Global, name: &str) -> Place
         ensures { IsUnderName name.now self result }
     {
@@ -139,8 +141,8 @@ impl Place {
         WithoutIndexes { place: self }
     }
 
-    /// Returns the part of a value at this place, or `None` if there is none. The elements of a set and the keys of a
-    /// map are no attribute values, so none is found at their places.
+    /// Returns the part of a value at this place, or `None` if there is none. The elements of a set
+    /// and the keys of a map are no attribute values, so none is found at their places.
     ///
     /// # Examples
     ///

@@ -22,14 +22,14 @@ use std::collections::HashMap;
 
 /// Reads a value from a reader, and says where an error was found.
 ///
-/// It keeps the steps to the part that is read, and copies the key of each entry, so it takes longer than
-/// reading from the reader itself. The other located calls read without places first, and only after an
-/// error with them.
+/// It keeps the steps to the part that is read, and copies the key of each entry, so it takes
+/// longer than reading from the reader itself. The other located calls read without places first,
+/// and only after an error with them.
 ///
 /// # Errors
 ///
-/// Returns the error that the type has for the reader's source, with its place, or the reader's error for out of
-/// memory.
+/// Returns the error that the type has for the reader's source, with its place, or the reader's
+/// error for out of memory.
 pub fn read_located<T: Deserialize, R: Reader>(
     alloc: Global,
     reader: R,
@@ -53,7 +53,8 @@ fn read_from<T: Deserialize, R: Reader>(alloc: Global, reader: R) -> Result<T, R
     T::deserialize(alloc, reader)
 }
 
-/// Reads a value from an attribute value as `from_attribute_value` does, and says where an error was found.
+/// Reads a value from an attribute value as `from_attribute_value` does, and says where an error
+/// was found.
 ///
 /// # Errors
 ///
@@ -136,15 +137,16 @@ pub fn from_item_ref_located<T: Deserialize>(
     alloc: Global,
     item: &Item,
 ) -> Result<T, LocatedError<Error>>
-    ensures { Meets (λ e. fault_of e.error) (T.reads (attribute (av.M (item_view item.now)))) result }
+    ensures { Meets (λ e. fault_of e.error) (T.reads (attribute (av.M (item_view item.now))))
+        result }
 {
     let reader = LentDeserializer::from_map(alloc, item.inner());
     let again = LentDeserializer::from_map(alloc, item.inner());
     read_lent(alloc, reader, again)
 }
 
-/// Reads a list of values from a list of items as `from_items` does, and says where an error was found. The place begins
-/// with the index of the item, as `[7].orders[3].price`.
+/// Reads a list of values from a list of items as `from_items` does, and says where an error was
+/// found. The place begins with the index of the item, as `[7].orders[3].price`.
 ///
 /// # Errors
 ///
@@ -154,7 +156,8 @@ pub fn from_items_located<T: Deserialize>(
     alloc: Global,
     items: Items,
 ) -> Result<Vec<T>, LocatedError<Error>>
-    ensures { Meets (λ e. fault_of e.error) (ReadsList T.reads (map (λ m. attribute (av.M m)) (items_view items))) result }
+    ensures { Meets (λ e. fault_of e.error)
+        (ReadsList T.reads (map (λ m. attribute (av.M m)) (items_view items))) result }
 {
     match as_values(alloc, Vec::from(items)) {
         Ok(values) => from_attribute_value_located(alloc, AttributeValue::L(values)),

@@ -3,15 +3,17 @@ use crate::Step;
 use crate::trail::Trail;
 use std::alloc::Global;
 
-/// The part that a reader reads: how many steps of the trail lead to the value that has it, and its own step, which goes on the
-/// trail when the part is read.
+/// The part that a reader reads: how many steps of the trail lead to the value that has it, and its
+/// own step, which goes on the trail when the part is read.
 ///
-/// A part has no trail if its name isn't known or memory for its name ran out. What is inside it has none either.
+/// A part has no trail if its name isn't known or memory for its name ran out. What is inside it
+/// has none either.
 #[derive(Drop)]
 pub(crate) struct Spot<'a> {
     trail: Option<&'a Trail>,
     above: usize,
-    // The part's own step; none if it is the whole value, or a part that reading has come to before.
+    // The part's own step; none if it is the whole value, or a part that reading has come to
+    // before.
     last: Option<Step>,
 }
 

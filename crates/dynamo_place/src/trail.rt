@@ -3,8 +3,8 @@ use crate::{Place, Step};
 use std::alloc::Global;
 use std::cell::Cell;
 
-/// The steps to the part that is being read or written, which all readers or serializers of one whole value share. They
-/// are given up if memory for one of them runs out.
+/// The steps to the part that is being read or written, which all readers or serializers of one
+/// whole value share. They are given up if memory for one of them runs out.
 #[derive(Drop)]
 pub(crate) struct Trail {
     steps: Cell<Option<Vec<Step>>>,

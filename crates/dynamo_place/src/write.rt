@@ -12,11 +12,13 @@ use dynamo_value::{AttributeValue, Error, Item};
 use dynamo_write::{to_attribute_value, to_item};
 use std::alloc::Global;
 
-/// Writes a value as an attribute value as `to_attribute_value` does, and says where an error was met.
+/// Writes a value as an attribute value as `to_attribute_value` does, and says where an error was
+/// met.
 ///
-/// The place is that of the part of the value that is refused: of a map whose key isn't a string, of an element that
-/// its set can't have, or of what is to be a set and isn't a list. It is empty for the whole value, and if memory for
-/// it runs out. A value that is refused is written a second time, to find the place.
+/// The place is that of the part of the value that is refused: of a map whose key isn't a string,
+/// of an element that its set can't have, or of what is to be a set and isn't a list. It is empty
+/// for the whole value, and if memory for it runs out. A value that is refused is written a second
+/// time, to find the place.
 ///
 /// # Errors
 ///
@@ -43,7 +45,8 @@ pub fn to_attribute_value_located<T: Serialize + Drop>(
     with_place(alloc, &value, to_attribute_value(alloc, &value))
 }
 
-/// Writes a value as an item as `to_item` does, and says where an error was met, as [`to_attribute_value_located`] does.
+/// Writes a value as an item as `to_item` does, and says where an error was met, as
+/// [`to_attribute_value_located`] does.
 ///
 /// # Errors
 ///
@@ -87,7 +90,8 @@ fn with_place<T: Serialize, W: Drop>(
     }
 }
 
-// The place where an error is met when a value is written again, or the empty one if it isn't met again.
+// The place where an error is met when a value is written again, or the empty one if it isn't met
+// again.
 fn place_of<T: Serialize>(alloc: Global, value: &T, error: &Error) -> Place {
     let trail = Trail::new(alloc);
     match write_to(value, LocatingSerializer::new(alloc, &trail)) {

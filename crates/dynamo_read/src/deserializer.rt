@@ -7,7 +7,8 @@ ghost use Rattle.dynamo_de.specs.Shows.{ShowsSurface};
 ghost use Rattle.dynamo_de.specs.Source.{attribute, plain_text};
 ghost use Rattle.dynamo_read.specs.Outright.{OutrightButEntries};
 ghost use Rattle.dynamo_read.specs.Reader.{source_of, IsShown, asks_elements, Counted, IfElements};
-ghost use Rattle.dynamo_read.specs.Unread.{elements_left, elements_counted, entries_left, chosen_of};
+ghost use Rattle.dynamo_read.specs.Unread.{elements_left, elements_counted, entries_left};
+ghost use Rattle.dynamo_read.specs.Unread.{chosen_of};
 
 use crate::entries::single_entry;
 use crate::show::{self, Shown};
@@ -142,7 +143,8 @@ impl Reader for Deserializer {
     #[inline(always)]
     fn show(self, request: Request) -> Result<Shown>
         ensures shown { IsShown (shown request (source_of self)) result }
-        ensures counted { asks_elements request ≡ true → IfElements (Counted (source_of self)) result }
+        ensures counted { asks_elements request ≡ true
+            → IfElements (Counted (source_of self)) result }
         ensures outright { OutrightButEntries (shown request (source_of self)) result }
     {
         let alloc = self.alloc;

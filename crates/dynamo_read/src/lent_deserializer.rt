@@ -7,7 +7,8 @@ ghost use Rattle.dynamo_de.specs.Access.{Hints};
 ghost use Rattle.dynamo_de.specs.Shown.{shown};
 ghost use Rattle.dynamo_de.specs.Shows.{ShowsSurface};
 ghost use Rattle.dynamo_de.specs.Source.{attribute, key_text, plain_text};
-ghost use Rattle.dynamo_read.specs.Lent.{IsLentShown, LentCounted, lent_chosen, lent_counted, lent_elements, lent_entries, lent_source};
+ghost use Rattle.dynamo_read.specs.Lent.{IsLentShown, LentCounted, lent_chosen, lent_counted};
+ghost use Rattle.dynamo_read.specs.Lent.{lent_elements, lent_entries, lent_source};
 ghost use Rattle.dynamo_read.specs.Reader.{asks_elements, IfElements};
 
 use crate::lent_entries::only_lent;
@@ -145,7 +146,8 @@ impl<'a> Reader for LentDeserializer<'a> {
     #[inline(always)]
     fn show(self, request: Request) -> Result<LentShown<'a>>
         ensures shown { IsLentShown (shown request (lent_source self.entry)) result }
-        ensures counted { asks_elements request ≡ true → IfElements (LentCounted (lent_source self.entry)) result }
+        ensures counted { asks_elements request ≡ true
+            → IfElements (LentCounted (lent_source self.entry)) result }
     {
         let alloc = self.alloc;
         match self.source {

@@ -14,7 +14,8 @@ pub(crate) fn by_key<'a>(
     alloc: Global,
     members: &'a HashMap<String, AttributeValue>,
 ) -> Result<Vec<(&'a String, &'a AttributeValue)>>
-    ensures ok { IfOk result (λ list. seen_entries (map entry_of list.items) ≡ entries_view members.now.entries) }
+    ensures ok { IfOk result
+        (λ list. seen_entries (map entry_of list.items) ≡ entries_view members.now.entries) }
     ensures err { IfErr result (λ e. fault_of e ≡ out_of_memory) }
 {
     let mut list = Vec::with_capacity(alloc, members.len())?;

@@ -4,8 +4,10 @@ ghost use Rattle.dynamo_value.specs.Kind.{fault_of};
 ghost use Rattle.dynamo_value.specs.View.{members_view, view};
 ghost use Rattle.dynamo_de.specs.Inside.{ShowsInside};
 ghost use Rattle.dynamo_value.specs.IntegerTypes.{kind_of};
-ghost use Rattle.dynamo_de.specs.Shown.{any_shown, attribute_shown, bytes_shown, enum_shown, key_shown, map_shown, num_shown};
-ghost use Rattle.dynamo_de.specs.Shown.{number_shown, number_text_shown, option_shown, plain_text_shown, seq_shown, struct_shown, text_shown};
+ghost use Rattle.dynamo_de.specs.Shown.{any_shown, attribute_shown, bytes_shown, enum_shown};
+ghost use Rattle.dynamo_de.specs.Shown.{key_shown, map_shown, num_shown};
+ghost use Rattle.dynamo_de.specs.Shown.{number_shown, number_text_shown, option_shown};
+ghost use Rattle.dynamo_de.specs.Shown.{plain_text_shown, seq_shown, struct_shown, text_shown};
 ghost use Rattle.dynamo_de.specs.Showing as showing;
 ghost use Rattle.dynamo_de.specs.Source.{attribute};
 ghost use Rattle.dynamo_leaf.specs.Leaf.{leaf_showing};
@@ -36,7 +38,8 @@ pub(crate) fn attribute_value<'a>(
     value: &'a AttributeValue,
 ) -> Result<LentShown<'a>>
     ensures shown { IsLentShown (attribute_shown request (view value.now)) result }
-    ensures counted { asks_elements request ≡ true → IfElements (LentCounted (attribute (view value.now))) result }
+    ensures counted { asks_elements request ≡ true
+        → IfElements (LentCounted (attribute (view value.now))) result }
 {
     match request {
         Request::Any | Request::IgnoredAny => any(alloc, value),
@@ -122,7 +125,8 @@ pub(crate) fn inside<'a>(
 pub(crate) fn inside_number<'a>(
     text: &'a String,
 ) -> Result<Inside<LentElements<'a>, LentEntries<'a>>>
-    ensures { ShowsInside fault_of lent_elements lent_entries (number_shown (string_bytes text.now)) result }
+    ensures { ShowsInside fault_of lent_elements lent_entries (number_shown (string_bytes text.now))
+        result }
 {
     match show_number(Request::IgnoredAny, text.as_str()) {
         Ok(_) => Ok(Inside::Nothing),

@@ -3,7 +3,8 @@ ghost use Rattle.dynamo_value.specs.Fault.{out_of_memory};
 ghost use Rattle.dynamo_value.specs.Kind.{fault_of};
 ghost use Rattle.dynamo_value.specs.View.{elements_view, members_view};
 ghost use Rattle.dynamo_de.specs.Showing.{only_entry};
-ghost use Rattle.dynamo_de.specs.Source.{entries_of, values_of, each, plain_text, number_text, byte_string};
+ghost use Rattle.dynamo_de.specs.Source.{entries_of, values_of, each, plain_text, number_text};
+ghost use Rattle.dynamo_de.specs.Source.{byte_string};
 ghost use Rattle.dynamo_read.specs.Lent.{lent_chosen, lent_counted, lent_elements, lent_entries};
 
 use crate::lent_entries::by_key;
@@ -54,7 +55,8 @@ impl<'a> LentElements<'a> {
 
     // The elements of a borrowed set of numbers.
     pub(crate) fn numbers(alloc: Global, numbers: &'a Vec<String>) -> Self
-        ensures left { lent_elements result ≡ each number_text (map string_bytes numbers.now.items) }
+        ensures left { lent_elements result
+            ≡ each number_text (map string_bytes numbers.now.items) }
         ensures counted { lent_counted result ≡ false }
     {
         LentElements {
@@ -65,7 +67,8 @@ impl<'a> LentElements<'a> {
 
     // The elements of a borrowed set of byte strings.
     pub(crate) fn byte_strings(alloc: Global, byte_strings: &'a Vec<Vec<u8>>) -> Self
-        ensures left { lent_elements result ≡ each byte_string (map (λ b. b.items) byte_strings.now.items) }
+        ensures left { lent_elements result
+            ≡ each byte_string (map (λ b. b.items) byte_strings.now.items) }
         ensures counted { lent_counted result ≡ false }
     {
         LentElements {
@@ -87,7 +90,8 @@ impl<'a> LentEntries<'a> {
     // All entries of the borrowed map.
     #[tactic(auto, using(crate::proofs::Views::entries_of_members))]
     pub(crate) fn of_map(alloc: Global, map: &'a HashMap<String, AttributeValue>) -> Result<Self>
-        ensures ok { IfOk result (λ entries. lent_entries entries ≡ entries_of (members_view map.now.entries)) }
+        ensures ok { IfOk result
+            (λ entries. lent_entries entries ≡ entries_of (members_view map.now.entries)) }
         ensures err { IfErr result (λ e. fault_of e ≡ out_of_memory) }
     {
         let rest = by_key(alloc, map)?.into_iter();

@@ -167,7 +167,8 @@ pub fn from_item_ref<T: Deserialize>(alloc: Global, item: &Item) -> Result<T>
 /// ```
 #[tactic(auto, using(crate::proofs::Views::elements_of_maps))]
 pub fn from_items<T: Deserialize>(alloc: Global, items: Items) -> Result<Vec<T>>
-    ensures { Meets fault_of (ReadsList T.reads (map (λ m. attribute (av.M m)) (items_view items))) result }
+    ensures { Meets fault_of (ReadsList T.reads (map (λ m. attribute (av.M m)) (items_view items)))
+        result }
 {
     let values = as_values(alloc, Vec::from(items))?;
     from_attribute_value(alloc, AttributeValue::L(values))

@@ -4,7 +4,11 @@ ghost use Rattle.dynamo_value.specs.Fault.{Fault};
 ghost use Rattle.dynamo_value.specs.Kind.{fault_of};
 ghost use Rattle.dynamo_value.specs.View.{view};
 ghost use Rattle.dynamo_value.specs.IntegerTypes.{kind_of};
-ghost use Rattle.dynamo_de.specs.Shown.{any_shown, num_shown, bool_shown, char_shown, chars_shown, text_shown, bytes_shown, option_shown, null_shown, seq_shown, map_shown, struct_shown, enum_shown, attribute_shown, number_text_shown, key_shown, plain_text_shown};
+ghost use Rattle.dynamo_de.specs.Shown.{any_shown, num_shown, bool_shown, char_shown, chars_shown};
+ghost use Rattle.dynamo_de.specs.Shown.{text_shown, bytes_shown, option_shown, null_shown};
+ghost use Rattle.dynamo_de.specs.Shown.{seq_shown, map_shown, struct_shown, enum_shown};
+ghost use Rattle.dynamo_de.specs.Shown.{attribute_shown, number_text_shown, key_shown};
+ghost use Rattle.dynamo_de.specs.Shown.{plain_text_shown};
 ghost use Rattle.dynamo_de.specs.Shows.{Shows, seen};
 ghost use Rattle.dynamo_de.specs.Source.{Source, Entry, attribute};
 ghost use Rattle.dynamo_leaf.specs.Leaf.{leaf_showing};
@@ -30,7 +34,8 @@ pub(crate) fn attribute_value(
     value: AttributeValue,
 ) -> Result<Shown>
     ensures shown { IsShown (attribute_shown request (view value)) result }
-    ensures counted { asks_elements request ≡ true → IfElements (Counted (attribute (view value))) result }
+    ensures counted { asks_elements request ≡ true
+        → IfElements (Counted (attribute (view value))) result }
     ensures outright { OutrightButEntries (attribute_shown request (view value)) result }
 {
     match request {
@@ -178,7 +183,8 @@ pub(crate) fn null<D, L, M, C>(
 ) -> Result<Showing<D, L, M, C>>
     ensures shown { (source : D → Source) (elements : L → List Source) (entries : M → List Entry)
         (variants : C → Result (List ℕ × Option Source) Fault)
-        → Shows fault_of source elements entries variants (null_shown (fault_of otherwise) (view value.now)) result }
+        → Shows fault_of source elements entries variants
+        (null_shown (fault_of otherwise) (view value.now)) result }
     ensures outright { RefusesOutright (null_shown (fault_of otherwise) (view value.now)) result }
 {
     match value {
@@ -275,7 +281,8 @@ pub(crate) fn plain_text(alloc: Global, request: Request, text: String) -> Resul
 // What a single string shows, with readers around its contents.
 #[inline(always)]
 fn of_leaf(alloc: Global, leaf: Leaf, text: String) -> Shown
-    ensures { seen source_of elements_left entries_left chosen_of result ≡ leaf_showing (string_bytes text) leaf }
+    ensures { seen source_of elements_left entries_left chosen_of result
+        ≡ leaf_showing (string_bytes text) leaf }
 {
     raise::<Deserializer, Elements, Entries>(alloc, leaf, text)
 }

@@ -1,10 +1,13 @@
-ghost use Rattle.std.specs.Prelude.{◌≡◌, true, false, map, string_bytes, IfOk, IfErr, OnOk, OnErr, [], Ok, None};
+ghost use Rattle.std.specs.Prelude.{◌≡◌, true, false, map, string_bytes, IfOk, IfErr, OnOk, OnErr};
+ghost use Rattle.std.specs.Prelude.{[], Ok, None};
 ghost use Rattle.dynamo_value.specs.Fault.{out_of_memory};
 ghost use Rattle.dynamo_value.specs.Kind.{fault_of};
 ghost use Rattle.dynamo_value.specs.View.{elements_view, members_view, entries_view};
 ghost use Rattle.dynamo_de.specs.Showing.{only_entry};
-ghost use Rattle.dynamo_de.specs.Source.{entries_of, values_of, each, plain_text, number_text, byte_string};
-ghost use Rattle.dynamo_read.specs.Unread.{elements_left, elements_counted, entries_left, chosen_of};
+ghost use Rattle.dynamo_de.specs.Source.{entries_of, values_of, each, plain_text, number_text};
+ghost use Rattle.dynamo_de.specs.Source.{byte_string};
+ghost use Rattle.dynamo_read.specs.Unread.{elements_left, elements_counted, entries_left};
+ghost use Rattle.dynamo_read.specs.Unread.{chosen_of};
 
 use crate::entries::sorted;
 use dynamo_value::{AttributeValue, Result};
@@ -64,7 +67,8 @@ impl Elements {
 
     // The elements of a set of byte strings. It allocates nothing.
     pub(crate) fn byte_strings(alloc: Global, byte_strings: Vec<Vec<u8>>) -> Self
-        ensures left { elements_left result ≡ each byte_string (map (λ b. b.items) byte_strings.items) }
+        ensures left { elements_left result
+            ≡ each byte_string (map (λ b. b.items) byte_strings.items) }
         ensures counted { elements_counted result ≡ false }
     {
         Elements {
@@ -98,7 +102,8 @@ impl Entries {
     // All entries of the map.
     #[tactic(auto, using(crate::proofs::Views::entries_of_members))]
     pub(crate) fn of_map(alloc: Global, map: HashMap<String, AttributeValue>) -> Result<Self>
-        ensures ok { IfOk result (λ entries. entries_left entries ≡ entries_of (members_view map.entries)) }
+        ensures ok { IfOk result
+            (λ entries. entries_left entries ≡ entries_of (members_view map.entries)) }
         ensures err { IfErr result (λ e. fault_of e ≡ out_of_memory) }
     {
         let list = Vec::with_capacity(alloc, map.len())?;

@@ -82,7 +82,8 @@ impl<L: FieldList + Drop> VariantList for Several<L> {
 
 /// The error of a sequence with too few elements.
 pub(crate) fn too_few<E: Error>(alloc: Global, expecting: &str) -> E
-    ensures { (E.fault result ≡ message (too_few_text expecting.now)) ⊎ (E.fault result ≡ out_of_memory) }
+    ensures { (E.fault result ≡ message (too_few_text expecting.now))
+        ⊎ (E.fault result ≡ out_of_memory) }
 {
     match format!(in alloc; "invalid length: too few elements, expected {expecting}") {
         Ok(text) => E::custom(alloc, &text),
@@ -112,7 +113,9 @@ pub(crate) fn read_fields<L: FieldList + Drop, R: Reader>(
     reader: R,
     expecting: &str,
 ) -> Result<L, R::Error>
-    ensures { Meets R.Error.fault (After (taken_from claims_seq take_elements request (R.source reader)) (ReadsInOrder L.about)) result }
+    ensures { Meets R.Error.fault
+        (After (taken_from claims_seq take_elements request (R.source reader))
+        (ReadsInOrder L.about)) result }
 {
     let elements = elements_of(alloc, request, reader, expecting)?;
     read_elements::<L, R>(elements, alloc, expecting)
@@ -123,7 +126,9 @@ fn read_several<L: FieldList + Drop, A: VariantAccess>(
     alloc: Global,
     content: A,
 ) -> Result<L, A::Error>
-    ensures { Meets A.Error.fault (OfContent (λ s. After (reading.read_elements s) (ReadsInOrder L.about)) (A.content content)) result }
+    ensures { Meets A.Error.fault
+        (OfContent (λ s. After (reading.read_elements s) (ReadsInOrder L.about))
+        (A.content content)) result }
 {
     read_fields(alloc, Request::Seq, content.reader()?, "tuple variant")
 }

@@ -3,7 +3,8 @@ ghost use Rattle.dynamo_de.specs.Answer.{After};
 ghost use Rattle.dynamo_de.specs.Meets.{Meets};
 ghost use Rattle.dynamo_de.specs.Reading.{read_identifier, read_variant};
 ghost use Rattle.dynamo_de.specs.Visitors.{or_its_fault};
-ghost use Rattle.dynamo_record.specs.Enums.{AboutEnum, of_variants, enum_reads, NamesVariant, FromVariant, AsMany, VariantsNamed};
+ghost use Rattle.dynamo_record.specs.Enums.{AboutEnum, of_variants, enum_reads, NamesVariant};
+ghost use Rattle.dynamo_record.specs.Enums.{FromVariant, AsMany, VariantsNamed};
 
 use crate::VariantList;
 use crate::names::place_of;
@@ -80,7 +81,9 @@ fn read_chosen<T: Enumeration, A: EnumAccess>(alloc: Global, variant: A) -> Resu
 where
     T::Variants: VariantList,
     requires { AsMany T.about T.Variants.about }
-    ensures { Meets A.Error.fault (After (or_its_fault (A.chosen variant)) (FromVariant (of_variants T.about T.Variants.about))) result }
+    ensures { Meets A.Error.fault
+        (After (or_its_fault (A.chosen variant))
+        (FromVariant (of_variants T.about T.Variants.about))) result }
 {
     let (place, content) = variant.variant_seed(TagSeed::<T> {
         alloc,
@@ -97,7 +100,9 @@ fn read_shown<T: Enumeration, R: Reader>(alloc: Global, reader: R) -> Result<T, 
 where
     T::Variants: VariantList,
     requires { AsMany T.about T.Variants.about }
-    ensures { Meets R.Error.fault (After (read_variant (R.source reader)) (FromVariant (of_variants T.about T.Variants.about))) result }
+    ensures { Meets R.Error.fault
+        (After (read_variant (R.source reader))
+        (FromVariant (of_variants T.about T.Variants.about))) result }
 {
     match reader.show(Request::Enum)? {
         Showing::Enum(choice) => {
@@ -124,7 +129,8 @@ pub fn read_enum<T: Enumeration, D: Deserializer>(
 where
     T::Variants: VariantList,
     requires { AsMany T.about T.Variants.about }
-    ensures { Meets D.Error.fault (enum_reads (of_variants T.about T.Variants.about) (D.source deserializer)) result }
+    ensures { Meets D.Error.fault
+        (enum_reads (of_variants T.about T.Variants.about) (D.source deserializer)) result }
 {
     read_shown::<T, D>(alloc, deserializer)
 }

@@ -3,7 +3,9 @@ ghost use Rattle.dynamo_value.specs.Fault.{message, out_of_memory};
 ghost use Rattle.dynamo_de.specs.Meets.{Meets};
 ghost use Rattle.dynamo_shape.proofs.FieldsByName.{Slots};
 ghost use Rattle.dynamo_record.specs.Fields.{Defaults, unread, complete, missed_name, read_fields};
-ghost use Rattle.dynamo_record.specs.Listed.{AboutList, about_field, about_both, Shapes, Holds, HoldsField, HoldsBoth, Fills, is_filled, Completes, MakesOrFails};
+ghost use Rattle.dynamo_record.specs.Listed.{AboutList, about_field, about_both, Shapes, Holds};
+ghost use Rattle.dynamo_record.specs.Listed.{HoldsField, HoldsBoth, Fills, is_filled, Completes};
+ghost use Rattle.dynamo_record.specs.Listed.{MakesOrFails};
 ghost use Rattle.dynamo_record.specs.Behind.{Behind, both_behind, field_behind};
 ghost use Rattle.dynamo_record.specs.Names.{missing_text};
 
@@ -49,11 +51,14 @@ pub trait FieldList: Sized {
     ) -> Result<(), D::Error>
         ensures { place < about.count → place + 1 < 2 ^ 64 → (ss : Shapes) (os more : Slots)
             → holds slots.old os more
-            → Meets D.Error.fault (Fills holds (about.shapes ss) place os more slots.new (D.source value)) result };
+            → Meets D.Error.fault
+            (Fills holds (about.shapes ss) place os more slots.new (D.source value)) result };
 
     /// Returns whether the field with this index is read.
     fn is_read(slots: &Self::Slots, place: usize) -> bool
-        ensures { place < about.count → place + 1 < 2 ^ 64 → (os more : Slots) → holds slots.now os more → result ≡ is_filled place os };
+        ensures { place < about.count → place + 1 < 2 ^ 64 → (os more : Slots)
+            → holds slots.now os more
+            → result ≡ is_filled place os };
 
     /// Returns the fields, and the names that follow theirs.
     ///
@@ -67,7 +72,10 @@ pub trait FieldList: Sized {
         alloc: Global,
     ) -> Result<(Self, &'static [&'static str]), E>
         ensures { (ss : Shapes) (gs : Defaults) (os more : Slots) → holds slots os more
-            → Completes E.fault about.shapes about.told (complete (about.shapes ss) (about.defaults gs) os) (complete ss gs more) (missed_name (map (λ n. n.now) names.now) (about.shapes ss) (about.defaults gs) os) (λ others. missed_name (map (λ n. n.now) others.now) ss gs more) result };
+            → Completes E.fault about.shapes about.told
+            (complete (about.shapes ss) (about.defaults gs) os) (complete ss gs more)
+            (missed_name (map (λ n. n.now) names.now) (about.shapes ss) (about.defaults gs) os)
+            (λ others. missed_name (map (λ n. n.now) others.now) ss gs more) result };
 
     /// Reads the fields in order, or returns `None` if there are too few elements.
     ///
@@ -79,7 +87,9 @@ pub trait FieldList: Sized {
         alloc: Global,
     ) -> Result<Option<Self>, D::Error>
         ensures { (ss : Shapes)
-            → MakesOrFails D.Error.fault about.shapes about.told (read_fields (about.shapes ss) (D.elements elements.old)) (read_fields ss (D.elements elements.new)) result };
+            → MakesOrFails D.Error.fault about.shapes about.told
+            (read_fields (about.shapes ss) (D.elements elements.old))
+            (read_fields ss (D.elements elements.new)) result };
 
     /// Drops the fields that are read so far.
     fn discard_slots(slots: Self::Slots);
@@ -93,7 +103,8 @@ pub trait FieldList: Sized {
 
 /// The error of a map without an entry for the field with this name.
 pub(crate) fn missing_field<E: Error>(alloc: Global, name: &str) -> E
-    ensures { (E.fault result ≡ message (missing_text name.now)) ⊎ (E.fault result ≡ out_of_memory) }
+    ensures { (E.fault result ≡ message (missing_text name.now))
+        ⊎ (E.fault result ≡ out_of_memory) }
 {
     match format!(in alloc; "missing field `{name}`") {
         Ok(text) => E::custom(alloc, &text),

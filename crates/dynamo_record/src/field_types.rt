@@ -21,7 +21,8 @@ impl<T: Shaped> FieldType for InStringSet<T> {
 
     ghost default = { required };
 
-    ghost reads_by_shape = { set_permitted strings T.about.shape T.about.tells T.reads T.reads_by_shape };
+    ghost reads_by_shape = { set_permitted strings T.about.shape T.about.tells T.reads
+        T.reads_by_shape };
 
     fn absent<E: Error>(_alloc: Global) -> Result<Option<Vec<T>>, E> {
         Ok(None)
@@ -41,7 +42,8 @@ impl<T: Shaped> FieldType for InNumberSet<T> {
 
     ghost default = { required };
 
-    ghost reads_by_shape = { set_permitted numbers T.about.shape T.about.tells T.reads T.reads_by_shape };
+    ghost reads_by_shape = { set_permitted numbers T.about.shape T.about.tells T.reads
+        T.reads_by_shape };
 
     fn absent<E: Error>(_alloc: Global) -> Result<Option<Vec<T>>, E> {
         Ok(None)
@@ -61,7 +63,8 @@ impl<T: Shaped> FieldType for InBinarySet<T> {
 
     ghost default = { required };
 
-    ghost reads_by_shape = { set_permitted blobs T.about.shape T.about.tells T.reads T.reads_by_shape };
+    ghost reads_by_shape = { set_permitted blobs T.about.shape T.about.tells T.reads
+        T.reads_by_shape };
 
     fn absent<E: Error>(_alloc: Global) -> Result<Option<Vec<T>>, E> {
         Ok(None)
@@ -76,7 +79,8 @@ impl<T: Shaped> FieldType for WithDefault<InStringSet<T>> {
 
     ghost default = { read_as (empty_set strings) };
 
-    ghost reads_by_shape = { set_permitted strings T.about.shape T.about.tells T.reads T.reads_by_shape };
+    ghost reads_by_shape = { set_permitted strings T.about.shape T.about.tells T.reads
+        T.reads_by_shape };
 
     fn absent<E: Error>(alloc: Global) -> Result<Option<Vec<T>>, E> {
         Ok(Some(Vec::new(alloc)))
@@ -91,7 +95,8 @@ impl<T: Shaped> FieldType for WithDefault<InNumberSet<T>> {
 
     ghost default = { read_as (empty_set numbers) };
 
-    ghost reads_by_shape = { set_permitted numbers T.about.shape T.about.tells T.reads T.reads_by_shape };
+    ghost reads_by_shape = { set_permitted numbers T.about.shape T.about.tells T.reads
+        T.reads_by_shape };
 
     fn absent<E: Error>(alloc: Global) -> Result<Option<Vec<T>>, E> {
         Ok(Some(Vec::new(alloc)))
@@ -106,7 +111,8 @@ impl<T: Shaped> FieldType for WithDefault<InBinarySet<T>> {
 
     ghost default = { read_as (empty_set blobs) };
 
-    ghost reads_by_shape = { set_permitted blobs T.about.shape T.about.tells T.reads T.reads_by_shape };
+    ghost reads_by_shape = { set_permitted blobs T.about.shape T.about.tells T.reads
+        T.reads_by_shape };
 
     fn absent<E: Error>(alloc: Global) -> Result<Option<Vec<T>>, E> {
         Ok(Some(Vec::new(alloc)))

@@ -48,11 +48,16 @@ impl<
     G: RefList,
     H: RefList,
 > RefList for (A, B, C, D, E, F, G, H) {
-    ghost shapes = { λ ss. A.shapes (B.shapes (C.shapes (D.shapes (E.shapes (F.shapes (G.shapes (H.shapes ss))))))) };
+    ghost shapes = { λ ss. A.shapes
+        (B.shapes (C.shapes (D.shapes (E.shapes (F.shapes (G.shapes (H.shapes ss))))))) };
 
-    ghost absences = { λ gs. A.absences (B.absences (C.absences (D.absences (E.absences (F.absences (G.absences (H.absences gs))))))) };
+    ghost absences = { λ gs. A.absences
+        (B.absences
+        (C.absences (D.absences (E.absences (F.absences (G.absences (H.absences gs))))))) };
 
-    ghost told = { λ p ds. A.told p.0 (B.told p.1 (C.told p.2 (D.told p.3 (E.told p.4 (F.told p.5 (G.told p.6 (H.told p.7 ds))))))) };
+    ghost told = { λ p ds. A.told p.0
+        (B.told p.1
+        (C.told p.2 (D.told p.3 (E.told p.4 (F.told p.5 (G.told p.6 (H.told p.7 ds))))))) };
 
     fn write_fields<S: Serializer, Q: StructBuilder<S, Ok = S::Ok, Error = S::Error>>(
         &self,

@@ -22,7 +22,9 @@ pub(crate) fn held_entries<D: Reader>(
     mut entries: D::Entries,
     tag: &str,
 ) -> Result<(Vec<(String, D)>, Option<usize>), D::Error>
-    ensures { MatchResult result (λ held. Holds D.source held.0.items (D.entries entries) × IsLast tag.now (D.entries entries) held.1) (λ e. D.Error.fault e ≡ out_of_memory) }
+    ensures { MatchResult result
+        (λ held. Holds D.source held.0.items (D.entries entries)
+        × IsLast tag.now (D.entries entries) held.1) (λ e. D.Error.fault e ≡ out_of_memory) }
 {
     let mut held = Vec::new(alloc);
     let mut last = None;
@@ -49,8 +51,11 @@ fn read_held_entry<R: Record, D: Reader>(
 where
     R::Fields: FieldList,
     ensures { AreNamed (listed R.about R.Fields.about) → (e : Entry) (os : Slots) → name.now ≡ e.0
-        → D.source value ≡ attribute e.1 → R.Fields.holds slots.old os []
-        → Meets D.Error.fault (Enters (λ x os. R.Fields.holds x os []) (record_fields (listed R.about R.Fields.about)) os slots.new e) result }
+        → D.source value ≡ attribute e.1
+        → R.Fields.holds slots.old os []
+        → Meets D.Error.fault
+        (Enters (λ x os. R.Fields.holds x os []) (record_fields (listed R.about R.Fields.about)) os
+        slots.new e) result }
 {
     let names = R::names();
     let place = place_of(names, name);
@@ -88,7 +93,8 @@ where
 
 /// Ignores held entries.
 pub(crate) fn ignore_held<D: Reader>(alloc: Global, held: Vec<(String, D)>) -> Result<(), D::Error>
-    ensures { (es : List Entry) → Holds D.source held.items es → Meets D.Error.fault (Gives (λ u. u) (ignore_entries es)) result }
+    ensures { (es : List Entry) → Holds D.source held.items es
+        → Meets D.Error.fault (Gives (λ u. u) (ignore_entries es)) result }
 {
     for (_name, value) in held {
         IgnoredAny::deserialize(alloc, value)?;

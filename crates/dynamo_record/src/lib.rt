@@ -1,7 +1,7 @@
 //! Types with a shape: [`Shaped`], and its implementations for the types of the library and of std.
 //!
-//! And structs and enums by a description: what to state for a type of your own, so that it keeps the
-//! promises of [`Shaped`] without a proof.
+//! And structs and enums by a description: what to state for a type of your own, so that it keeps
+//! the promises of [`Shaped`] without a proof.
 //!
 //! | Type | Trait | Functions for its impls |
 //! |---|---|---|

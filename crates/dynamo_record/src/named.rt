@@ -63,7 +63,10 @@ fn read_named<R: Record, A: VariantAccess>(alloc: Global, content: A) -> Result<
 where
     R::Fields: FieldList,
     requires { AsLong R.about R.Fields.about }
-    ensures { Meets A.Error.fault (OfContent (λ s. After (read_entries s) (λ es. FromParts (listed R.about R.Fields.about) (by_name es))) (A.content content)) result }
+    ensures { Meets A.Error.fault
+        (OfContent
+        (λ s. After (read_entries s) (λ es. FromParts (listed R.about R.Fields.about) (by_name es)))
+        (A.content content)) result }
 {
     read_by_name(alloc, content.reader()?)
 }

@@ -31,7 +31,8 @@ pub fn read_newtype<T: Shaped, D: Deserializer>(
     deserializer: D,
     _name: &'static str,
 ) -> Result<T, D::Error>
-    ensures { (own : Text) → Meets D.Error.fault (ReadsAs (named_newtype own T.about) (D.source deserializer)) result }
+    ensures { (own : Text)
+        → Meets D.Error.fault (ReadsAs (named_newtype own T.about) (D.source deserializer)) result }
 {
     read_content(alloc, deserializer)
 }
@@ -47,7 +48,8 @@ pub fn write_newtype<T: Shaped, S: Serializer>(
     field: &T,
     serializer: S,
 ) -> Result<S::Ok, S::Error>
-    ensures { Writes S.Error.fault (T.wants field.now) (S.outcome serializer) ((named_newtype name.now T.about).tells field.now) result }
+    ensures { Writes S.Error.fault (T.wants field.now) (S.outcome serializer)
+        ((named_newtype name.now T.about).tells field.now) result }
 {
     serializer.serialize_newtype_struct(name, field)
 }

@@ -21,7 +21,8 @@ impl<T: Shaped> FieldType for Omitted<InStringSet<T>> {
 
     ghost default = { left_out (empty_set strings) };
 
-    ghost reads_by_shape = { set_permitted strings T.about.shape T.about.tells T.reads T.reads_by_shape };
+    ghost reads_by_shape = { set_permitted strings T.about.shape T.about.tells T.reads
+        T.reads_by_shape };
 
     fn absent<E: Error>(alloc: Global) -> Result<Option<Vec<T>>, E> {
         Ok(Some(Vec::new(alloc)))
@@ -33,7 +34,8 @@ impl<'a, M: SetValue> RefList for OmittedRef<StringSet<&'a M>> {
 
     ghost absences = { λ gs. left_out (empty_set strings) ∷ gs };
 
-    ghost told = { λ value ds. datum.newtype_struct (symbol strings) (M.about.tells value.0.0.now) ∷ ds };
+    ghost told = { λ value ds. datum.newtype_struct (symbol strings) (M.about.tells value.0.0.now)
+        ∷ ds };
 
     fn write_fields<S: Serializer, B: StructBuilder<S, Ok = S::Ok, Error = S::Error>>(
         &self,
@@ -66,7 +68,8 @@ impl<T: Shaped> FieldType for Omitted<InNumberSet<T>> {
 
     ghost default = { left_out (empty_set numbers) };
 
-    ghost reads_by_shape = { set_permitted numbers T.about.shape T.about.tells T.reads T.reads_by_shape };
+    ghost reads_by_shape = { set_permitted numbers T.about.shape T.about.tells T.reads
+        T.reads_by_shape };
 
     fn absent<E: Error>(alloc: Global) -> Result<Option<Vec<T>>, E> {
         Ok(Some(Vec::new(alloc)))
@@ -78,7 +81,8 @@ impl<'a, M: SetValue> RefList for OmittedRef<NumberSet<&'a M>> {
 
     ghost absences = { λ gs. left_out (empty_set numbers) ∷ gs };
 
-    ghost told = { λ value ds. datum.newtype_struct (symbol numbers) (M.about.tells value.0.0.now) ∷ ds };
+    ghost told = { λ value ds. datum.newtype_struct (symbol numbers) (M.about.tells value.0.0.now)
+        ∷ ds };
 
     fn write_fields<S: Serializer, B: StructBuilder<S, Ok = S::Ok, Error = S::Error>>(
         &self,
@@ -111,7 +115,8 @@ impl<T: Shaped> FieldType for Omitted<InBinarySet<T>> {
 
     ghost default = { left_out (empty_set blobs) };
 
-    ghost reads_by_shape = { set_permitted blobs T.about.shape T.about.tells T.reads T.reads_by_shape };
+    ghost reads_by_shape = { set_permitted blobs T.about.shape T.about.tells T.reads
+        T.reads_by_shape };
 
     fn absent<E: Error>(alloc: Global) -> Result<Option<Vec<T>>, E> {
         Ok(Some(Vec::new(alloc)))
@@ -123,7 +128,8 @@ impl<'a, M: SetValue> RefList for OmittedRef<BinarySet<&'a M>> {
 
     ghost absences = { λ gs. left_out (empty_set blobs) ∷ gs };
 
-    ghost told = { λ value ds. datum.newtype_struct (symbol blobs) (M.about.tells value.0.0.now) ∷ ds };
+    ghost told = { λ value ds. datum.newtype_struct (symbol blobs) (M.about.tells value.0.0.now)
+        ∷ ds };
 
     fn write_fields<S: Serializer, B: StructBuilder<S, Ok = S::Ok, Error = S::Error>>(
         &self,

@@ -11,7 +11,8 @@ ghost use Rattle.dynamo_shape.specs.Shape.{struct};
 ghost use Rattle.dynamo_shape.proofs.FieldsByName.{Slots};
 ghost use Rattle.dynamo_record.specs.Entries.{IsEntry, Enters};
 ghost use Rattle.dynamo_record.specs.Fields.{field_shapes, named_fields};
-ghost use Rattle.dynamo_record.specs.Records.{AboutRecord, listed, record_fields, record_reads, FromParts, AreNamed, AsLong, place_in};
+ghost use Rattle.dynamo_record.specs.Records.{AboutRecord, listed, record_fields, record_reads};
+ghost use Rattle.dynamo_record.specs.Records.{FromParts, AreNamed, AsLong, place_in};
 
 use crate::content::too_few;
 use crate::names::place_of;
@@ -149,8 +150,11 @@ where
     requires { AreNamed (listed R.about R.Fields.about) }
     ensures { (e : Entry) (os : Slots)
         → place ≡ place_in 0 (record_fields (listed R.about R.Fields.about)) e.0
-        → D.source value ≡ attribute e.1 → R.Fields.holds slots.old os []
-        → Meets D.Error.fault (Enters (λ x os. R.Fields.holds x os []) (record_fields (listed R.about R.Fields.about)) os slots.new e) result }
+        → D.source value ≡ attribute e.1
+        → R.Fields.holds slots.old os []
+        → Meets D.Error.fault
+        (Enters (λ x os. R.Fields.holds x os []) (record_fields (listed R.about R.Fields.about)) os
+        slots.new e) result }
 {
     let names = R::names();
     if place < names.len() {
@@ -173,7 +177,9 @@ where
     requires { AreNamed (listed R.about R.Fields.about) }
     ensures { (e : Entry) (os : Slots) → IsEntry D.source (key, value) e
         → R.Fields.holds slots.old os []
-        → Meets D.Error.fault (Enters (λ x os. R.Fields.holds x os []) (record_fields (listed R.about R.Fields.about)) os slots.new e) result }
+        → Meets D.Error.fault
+        (Enters (λ x os. R.Fields.holds x os []) (record_fields (listed R.about R.Fields.about)) os
+        slots.new e) result }
 {
     let name = identifier_of(alloc, key, "field identifier")?;
     let names = R::names();
@@ -186,7 +192,8 @@ fn read_entries<R: Record, D: Reader>(alloc: Global, mut entries: D::Entries) ->
 where
     R::Fields: FieldList,
     requires { AreNamed (listed R.about R.Fields.about) }
-    ensures { Meets D.Error.fault (FromParts (listed R.about R.Fields.about) (by_name (D.entries entries))) result }
+    ensures { Meets D.Error.fault
+        (FromParts (listed R.about R.Fields.about) (by_name (D.entries entries))) result }
 {
     let mut slots = <R::Fields as FieldList>::unread();
     while let Some((key, value)) = D::next_entry(&mut entries) {
@@ -209,7 +216,8 @@ pub(crate) fn read_in_order<R: Record, D: Reader>(
 where
     R::Fields: FieldList,
     requires { AreNamed (listed R.about R.Fields.about) }
-    ensures { Meets D.Error.fault (FromParts (listed R.about R.Fields.about) (in_order (D.elements elements))) result }
+    ensures { Meets D.Error.fault
+        (FromParts (listed R.about R.Fields.about) (in_order (D.elements elements))) result }
 {
     match <R::Fields as FieldList>::read_in_order::<D>(&mut elements, alloc)? {
         Some(fields) => Ok(R::make(fields)),
@@ -222,7 +230,9 @@ pub(crate) fn read_by_name<R: Record, D: Reader>(alloc: Global, reader: D) -> Re
 where
     R::Fields: FieldList,
     requires { AsLong R.about R.Fields.about }
-    ensures { Meets D.Error.fault (After (reading.read_entries (D.source reader)) (λ es. FromParts (listed R.about R.Fields.about) (by_name es))) result }
+    ensures { Meets D.Error.fault
+        (After (reading.read_entries (D.source reader))
+        (λ es. FromParts (listed R.about R.Fields.about) (by_name es))) result }
 {
     let entries = entries_of(alloc, reader, R::expecting())?;
     read_entries::<R, D>(alloc, entries)
@@ -233,7 +243,9 @@ fn read_shown<R: Record, D: Reader>(alloc: Global, reader: D) -> Result<R, D::Er
 where
     R::Fields: FieldList,
     requires { AsLong R.about R.Fields.about }
-    ensures { Meets D.Error.fault (After (reading.read_parts (D.source reader)) (FromParts (listed R.about R.Fields.about))) result }
+    ensures { Meets D.Error.fault
+        (After (reading.read_parts (D.source reader)) (FromParts (listed R.about R.Fields.about)))
+        result }
 {
     match reader.show(Request::Struct)? {
         Showing::Map(entries) => read_entries::<R, D>(alloc, entries),
@@ -259,7 +271,8 @@ pub fn read_record<R: Record, D: Deserializer>(
 where
     R::Fields: FieldList,
     requires { AsLong R.about R.Fields.about }
-    ensures { Meets D.Error.fault (record_reads (listed R.about R.Fields.about) (D.source deserializer)) result }
+    ensures { Meets D.Error.fault
+        (record_reads (listed R.about R.Fields.about) (D.source deserializer)) result }
 {
     read_shown::<R, D>(alloc, deserializer)
 }
@@ -273,7 +286,9 @@ pub fn write_record<R: Record, W: RefList, S: Serializer>(
     serializer: S,
     fields: &W,
 ) -> Result<S::Ok, S::Error>
-    ensures { Writes S.Error.fault ⊥ (S.outcome serializer) (datum.struct R.about.name (named_fields R.about.names (W.absences []) (W.told fields.now []))) result }
+    ensures { Writes S.Error.fault ⊥ (S.outcome serializer)
+        (datum.struct R.about.name
+        (named_fields R.about.names (W.absences []) (W.told fields.now []))) result }
 {
     let names = R::names();
     let mut builder = serializer.serialize_struct(R::name(), names.len())?;
@@ -283,7 +298,10 @@ pub fn write_record<R: Record, W: RefList, S: Serializer>(
 
 /// Promises that the datum of a struct conforms to its shape. It is the body of `conforms`.
 pub fn record_conforms<R: Record, W: RefList>(fields: &W)
-    ensures { conforms (struct R.about.name (field_shapes R.about.names (W.shapes []) (R.about.list.defaults []))) (datum.struct R.about.name (named_fields R.about.names (R.about.list.defaults []) (W.told fields.now []))) }
+    ensures { conforms
+        (struct R.about.name (field_shapes R.about.names (W.shapes []) (R.about.list.defaults [])))
+        (datum.struct R.about.name
+        (named_fields R.about.names (R.about.list.defaults []) (W.told fields.now []))) }
 {
     fields.conform()
 }

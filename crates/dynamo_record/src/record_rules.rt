@@ -7,7 +7,8 @@ ghost use Rattle.dynamo_de.specs.Source.{Entry};
 ghost use Rattle.dynamo_de.specs.Visitors.{by_name};
 ghost use Rattle.dynamo_shape.specs.NameRules.{NameRules};
 ghost use Rattle.dynamo_shape.specs.Read.{is_refused};
-ghost use Rattle.dynamo_record.specs.ByRules.{Before, Held, Admits, EntersByRules, FromPartsByRules, rules_reads, duplicate_text};
+ghost use Rattle.dynamo_record.specs.ByRules.{Before, Held, Admits, EntersByRules};
+ghost use Rattle.dynamo_record.specs.ByRules.{FromPartsByRules, rules_reads, duplicate_text};
 ghost use Rattle.dynamo_record.specs.Names.{place_of};
 ghost use Rattle.dynamo_record.specs.Entries.{IsEntry};
 ghost use Rattle.dynamo_record.specs.Records.{listed, record_fields, AreNamed, AsLong};
@@ -49,7 +50,8 @@ use std::alloc::Global;
 /// Its `reads` is `rules_reads`, and its `about` is `about_by_rules`, with the rules before the
 /// description.
 pub trait RecordRules: Record {
-    // The other names of fields, each with the name of its field, and whether unknown ones are refused.
+    // The other names of fields, each with the name of its field, and whether unknown ones are
+    // refused.
     ghost rules: { NameRules };
 
     /// Returns the other names of fields, each with the name of its field.
@@ -63,7 +65,8 @@ pub trait RecordRules: Record {
 
 /// The error of a second entry for the field with this name.
 fn duplicate_field<E: Error>(alloc: Global, name: &str) -> E
-    ensures { (E.fault result ≡ message (duplicate_text name.now)) ⊎ (E.fault result ≡ out_of_memory) }
+    ensures { (E.fault result ≡ message (duplicate_text name.now))
+        ⊎ (E.fault result ≡ out_of_memory) }
 {
     match format!(in alloc; "duplicate field `{name}`") {
         Ok(text) => E::custom(alloc, &text),
@@ -83,7 +86,10 @@ where
     requires { AreNamed (listed R.about R.Fields.about) }
     ensures { (before : Before) → place ≡ place_of 0 R.about.names own.now
         → Held (record_fields (listed R.about R.Fields.about)) R.Fields.holds slots.now before
-        → Meets E.fault (Admits (is_refused R.rules.denies (record_fields (listed R.about R.Fields.about)) before own.now)) result }
+        → Meets E.fault
+        (Admits
+        (is_refused R.rules.denies (record_fields (listed R.about R.Fields.about)) before own.now))
+        result }
 {
     let names = R::names();
     if place < names.len() {
@@ -111,7 +117,9 @@ where
     requires { AreNamed (listed R.about R.Fields.about) }
     ensures { (e : Entry) (before : Before) → IsEntry D.source (key, value) e
         → Held (record_fields (listed R.about R.Fields.about)) R.Fields.holds slots.old before
-        → Meets D.Error.fault (EntersByRules R.rules (record_fields (listed R.about R.Fields.about)) R.Fields.holds before slots.new e) result }
+        → Meets D.Error.fault
+        (EntersByRules R.rules (record_fields (listed R.about R.Fields.about)) R.Fields.holds before
+        slots.new e) result }
 {
     let name = identifier_of(alloc, key, "field identifier")?;
     let own = own_name(R::aliases(), name.as_str());
@@ -129,7 +137,9 @@ fn read_entries<R: RecordRules, D: Reader>(
 where
     R::Fields: FieldList,
     requires { AreNamed (listed R.about R.Fields.about) }
-    ensures { Meets D.Error.fault (FromPartsByRules R.rules (listed R.about R.Fields.about) (by_name (D.entries entries))) result }
+    ensures { Meets D.Error.fault
+        (FromPartsByRules R.rules (listed R.about R.Fields.about) (by_name (D.entries entries)))
+        result }
 {
     let mut slots = <R::Fields as FieldList>::unread();
     while let Some((key, value)) = D::next_entry(&mut entries) {
@@ -149,7 +159,9 @@ fn read_shown<R: RecordRules, D: Reader>(alloc: Global, reader: D) -> Result<R, 
 where
     R::Fields: FieldList,
     requires { AsLong R.about R.Fields.about }
-    ensures { Meets D.Error.fault (After (read_parts (D.source reader)) (FromPartsByRules R.rules (listed R.about R.Fields.about))) result }
+    ensures { Meets D.Error.fault
+        (After (read_parts (D.source reader))
+        (FromPartsByRules R.rules (listed R.about R.Fields.about))) result }
 {
     match reader.show(Request::Struct)? {
         Showing::Map(entries) => read_entries::<R, D>(alloc, entries),
@@ -178,7 +190,8 @@ pub fn read_record_by_rules<R: RecordRules, D: Deserializer>(
 where
     R::Fields: FieldList,
     requires { AsLong R.about R.Fields.about }
-    ensures { Meets D.Error.fault (rules_reads R.rules (listed R.about R.Fields.about) (D.source deserializer)) result }
+    ensures { Meets D.Error.fault
+        (rules_reads R.rules (listed R.about R.Fields.about) (D.source deserializer)) result }
 {
     read_shown::<R, D>(alloc, deserializer)
 }

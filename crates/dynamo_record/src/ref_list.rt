@@ -33,7 +33,8 @@ pub trait RefList: Sized {
         names: &'static [&'static str],
         builder: &mut B,
     ) -> Result<&'static [&'static str], S::Error>
-        ensures { PutsFields B.gives (λ ns. map (λ n. n.now) ns.now) builder.old builder.new (map (λ n. n.now) names.now) absences (told self.now) result };
+        ensures { PutsFields B.gives (λ ns. map (λ n. n.now) ns.now) builder.old builder.new
+            (map (λ n. n.now) names.now) absences (told self.now) result };
 
     /// Writes the fields in order.
     ///
@@ -115,7 +116,8 @@ impl<'a, M: SetValue> RefList for StringSet<&'a M> {
 
     ghost absences = { λ gs. required ∷ gs };
 
-    ghost told = { λ value ds. datum.newtype_struct (symbol strings) (M.about.tells value.0.now) ∷ ds };
+    ghost told = { λ value ds. datum.newtype_struct (symbol strings) (M.about.tells value.0.now)
+        ∷ ds };
 
     fn write_fields<S: Serializer, B: StructBuilder<S, Ok = S::Ok, Error = S::Error>>(
         &self,
@@ -144,7 +146,8 @@ impl<'a, M: SetValue> RefList for NumberSet<&'a M> {
 
     ghost absences = { λ gs. required ∷ gs };
 
-    ghost told = { λ value ds. datum.newtype_struct (symbol numbers) (M.about.tells value.0.now) ∷ ds };
+    ghost told = { λ value ds. datum.newtype_struct (symbol numbers) (M.about.tells value.0.now)
+        ∷ ds };
 
     fn write_fields<S: Serializer, B: StructBuilder<S, Ok = S::Ok, Error = S::Error>>(
         &self,
@@ -173,7 +176,8 @@ impl<'a, M: SetValue> RefList for BinarySet<&'a M> {
 
     ghost absences = { λ gs. required ∷ gs };
 
-    ghost told = { λ value ds. datum.newtype_struct (symbol blobs) (M.about.tells value.0.now) ∷ ds };
+    ghost told = { λ value ds. datum.newtype_struct (symbol blobs) (M.about.tells value.0.now)
+        ∷ ds };
 
     fn write_fields<S: Serializer, B: StructBuilder<S, Ok = S::Ok, Error = S::Error>>(
         &self,

@@ -30,21 +30,25 @@ pub trait SetValue: Shaped {
 
     /// Returns whether the value has no elements.
     fn has_no_elements(&self) -> bool
-        ensures { result ≡ same_default (datum.seq datum.no_elements) (Self.Shaped.about.tells self.now) };
+        ensures { result
+            ≡ same_default (datum.seq datum.no_elements) (Self.Shaped.about.tells self.now) };
 
     // As a set, a value tells what it tells as a list, under the symbol of the kind. A missing one
     // is refused.
     ghost is_set: { (k : SetKind) → IsSetOf k Self.Shaped.about (about_set k) };
 
-    ghost set_reads_by_shape: { (k : SetKind) → ReadsByShape (about_set k).shape (about_set k).tells Self.Deserialize.reads };
+    ghost set_reads_by_shape: { (k : SetKind)
+        → ReadsByShape (about_set k).shape (about_set k).tells Self.Deserialize.reads };
 }
 
 impl<T: Shaped> SetValue for Vec<T> {
     ghost about_set = { λ k. about_list_set k T.about };
 
-    ghost is_set = { λ k. record { tells = λ v. refl; conforms = λ v. list_is_set k T.about.shape _; missed = refl } };
+    ghost is_set = { λ k. record
+        { tells = λ v. refl; conforms = λ v. list_is_set k T.about.shape _; missed = refl } };
 
-    ghost set_reads_by_shape = { λ k. set_permitted k T.about.shape T.about.tells T.reads T.reads_by_shape };
+    ghost set_reads_by_shape = { λ k. set_permitted k T.about.shape T.about.tells T.reads
+        T.reads_by_shape };
 
     fn without_elements(alloc: Global) -> Vec<T> {
         Vec::new(alloc)
@@ -56,11 +60,18 @@ impl<T: Shaped> SetValue for Vec<T> {
 }
 
 impl<T: ShapedKey> SetValue for BTreeSet<T> {
-    ghost about_set = { λ k. about_members_in k T.about_key (eq_by_cmp T.about_key.cmp) T.about_key.ordered_as_told (λ s. s.keys) (sorted.contains T.about_key.cmp) (λ s q. refl) };
+    ghost about_set = { λ k. about_members_in k T.about_key (eq_by_cmp T.about_key.cmp)
+        T.about_key.ordered_as_told (λ s. s.keys) (sorted.contains T.about_key.cmp) (λ s q. refl) };
 
-    ghost is_set = { λ k. record { tells = λ s. refl; conforms = λ s. ordered_is_set k T.about_key.about.shape _; missed = refl } };
+    ghost is_set = { λ k. record {
+      tells = λ s. refl;
+      conforms = λ s. ordered_is_set k T.about_key.about.shape _;
+      missed = refl;
+    } };
 
-    ghost set_reads_by_shape = { members_in_read T.about_key (λ s. s.keys) eq_by_cmp T.about.shape T.about.tells T.about_key.cmp T.cmp T.reads T.is_key.shape T.is_key.tells T.is_key.cmp T.about_key.ordered_as_told T.reads_by_shape sorted.contains (λ s q. refl) };
+    ghost set_reads_by_shape = { members_in_read T.about_key (λ s. s.keys) eq_by_cmp T.about.shape
+        T.about.tells T.about_key.cmp T.cmp T.reads T.is_key.shape T.is_key.tells T.is_key.cmp
+        T.about_key.ordered_as_told T.reads_by_shape sorted.contains (λ s q. refl) };
 
     fn without_elements(alloc: Global) -> BTreeSet<T> {
         BTreeSet::new(alloc)
@@ -72,11 +83,21 @@ impl<T: ShapedKey> SetValue for BTreeSet<T> {
 }
 
 impl<T: ShapedKey> SetValue for HashSet<T> {
-    ghost about_set = { λ k. about_members_in k T.about_key T.about_key.eq T.about_key.equal_as_told (λ s. members_in_order T.about_key.cmp s.keys) (hashed.contains T.about_key.eq) (λ s. is_in_order T.about_key s.keys) };
+    ghost about_set = { λ k. about_members_in k T.about_key T.about_key.eq T.about_key.equal_as_told
+        (λ s. members_in_order T.about_key.cmp s.keys) (hashed.contains T.about_key.eq)
+        (λ s. is_in_order T.about_key s.keys) };
 
-    ghost is_set = { λ k. record { tells = λ s. refl; conforms = λ s. ordered_is_set k T.about_key.about.shape _; missed = refl } };
+    ghost is_set = { λ k. record {
+      tells = λ s. refl;
+      conforms = λ s. ordered_is_set k T.about_key.about.shape _;
+      missed = refl;
+    } };
 
-    ghost set_reads_by_shape = { members_in_read T.about_key (λ s. members_in_order T.about_key.cmp s.keys) (λ eq. eq) T.about.shape T.about.tells T.about_key.eq T.eq T.reads T.is_key.shape T.is_key.tells T.is_key.eq T.about_key.equal_as_told T.reads_by_shape hashed.contains (λ s. is_in_order T.about_key s.keys) };
+    ghost set_reads_by_shape = { members_in_read T.about_key
+        (λ s. members_in_order T.about_key.cmp s.keys) (λ eq. eq) T.about.shape T.about.tells
+        T.about_key.eq T.eq T.reads T.is_key.shape T.is_key.tells T.is_key.eq
+        T.about_key.equal_as_told T.reads_by_shape hashed.contains
+        (λ s. is_in_order T.about_key s.keys) };
 
     fn without_elements(alloc: Global) -> HashSet<T> {
         HashSet::new(alloc)

@@ -57,5 +57,6 @@ pub trait ShapedKey: Shaped + Eq + Hash + Ord {
     }
 
     // These are the type's own shape, equality and order.
-    ghost is_key: { IsKeyOf about_key Self.Shaped.about.shape Self.Shaped.about.tells Self.PartialEq.eq Self.Ord.cmp };
+    ghost is_key: { IsKeyOf about_key Self.Shaped.about.shape Self.Shaped.about.tells
+        Self.PartialEq.eq Self.Ord.cmp };
 }

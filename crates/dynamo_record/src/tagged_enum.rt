@@ -3,7 +3,8 @@ ghost use Rattle.dynamo_de.specs.Meets.{Meets};
 ghost use Rattle.dynamo_de.specs.Source.{Entry};
 ghost use Rattle.dynamo_record.specs.Enums.{NamesVariant};
 ghost use Rattle.dynamo_record.specs.Held.{Holds, IsLast};
-ghost use Rattle.dynamo_record.specs.TaggedEnums.{AboutTagged, of_tagged, tagged_reads, FromEntries, IsFit};
+ghost use Rattle.dynamo_record.specs.TaggedEnums.{AboutTagged, of_tagged, tagged_reads};
+ghost use Rattle.dynamo_record.specs.TaggedEnums.{FromEntries, IsFit};
 
 use crate::TaggedList;
 use crate::field_list::missing_field;
@@ -105,7 +106,8 @@ pub fn read_tagged<T: TaggedEnum, D: Deserializer>(
 where
     T::Variants: TaggedList,
     requires { IsFit (of_tagged T.about T.Variants.about) }
-    ensures { Meets D.Error.fault (tagged_reads (of_tagged T.about T.Variants.about) (D.source deserializer)) result }
+    ensures { Meets D.Error.fault
+        (tagged_reads (of_tagged T.about T.Variants.about) (D.source deserializer)) result }
 {
     let entries = entries_of(alloc, deserializer, T::expecting())?;
     let (held, last) = held_entries::<D>(alloc, entries, T::tag())?;

@@ -2,7 +2,9 @@ ghost use Rattle.std.specs.Prelude.{◌≡◌, ◌<◌, ◌≤◌, ◌+◌, ◌^
 ghost use Rattle.dynamo_de.specs.Meets.{Meets};
 ghost use Rattle.dynamo_de.specs.Source.{Entry, Text};
 ghost use Rattle.dynamo_record.specs.Held.{Holds, ReadsFields};
-ghost use Rattle.dynamo_record.specs.TaggedLists.{AboutTaggedList, Structs, struct_at, about_bare, about_struct_variant, about_inner, about_tagged_one, about_tagged_choice};
+ghost use Rattle.dynamo_record.specs.TaggedLists.{AboutTaggedList, Structs, struct_at, about_bare};
+ghost use Rattle.dynamo_record.specs.TaggedLists.{about_struct_variant, about_inner};
+ghost use Rattle.dynamo_record.specs.TaggedLists.{about_tagged_one, about_tagged_choice};
 
 use crate::held::{ignore_held, read_held};
 use crate::{Choice, FieldList, Named, NamedFields, Nothing, Record};
@@ -34,8 +36,11 @@ pub trait TaggedList: Sized {
         alloc: Global,
     ) -> Result<Self, D::Error>
         ensures { (tag : Text) → about.fit tag → place < about.count → place + 1 < 2 ^ 64
-            → (name : Text) (ss : Structs) (es : List Entry) → Holds D.source entries.items es
-            → Meets D.Error.fault (ReadsFields about.place about.told place (struct_at place (about.structs name ss)).1 es) result };
+            → (name : Text) (ss : Structs) (es : List Entry)
+            → Holds D.source entries.items es
+            → Meets D.Error.fault
+            (ReadsFields about.place about.told place (struct_at place (about.structs name ss)).1
+            es) result };
 }
 
 impl TaggedList for Nothing {

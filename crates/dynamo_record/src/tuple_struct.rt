@@ -5,7 +5,8 @@ ghost use Rattle.dynamo_de.specs.Meets.{Meets};
 ghost use Rattle.dynamo_shape.specs.Conforms.{conforms};
 ghost use Rattle.dynamo_shape.specs.Shape.{tuple_struct};
 ghost use Rattle.dynamo_record.specs.Fields.{shapes_of};
-ghost use Rattle.dynamo_record.specs.TupleStructs.{AboutTupleStruct, tuple_struct_reads, with_fields};
+ghost use Rattle.dynamo_record.specs.TupleStructs.{AboutTupleStruct, tuple_struct_reads};
+ghost use Rattle.dynamo_record.specs.TupleStructs.{with_fields};
 
 use crate::content::read_fields;
 use crate::{FieldList, RefList};
@@ -54,7 +55,8 @@ pub fn read_tuple_struct<R: TupleStruct, D: Deserializer>(
 ) -> Result<R, D::Error>
 where
     R::Fields: FieldList + Drop,
-    ensures { Meets D.Error.fault (tuple_struct_reads (with_fields R.about R.Fields.about) (D.source deserializer)) result }
+    ensures { Meets D.Error.fault
+        (tuple_struct_reads (with_fields R.about R.Fields.about) (D.source deserializer)) result }
 {
     match read_fields(alloc, Request::TupleStruct, deserializer, R::expecting()) {
         Ok(fields) => Ok(R::make(fields)),
@@ -71,7 +73,8 @@ pub fn write_tuple_struct<R: TupleStruct, W: RefList, S: Serializer>(
     serializer: S,
     fields: &W,
 ) -> Result<S::Ok, S::Error>
-    ensures { Writes S.Error.fault ⊥ (S.outcome serializer) (datum.tuple_struct R.about.name (datum.elements_of (W.told fields.now []))) result }
+    ensures { Writes S.Error.fault ⊥ (S.outcome serializer)
+        (datum.tuple_struct R.about.name (datum.elements_of (W.told fields.now []))) result }
 {
     let mut builder = serializer.serialize_tuple_struct(R::name(), R::count())?;
     fields.write_elements::<S, S::SerializeTupleStruct>(&mut builder)?;
@@ -80,7 +83,8 @@ pub fn write_tuple_struct<R: TupleStruct, W: RefList, S: Serializer>(
 
 /// Promises that the datum of a tuple struct conforms to its shape. It is the body of `conforms`.
 pub fn tuple_struct_conforms<R: TupleStruct, W: RefList>(fields: &W)
-    ensures { conforms (tuple_struct R.about.name (shapes_of (W.shapes []))) (datum.tuple_struct R.about.name (datum.elements_of (W.told fields.now []))) }
+    ensures { conforms (tuple_struct R.about.name (shapes_of (W.shapes [])))
+        (datum.tuple_struct R.about.name (datum.elements_of (W.told fields.now []))) }
 {
     fields.conform()
 }

@@ -5,7 +5,8 @@ ghost use Rattle.dynamo_de.specs.Meets.{Meets};
 ghost use Rattle.dynamo_de.specs.Reading.{read_identifier, read_variant};
 ghost use Rattle.dynamo_de.specs.Visitors.{or_its_fault};
 ghost use Rattle.dynamo_shape.specs.Conforms as shapes;
-ghost use Rattle.dynamo_record.specs.UnitEnums.{AboutUnits, IsNumber, FromName, FromVariant, unit_enum_shape, unit_enum_tells, unit_enum_reads};
+ghost use Rattle.dynamo_record.specs.UnitEnums.{AboutUnits, IsNumber, FromName, FromVariant};
+ghost use Rattle.dynamo_record.specs.UnitEnums.{unit_enum_shape, unit_enum_tells, unit_enum_reads};
 
 use crate::names::place_of;
 use crate::variant_names::{name_at, unknown_variant};
@@ -45,7 +46,8 @@ pub trait UnitEnum: Copy {
 
 /// Returns the variant with this index, or `None`. The slice has to be all variants, in order.
 pub fn variant_at<T: Copy>(variants: &[T], number: usize) -> Option<T>
-    ensures { (numbers : T → ℕ) (count : ℕ) → map numbers variants.now ≡ range_with_len 0 count → IsNumber numbers count number result }
+    ensures { (numbers : T → ℕ) (count : ℕ) → map numbers variants.now ≡ range_with_len 0 count
+        → IsNumber numbers count number result }
 {
     if number < variants.len() {
         Some(variants[number])
@@ -85,7 +87,8 @@ impl<T: UnitEnum> DeserializeSeed for NameSeed<T> {
 
 /// Reads a variant, whatever its content is.
 fn read_chosen<T: UnitEnum, A: EnumAccess>(alloc: Global, variant: A) -> Result<T, A::Error>
-    ensures { Meets A.Error.fault (After (or_its_fault (A.chosen variant)) (FromVariant T.about)) result }
+    ensures { Meets A.Error.fault (After (or_its_fault (A.chosen variant)) (FromVariant T.about))
+        result }
 {
     let (value, content) = variant.variant_seed(NameSeed::<T> {
         alloc,
@@ -97,7 +100,8 @@ fn read_chosen<T: UnitEnum, A: EnumAccess>(alloc: Global, variant: A) -> Result<
 
 /// Asks for an enum, and reads it.
 fn read_shown<T: UnitEnum, R: Reader>(alloc: Global, reader: R) -> Result<T, R::Error>
-    ensures { Meets R.Error.fault (After (read_variant (R.source reader)) (FromVariant T.about)) result }
+    ensures { Meets R.Error.fault (After (read_variant (R.source reader)) (FromVariant T.about))
+        result }
 {
     match reader.show(Request::Enum)? {
         Showing::Enum(choice) => {

@@ -9,7 +9,8 @@ use std::alloc::Global;
 
 /// Reads a unit struct.
 fn read_unit<R: Reader>(alloc: Global, reader: R) -> Result<(), R::Error>
-    ensures { Meets R.Error.fault (Gives (λ u. u) (reading.read_unit_struct (R.source reader))) result }
+    ensures { Meets R.Error.fault (Gives (λ u. u) (reading.read_unit_struct (R.source reader)))
+        result }
 {
     match reader.surface(Request::UnitStruct)? {
         Showing::Unit => Ok(()),
@@ -27,7 +28,8 @@ pub fn read_unit_struct<D: Deserializer>(
     deserializer: D,
     _name: &'static str,
 ) -> Result<(), D::Error>
-    ensures { (own : Text) → Meets D.Error.fault (ReadsUnitStruct own (D.source deserializer)) result }
+    ensures { (own : Text)
+        → Meets D.Error.fault (ReadsUnitStruct own (D.source deserializer)) result }
 {
     read_unit(alloc, deserializer)
 }

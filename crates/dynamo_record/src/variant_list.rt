@@ -29,7 +29,8 @@ pub trait VariantList: Sized {
     fn read<A: VariantAccess>(place: usize, content: A, alloc: Global) -> Result<Self, A::Error>
         ensures { place < about.count → place + 1 < 2 ^ 64
             → (name : Text) (ns : Names) (i : ℕ) (cs : Contents)
-            → Meets A.Error.fault (ReadsAt about.contents about.told name ns i cs place (A.content content)) result };
+            → Meets A.Error.fault
+            (ReadsAt about.contents about.told name ns i cs place (A.content content)) result };
 }
 
 /// A variant of the first list, or one of the second.

@@ -30,7 +30,8 @@ pub fn write_unit<T: Enumeration, S: Serializer>(
     serializer: S,
     index: u32,
 ) -> Result<S::Ok, S::Error>
-    ensures { S.outcome serializer (datum.unit_variant (tag T.about.name T.about.names index)) result }
+    ensures { S.outcome serializer (datum.unit_variant (tag T.about.name T.about.names index))
+        result }
 {
     let variant = name_at(T::names(), index as usize);
     serializer.serialize_unit_variant(T::name(), index, variant)
@@ -46,7 +47,8 @@ pub fn write_one<T: Enumeration, V: Serialize, S: Serializer>(
     index: u32,
     value: &V,
 ) -> Result<S::Ok, S::Error>
-    ensures { Writes S.Error.fault (V.wants value.now) (S.outcome serializer) (datum.newtype_variant (tag T.about.name T.about.names index) (V.tells value.now)) result }
+    ensures { Writes S.Error.fault (V.wants value.now) (S.outcome serializer)
+        (datum.newtype_variant (tag T.about.name T.about.names index) (V.tells value.now)) result }
 {
     let variant = name_at(T::names(), index as usize);
     serializer.serialize_newtype_variant(T::name(), index, variant, value)
@@ -62,7 +64,9 @@ pub fn write_several<T: Enumeration, W: RefList, S: Serializer>(
     index: u32,
     fields: &W,
 ) -> Result<S::Ok, S::Error>
-    ensures { S.outcome serializer (datum.tuple_variant (tag T.about.name T.about.names index) (datum.elements_of (W.told fields.now []))) result }
+    ensures { S.outcome serializer
+        (datum.tuple_variant (tag T.about.name T.about.names index)
+        (datum.elements_of (W.told fields.now []))) result }
 {
     let variant = name_at(T::names(), index as usize);
     let mut builder = serializer.serialize_tuple_variant(T::name(), index, variant, 0)?;
@@ -80,7 +84,9 @@ pub fn write_struct<T: Enumeration, N: NamedFields, W: RefList, S: Serializer>(
     index: u32,
     fields: &W,
 ) -> Result<S::Ok, S::Error>
-    ensures { S.outcome serializer (datum.struct_variant (tag T.about.name T.about.names index) (named_fields N.names (W.absences []) (W.told fields.now []))) result }
+    ensures { S.outcome serializer
+        (datum.struct_variant (tag T.about.name T.about.names index)
+        (named_fields N.names (W.absences []) (W.told fields.now []))) result }
 {
     let variant = name_at(T::names(), index as usize);
     let names = N::names();
@@ -92,29 +98,37 @@ pub fn write_struct<T: Enumeration, N: NamedFields, W: RefList, S: Serializer>(
 /// Promises that the unit variant with this index conforms to the enum's shape.
 pub fn unit_conforms<T: Enumeration>(index: u32)
     requires { content_at index (T.about.list.contents []) ≡ Some shape.nothing }
-    ensures { conforms (enum_shape T.about) (datum.unit_variant (tag T.about.name T.about.names index)) }
+    ensures { conforms (enum_shape T.about)
+        (datum.unit_variant (tag T.about.name T.about.names index)) }
 {}
 
 /// Promises that the newtype variant with this index conforms to the enum's shape.
 pub fn one_conforms<T: Enumeration, V: Shaped>(index: u32, value: &V)
     requires { content_at index (T.about.list.contents []) ≡ Some (shape.one V.about.shape) }
-    ensures { conforms (enum_shape T.about) (datum.newtype_variant (tag T.about.name T.about.names index) (V.about.tells value.now)) }
+    ensures { conforms (enum_shape T.about)
+        (datum.newtype_variant (tag T.about.name T.about.names index) (V.about.tells value.now)) }
 {
     value.conforms();
 }
 
 /// Promises that the tuple variant with this index conforms to the enum's shape.
 pub fn several_conform<T: Enumeration, W: RefList>(index: u32, fields: &W)
-    requires { content_at index (T.about.list.contents []) ≡ Some (shape.several (shapes_of (W.shapes []))) }
-    ensures { conforms (enum_shape T.about) (datum.tuple_variant (tag T.about.name T.about.names index) (datum.elements_of (W.told fields.now []))) }
+    requires { content_at index (T.about.list.contents [])
+        ≡ Some (shape.several (shapes_of (W.shapes []))) }
+    ensures { conforms (enum_shape T.about)
+        (datum.tuple_variant (tag T.about.name T.about.names index)
+        (datum.elements_of (W.told fields.now []))) }
 {
     fields.conform();
 }
 
 /// Promises that the struct variant with this index conforms to the enum's shape.
 pub fn named_conform<T: Enumeration, N: NamedFields, W: RefList>(index: u32, fields: &W)
-    requires { content_at index (T.about.list.contents []) ≡ Some (shape.named (field_shapes N.names (W.shapes []) (N.Fields.about.defaults []))) }
-    ensures { conforms (enum_shape T.about) (datum.struct_variant (tag T.about.name T.about.names index) (named_fields N.names (N.Fields.about.defaults []) (W.told fields.now []))) }
+    requires { content_at index (T.about.list.contents [])
+        ≡ Some (shape.named (field_shapes N.names (W.shapes []) (N.Fields.about.defaults []))) }
+    ensures { conforms (enum_shape T.about)
+        (datum.struct_variant (tag T.about.name T.about.names index)
+        (named_fields N.names (N.Fields.about.defaults []) (W.told fields.now []))) }
 {
     fields.conform();
 }

@@ -28,7 +28,8 @@ pub const NEWTYPE_SYMBOL: &str = "\u{37e}BYTESSET\u{37e}";
 /// `Vec<u8>` isn't: it is written as a list of numbers. It returns `OutOfMemory` if memory runs
 /// out.
 pub fn serialize<T: Serialize, S: Serializer>(value: &T, serializer: S) -> Result<S::Ok, S::Error>
-    ensures { Writes S.Error.fault (T.wants value.now) (S.outcome serializer) (datum.newtype_struct (symbol blobs) (T.tells value.now)) result }
+    ensures { Writes S.Error.fault (T.wants value.now) (S.outcome serializer)
+        (datum.newtype_struct (symbol blobs) (T.tells value.now)) result }
 {
     serializer.serialize_newtype_struct(NEWTYPE_SYMBOL, value)
 }

@@ -31,7 +31,8 @@ pub trait ListBuilder<S: Outcomes<Ok = Self::Ok, Error = Self::Error>>: Sized + 
     ///
     /// Returns an error if the serializer refuses the element, or if memory runs out.
     fn push_element(&mut self, written: Self::Ok) -> Result<(), Self::Error>
-        ensures { TakesWritten (S.outcome (writer self.old)) written gives self.old self.new element result };
+        ensures { TakesWritten (S.outcome (writer self.old)) written gives self.old self.new element
+            result };
 
     /// Writes the next element.
     ///

@@ -24,5 +24,6 @@ pub trait Outcomes: Sized + Drop {
     fn alloc(&self) -> Global;
 
     // An implementation's own error may be passed on.
-    ghost refusal: { (s : Self) (text : List ℕ) (e : Self.Error) → Self.Error.fault e ≡ message text → outcome s (datum.refuse text) (Err e) };
+    ghost refusal: { (s : Self) (text : List ℕ) (e : Self.Error) → Self.Error.fault e ≡ message text
+        → outcome s (datum.refuse text) (Err e) };
 }

@@ -47,5 +47,6 @@ pub trait Serialize {
     /// Returns an error that the serializer returns for the value's datum. If the value itself
     /// allocates, it can also be the serializer's error for out of memory.
     fn serialize<S: Serializer>(&self, serializer: S) -> Result<S::Ok, S::Error>
-        ensures { Writes S.Error.fault (wants self.now) (S.outcome serializer) (tells self.now) result };
+        ensures { Writes S.Error.fault (wants self.now) (S.outcome serializer) (tells self.now)
+            result };
 }

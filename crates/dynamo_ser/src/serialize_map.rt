@@ -1,9 +1,12 @@
-ghost use Rattle.std.specs.Prelude.{◌≡◌, ◌⊎◌, Result, Ok, Err, MatchResult, Option, Some, None, is_some, option_map, List, ℕ, string_bytes};
-ghost use Rattle.dynamo_value.specs.Fault.{out_of_memory, serialize_map_key_called_twice, serialize_map_value_before_key};
+ghost use Rattle.std.specs.Prelude.{◌≡◌, ◌⊎◌, Result, Ok, Err, MatchResult, Option, Some, None};
+ghost use Rattle.std.specs.Prelude.{is_some, option_map, List, ℕ, string_bytes};
+ghost use Rattle.dynamo_value.specs.Fault.{out_of_memory, serialize_map_key_called_twice};
+ghost use Rattle.dynamo_value.specs.Fault.{serialize_map_value_before_key};
 ghost use Rattle.dynamo_value.specs.Kind.{fault_of};
 ghost use Rattle.dynamo_ser.specs.Datum.{Datum, Pairs, pair, no_pairs};
 ghost use Rattle.dynamo_ser.specs.Key.{key_text};
-ghost use Rattle.dynamo_ser.specs.Pieces.{Keeps, TakesPiece, TakesEntry, PassesOnKey, PassesOnValue};
+ghost use Rattle.dynamo_ser.specs.Pieces.{Keeps, TakesPiece, TakesEntry, PassesOnKey};
+ghost use Rattle.dynamo_ser.specs.Pieces.{PassesOnValue};
 
 use crate::map_key::MapKeySerializer;
 use crate::{Error, Outcomes, Serialize, Serializer};
@@ -67,7 +70,8 @@ pub trait SerializeMap<S: Outcomes<Ok = Self::Ok, Error = Self::Error>>: Sized +
     ///
     /// Returns an error if the serializer refuses the entry, or if memory runs out.
     fn push_entry(&mut self, key: String, written: Self::Ok) -> Result<(), Self::Error>
-        ensures takes { TakesEntry (string_bytes key) (S.outcome (writer self.old)) written gives self.old self.new result }
+        ensures takes { TakesEntry (string_bytes key) (S.outcome (writer self.old)) written gives
+            self.old self.new result }
         ensures pending { pending self.new ≡ pending self.old };
 
     /// Writes a key and makes it pending.
@@ -86,11 +90,16 @@ pub trait SerializeMap<S: Outcomes<Ok = Self::Ok, Error = Self::Error>>: Sized +
     /// memory runs out.
     final fn serialize_key<K: Serialize>(&mut self, key: &K) -> Result<(), Self::Error>
         ensures twice { (text : List ℕ) → Self.pending self.old ≡ Some text
-            → MatchResult result (λ _. ⊥) (λ e. (Self.Error.fault e ≡ serialize_map_key_called_twice) × (self.new ≡ self.old)) }
-        ensures takes { Self.pending self.old ≡ None → MatchResult result
-            (λ _. (text : List ℕ) × (key_text (K.tells key.now) ≡ Ok text) × (Self.pending self.new ≡ Some text))
-            (λ e. ((key_text (K.tells key.now) ≡ Err (Self.Error.fault e)) ⊎ (Self.Error.fault e ≡ out_of_memory))
-            × ((v : Datum) (pairs : Pairs) → Self.gives self.old (pair (K.tells key.now) v pairs) (Err e))) }
+            → MatchResult result (λ _. ⊥)
+            (λ e. (Self.Error.fault e ≡ serialize_map_key_called_twice) × (self.new ≡ self.old)) }
+        ensures takes { Self.pending self.old ≡ None
+            → MatchResult result
+            (λ _. (text : List ℕ) × (key_text (K.tells key.now) ≡ Ok text)
+            × (Self.pending self.new ≡ Some text))
+            (λ e. ((key_text (K.tells key.now) ≡ Err (Self.Error.fault e))
+            ⊎ (Self.Error.fault e ≡ out_of_memory))
+            × ((v : Datum) (pairs : Pairs)
+            → Self.gives self.old (pair (K.tells key.now) v pairs) (Err e))) }
         ensures failed { MatchResult result (λ _. Unit {0}) (λ _. self.new ≡ self.old) }
         ensures keeps { Keeps Self.gives self.old self.new }
     {
@@ -122,7 +131,9 @@ pub trait SerializeMap<S: Outcomes<Ok = Self::Ok, Error = Self::Error>>: Sized +
     where
         S: Serializer,
         ensures before { Self.pending self.old ≡ None
-            → MatchResult result (λ _. ⊥) (λ e. (Self.Error.fault e ≡ serialize_map_value_before_key) × Keeps Self.gives self.old self.new) }
+            → MatchResult result (λ _. ⊥)
+            (λ e. (Self.Error.fault e ≡ serialize_map_value_before_key)
+            × Keeps Self.gives self.old self.new) }
         ensures takes { (text : List ℕ) (k : Datum) → Self.pending self.old ≡ Some text
             → key_text k ≡ Ok text
             → TakesPiece Self.gives self.old self.new (pair k (V.tells value.now)) result }
@@ -154,7 +165,8 @@ pub trait SerializeMap<S: Outcomes<Ok = Self::Ok, Error = Self::Error>>: Sized +
     ) -> Result<(), Self::Error>
     where
         S: Serializer,
-        ensures takes { TakesPiece Self.gives self.old self.new (pair (K.tells key.now) (V.tells value.now)) result }
+        ensures takes { TakesPiece Self.gives self.old self.new
+            (pair (K.tells key.now) (V.tells value.now)) result }
         ensures pending { Self.pending self.new ≡ Self.pending self.old }
     {
         match key.serialize(MapKeySerializer::new(self.alloc())) {

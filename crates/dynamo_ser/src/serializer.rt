@@ -65,7 +65,8 @@ pub trait Serializer: Outcomes {
     /// Returns an error if the serializer refuses every value with this wrapper, or if memory runs
     /// out.
     fn content_serializer(&self, wrapper: Wrapper) -> Result<Self, Self::Error>
-        ensures { BeginsContent Self.outcome (wrapped wrapper) (content self.now wrapper) self.now result };
+        ensures { BeginsContent Self.outcome (wrapped wrapper) (content self.now wrapper) self.now
+            result };
 
     /// Returns the result of the wrapper, given what was written for its content.
     ///
@@ -73,7 +74,8 @@ pub trait Serializer: Outcomes {
     ///
     /// Returns an error if the serializer refuses the wrapped value, or if memory runs out.
     fn wrap(self, wrapper: Wrapper, written: Self::Ok) -> Result<Self::Ok, Self::Error>
-        ensures { (d : Datum) → Self.outcome (content self wrapper) d (Ok written) → Self.outcome self (wrapped wrapper d) result };
+        ensures { (d : Datum) → Self.outcome (content self wrapper) d (Ok written)
+            → Self.outcome self (wrapped wrapper d) result };
 
     /// Writes a `bool`.
     ///
@@ -239,7 +241,8 @@ pub trait Serializer: Outcomes {
     ///
     /// Returns an error if the serializer refuses the value, or if memory runs out.
     final fn serialize_some<T: Serialize>(self, value: &T) -> Result<Self::Ok, Self::Error>
-        ensures { Writes Self.Error.fault (T.wants value.now) (Self.outcome self) (datum.some (T.tells value.now)) result }
+        ensures { Writes Self.Error.fault (T.wants value.now) (Self.outcome self)
+            (datum.some (T.tells value.now)) result }
     {
         let content = self.content_serializer(Wrapper::Option)?;
         let written = value.serialize(content)?;
@@ -273,7 +276,8 @@ pub trait Serializer: Outcomes {
         index: u32,
         variant: &'static str,
     ) -> Result<Self::Ok, Self::Error>
-        ensures { Self.outcome self (datum.unit_variant (datum.variant name.now index variant.now)) result };
+        ensures { Self.outcome self (datum.unit_variant (datum.variant name.now index variant.now))
+            result };
 
     /// Writes a newtype struct: `struct Name(value)`.
     ///
@@ -285,7 +289,8 @@ pub trait Serializer: Outcomes {
         name: &'static str,
         value: &T,
     ) -> Result<Self::Ok, Self::Error>
-        ensures { Writes Self.Error.fault (T.wants value.now) (Self.outcome self) (datum.newtype_struct name.now (T.tells value.now)) result }
+        ensures { Writes Self.Error.fault (T.wants value.now) (Self.outcome self)
+            (datum.newtype_struct name.now (T.tells value.now)) result }
     {
         let content = self.content_serializer(Wrapper::NewtypeStruct(name))?;
         let written = value.serialize(content)?;
@@ -304,7 +309,9 @@ pub trait Serializer: Outcomes {
         variant: &'static str,
         value: &T,
     ) -> Result<Self::Ok, Self::Error>
-        ensures { Writes Self.Error.fault (T.wants value.now) (Self.outcome self) (datum.newtype_variant (datum.variant name.now index variant.now) (T.tells value.now)) result }
+        ensures { Writes Self.Error.fault (T.wants value.now) (Self.outcome self)
+            (datum.newtype_variant (datum.variant name.now index variant.now) (T.tells value.now))
+            result }
     {
         let content = self.content_serializer(Wrapper::NewtypeVariant(name, index, variant))?;
         let written = value.serialize(content)?;
@@ -317,7 +324,8 @@ pub trait Serializer: Outcomes {
     ///
     /// Returns an error if the serializer refuses the value, or if memory runs out.
     fn serialize_seq(self, len: Option<usize>) -> Result<Self::SerializeSeq, Self::Error>
-        ensures { Begins Self.SerializeSeq.gives (λ pieces. Self.outcome self (datum.seq pieces)) result };
+        ensures { Begins Self.SerializeSeq.gives (λ pieces. Self.outcome self (datum.seq pieces))
+            result };
 
     /// Begins a tuple. Its elements follow.
     ///
@@ -325,7 +333,8 @@ pub trait Serializer: Outcomes {
     ///
     /// Returns an error if the serializer refuses the value, or if memory runs out.
     fn serialize_tuple(self, len: usize) -> Result<Self::SerializeTuple, Self::Error>
-        ensures { Begins Self.SerializeTuple.gives (λ pieces. Self.outcome self (datum.tuple pieces)) result };
+        ensures { Begins Self.SerializeTuple.gives
+            (λ pieces. Self.outcome self (datum.tuple pieces)) result };
 
     /// Begins a tuple struct. Its fields follow.
     ///
@@ -337,7 +346,8 @@ pub trait Serializer: Outcomes {
         name: &'static str,
         len: usize,
     ) -> Result<Self::SerializeTupleStruct, Self::Error>
-        ensures { Begins Self.SerializeTupleStruct.gives (λ pieces. Self.outcome self (datum.tuple_struct name.now pieces)) result };
+        ensures { Begins Self.SerializeTupleStruct.gives
+            (λ pieces. Self.outcome self (datum.tuple_struct name.now pieces)) result };
 
     /// Begins a tuple variant. Its fields follow.
     ///
@@ -351,7 +361,9 @@ pub trait Serializer: Outcomes {
         variant: &'static str,
         len: usize,
     ) -> Result<Self::SerializeTupleVariant, Self::Error>
-        ensures { Begins Self.SerializeTupleVariant.gives (λ pieces. Self.outcome self (datum.tuple_variant (datum.variant name.now index variant.now) pieces)) result };
+        ensures { Begins Self.SerializeTupleVariant.gives
+            (λ pieces. Self.outcome self
+            (datum.tuple_variant (datum.variant name.now index variant.now) pieces)) result };
 
     /// Begins a map. Its entries follow.
     ///
@@ -359,8 +371,10 @@ pub trait Serializer: Outcomes {
     ///
     /// Returns an error if the serializer refuses the value, or if memory runs out.
     fn serialize_map(self, len: Option<usize>) -> Result<Self::SerializeMap, Self::Error>
-        ensures begins { Begins Self.SerializeMap.gives (λ pieces. Self.outcome self (datum.map pieces)) result }
-        ensures idle { MatchResult result (λ b. Self.SerializeMap.pending b ≡ None) (λ _. Unit {0}) };
+        ensures begins { Begins Self.SerializeMap.gives
+            (λ pieces. Self.outcome self (datum.map pieces)) result }
+        ensures idle { MatchResult result (λ b. Self.SerializeMap.pending b ≡ None)
+            (λ _. Unit {0}) };
 
     /// Begins a struct. Its fields follow.
     ///
@@ -372,7 +386,8 @@ pub trait Serializer: Outcomes {
         name: &'static str,
         len: usize,
     ) -> Result<Self::SerializeStruct, Self::Error>
-        ensures { Begins Self.SerializeStruct.gives (λ pieces. Self.outcome self (datum.struct name.now pieces)) result };
+        ensures { Begins Self.SerializeStruct.gives
+            (λ pieces. Self.outcome self (datum.struct name.now pieces)) result };
 
     /// Begins a struct variant. Its fields follow.
     ///
@@ -386,5 +401,7 @@ pub trait Serializer: Outcomes {
         variant: &'static str,
         len: usize,
     ) -> Result<Self::SerializeStructVariant, Self::Error>
-        ensures { Begins Self.SerializeStructVariant.gives (λ pieces. Self.outcome self (datum.struct_variant (datum.variant name.now index variant.now) pieces)) result };
+        ensures { Begins Self.SerializeStructVariant.gives
+            (λ pieces. Self.outcome self
+            (datum.struct_variant (datum.variant name.now index variant.now) pieces)) result };
 }

@@ -27,7 +27,8 @@ pub const NEWTYPE_SYMBOL: &str = "\u{37e}STRINGSET\u{37e}";
 /// and `StringSetExpectedType` if an element isn't written as a string. It returns `OutOfMemory` if
 /// memory runs out.
 pub fn serialize<T: Serialize, S: Serializer>(value: &T, serializer: S) -> Result<S::Ok, S::Error>
-    ensures { Writes S.Error.fault (T.wants value.now) (S.outcome serializer) (datum.newtype_struct (symbol strings) (T.tells value.now)) result }
+    ensures { Writes S.Error.fault (T.wants value.now) (S.outcome serializer)
+        (datum.newtype_struct (symbol strings) (T.tells value.now)) result }
 {
     serializer.serialize_newtype_struct(NEWTYPE_SYMBOL, value)
 }

@@ -25,7 +25,8 @@ pub trait StructBuilder<S: Outcomes<Ok = Self::Ok, Error = Self::Error>>: Sized 
     /// Returns the serializer of the next field.
     fn field_serializer(&self) -> S
         ensures same { result ≡ writer self.now }
-        ensures passes_on { (name : List ℕ) → PassesOn Self.Error.fault (S.outcome result) gives self.now (field name) };
+        ensures passes_on { (name : List ℕ)
+            → PassesOn Self.Error.fault (S.outcome result) gives self.now (field name) };
 
     /// Adds a written value as the field with this name.
     ///
@@ -33,7 +34,8 @@ pub trait StructBuilder<S: Outcomes<Ok = Self::Ok, Error = Self::Error>>: Sized 
     ///
     /// Returns an error if the serializer refuses the field, or if memory runs out.
     fn push_field(&mut self, key: &'static str, written: Self::Ok) -> Result<(), Self::Error>
-        ensures { TakesWritten (S.outcome (writer self.old)) written gives self.old self.new (field key.now) result };
+        ensures { TakesWritten (S.outcome (writer self.old)) written gives self.old self.new
+            (field key.now) result };
 
     /// Writes the field with this name.
     ///
@@ -47,7 +49,8 @@ pub trait StructBuilder<S: Outcomes<Ok = Self::Ok, Error = Self::Error>>: Sized 
     ) -> Result<(), Self::Error>
     where
         S: Serializer,
-        ensures { TakesPiece Self.gives self.old self.new (field key.now (T.tells value.now)) result }
+        ensures { TakesPiece Self.gives self.old self.new (field key.now (T.tells value.now))
+            result }
     {
         self.begin_field(key);
         let written = value.serialize(self.field_serializer())?;
@@ -77,7 +80,8 @@ pub trait SerializeStruct<S: Outcomes<Ok = Self::Ok, Error = Self::Error>>: Stru
     ) -> Result<(), Self::Error>
     where
         S: Serializer,
-        ensures { TakesPiece Self.gives self.old self.new (field key.now (T.tells value.now)) result }
+        ensures { TakesPiece Self.gives self.old self.new (field key.now (T.tells value.now))
+            result }
     {
         self.add_field(key, value)
     }
@@ -110,7 +114,8 @@ pub trait SerializeStructVariant<S: Outcomes<Ok = Self::Ok, Error = Self::Error>
     ) -> Result<(), Self::Error>
     where
         S: Serializer,
-        ensures { TakesPiece Self.gives self.old self.new (field key.now (T.tells value.now)) result }
+        ensures { TakesPiece Self.gives self.old self.new (field key.now (T.tells value.now))
+            result }
     {
         self.add_field(key, value)
     }

@@ -1,10 +1,15 @@
 // The attribute value that is being built, event by event.
 ghost use Rattle.std.specs.Prelude.{◌≡◌, [], false, string_bytes, Some, IfOk, OnOk};
-ghost use Rattle.serde.specs.Event.{boolean, signed, unsigned, single, double, character, text as text_event, octets, nothing, unit_variant, seq_begins, seq_ends, map_begins, map_ends, field_key, variant_key as variant_event, key_begins, key_ends, flattens as flatten_event};
+ghost use Rattle.serde.specs.Event.{boolean, signed, unsigned, single, double, character};
+ghost use Rattle.serde.specs.Event.{text as text_event, octets, nothing, unit_variant, seq_begins};
+ghost use Rattle.serde.specs.Event.{seq_ends, map_begins, map_ends, field_key};
+ghost use Rattle.serde.specs.Event.{variant_key as variant_event, key_begins, key_ends};
+ghost use Rattle.serde.specs.Event.{flattens as flatten_event};
 ghost use Rattle.serde.specs.Spelling.{spelled};
 ghost use Rattle.dynamo_value.specs.Av as av;
 ghost use Rattle.dynamo_value.specs.View.{view};
-ghost use Rattle.dynamo_serde.specs.Sent.{start, whole, Puts, Keys, Adds, IsValue, Opens, Closes, Takes};
+ghost use Rattle.dynamo_serde.specs.Sent.{start, whole, Puts, Keys, Adds, IsValue, Opens, Closes};
+ghost use Rattle.dynamo_serde.specs.Sent.{Takes};
 ghost use Rattle.dynamo_serde.specs.Building.{state, frame};
 
 use crate::fault::{LEVELS, fault, message, no_memory, too_deep};
@@ -49,7 +54,8 @@ impl Builder {
     }
 
     pub(crate) fn into_value(self) -> Result<AttributeValue>
-        ensures { IfOk result (λ v. ((state self).below ≡ []) × ((state self).top ≡ whole (Some (view v)))) }
+        ensures { IfOk result
+            (λ v. ((state self).below ≡ []) × ((state self).top ≡ whole (Some (view v)))) }
     {
         let Builder {
             alloc,
@@ -121,7 +127,9 @@ impl Builder {
     }
 
     fn put_text(&mut self, text: String) -> Result<()>
-        ensures { OnOk result (Adds (state self.old) (string_bytes text) (av.S (string_bytes text)) (state self.new)) }
+        ensures { OnOk result
+            (Adds (state self.old) (string_bytes text) (av.S (string_bytes text))
+            (state self.new)) }
     {
         self.not_flat()?;
         if self.at_key {
@@ -132,7 +140,9 @@ impl Builder {
     }
 
     fn put_number(&mut self, text: String) -> Result<()>
-        ensures { OnOk result (Adds (state self.old) (string_bytes text) (av.N (string_bytes text)) (state self.new)) }
+        ensures { OnOk result
+            (Adds (state self.old) (string_bytes text) (av.N (string_bytes text))
+            (state self.new)) }
     {
         self.not_flat()?;
         if self.at_key {
@@ -274,7 +284,8 @@ impl Builder {
     }
 
     pub(crate) fn str_cased(&mut self, name: &str, case: Case) -> Result<()>
-        ensures { OnOk result (Takes (state self.old) (unit_variant name.now case) (state self.new)) }
+        ensures { OnOk result
+            (Takes (state self.old) (unit_variant name.now case) (state self.new)) }
     {
         let text = self.spelled(name, case, NameKind::Variant)?;
         self.put_text(text)
@@ -356,7 +367,8 @@ impl Builder {
     }
 
     pub(crate) fn variant_key(&mut self, name: &str, case: Case) -> Result<()>
-        ensures { OnOk result (Takes (state self.old) (variant_event name.now case) (state self.new)) }
+        ensures { OnOk result
+            (Takes (state self.old) (variant_event name.now case) (state self.new)) }
     {
         match symbol_named(name) {
             Some(symbol) => self.top.set_symbol(symbol),

@@ -22,8 +22,8 @@ use std::collections::HashMap;
 /// - A key that can't be read, such as that of a map with integer keys, has the place of its entry.
 /// - The fields of a flattened struct and of an internally tagged variant are at the map that they
 ///   share with others, and so is a tag that can't be read.
-/// - The place is that of the whole enum if no variant of an untagged enum fits, and if the tag of an
-///   adjacently tagged enum can't be read.
+/// - The place is that of the whole enum if no variant of an untagged enum fits, and if the tag of
+/// an adjacently tagged enum can't be read.
 /// - An error of `#[serde(try_from)]` has the place of the value that was converted.
 /// - More than 127 levels of lists and maps have the place of the whole value.
 ///

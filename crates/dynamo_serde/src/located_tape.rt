@@ -55,7 +55,8 @@ impl<'v> Format for LocatedTape<'v> {
 
     ghost gives = { λ old _ e new. Reads (place old.tape) e (place new.tape) };
 
-    ghost picks = { λ old _ is_key names at new. Picks (place old.tape) is_key names at (place new.tape) };
+    ghost picks = { λ old _ is_key names at new. Picks (place old.tape) is_key names at
+        (place new.tape) };
 
     ghost stays = { λ old new. Stays (place old.tape) (place new.tape) };
 

@@ -35,7 +35,9 @@ fn insert(
     key: String,
     value: AttributeValue,
 ) -> Result<()>
-    ensures { OnOk result (entries_view entries.new.entries ≡ put_entry text_cmp (string_bytes key) (view value) (entries_view entries.old.entries)) }
+    ensures { OnOk result
+        (entries_view entries.new.entries
+        ≡ put_entry text_cmp (string_bytes key) (view value) (entries_view entries.old.entries)) }
 {
     match entries.insert(key, value) {
         Ok(_) => Ok(()),
@@ -91,7 +93,8 @@ impl Open {
 
     // A map without members becomes what this symbol says.
     pub(crate) fn set_symbol(&mut self, symbol: Symbol) -> Result<()>
-        ensures { OnOk result (symbol_in (frame self.old) (symbol_of symbol) ≡ Some (frame self.new)) }
+        ensures { OnOk result
+            (symbol_in (frame self.old) (symbol_of symbol) ≡ Some (frame self.new)) }
     {
         let is_fresh = match self {
             Open::Map(map) => map.shared == 0 && map.entries.is_empty(),

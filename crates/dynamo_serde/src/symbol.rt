@@ -48,7 +48,8 @@ pub(crate) fn converted(
     symbol: Symbol,
     value: AttributeValue,
 ) -> Result<AttributeValue>
-    ensures { IfOk result (λ made. converted_to (symbol_of symbol) (view value) ≡ Some (view made)) }
+    ensures { IfOk result
+        (λ made. converted_to (symbol_of symbol) (view value) ≡ Some (view made)) }
 {
     match (symbol, value) {
         (Symbol::Set(kind), value) => kind.set_of(alloc, value),

@@ -1,5 +1,6 @@
 // An attribute value laid out as a row of tokens, which serde's steps walk along.
-ghost use Rattle.std.specs.Prelude.{◌≡◌, [], ◌∷◌, ◌++◌, List, map, string_bytes, false, IfOk, OnOk, MatchOption};
+ghost use Rattle.std.specs.Prelude.{◌≡◌, [], ◌∷◌, ◌++◌, List, map, string_bytes, false, IfOk, OnOk};
+ghost use Rattle.std.specs.Prelude.{MatchOption};
 ghost use Rattle.dynamo_value.specs.Av as av;
 ghost use Rattle.dynamo_value.specs.View.{view, elements_view, members_view};
 ghost use Rattle.dynamo_serde.specs.Laid.{Token as Laid, Takes, TakesText, IsLaid, laid};
@@ -65,14 +66,17 @@ pub struct Mark {
 
 // Lays one token more.
 fn lay_one<'v>(token: Token<'v>, tokens: &mut Vec<Token<'v>>) -> Result<()>
-    ensures { OnOk result (row tokens.new.items ≡ row tokens.old.items ++ token_of token.entry ∷ []) }
+    ensures { OnOk result
+        (row tokens.new.items ≡ row tokens.old.items ++ token_of token.entry ∷ []) }
 {
     tokens.push(token)?;
     Ok(())
 }
 
 fn lay_texts<'v>(texts: &'v Vec<String>, tokens: &mut Vec<Token<'v>>) -> Result<()>
-    ensures { OnOk result (row tokens.new.items ≡ row tokens.old.items ++ laid (av.Ss (map string_bytes texts.now.items))) }
+    ensures { OnOk result
+        (row tokens.new.items
+        ≡ row tokens.old.items ++ laid (av.Ss (map string_bytes texts.now.items))) }
 {
     lay_one(Token::BeginSet(SetKind::Strings), tokens)?;
     for text in texts {
@@ -82,7 +86,9 @@ fn lay_texts<'v>(texts: &'v Vec<String>, tokens: &mut Vec<Token<'v>>) -> Result<
 }
 
 fn lay_numbers<'v>(texts: &'v Vec<String>, tokens: &mut Vec<Token<'v>>) -> Result<()>
-    ensures { OnOk result (row tokens.new.items ≡ row tokens.old.items ++ laid (av.Ns (map string_bytes texts.now.items))) }
+    ensures { OnOk result
+        (row tokens.new.items
+        ≡ row tokens.old.items ++ laid (av.Ns (map string_bytes texts.now.items))) }
 {
     lay_one(Token::BeginSet(SetKind::Numbers), tokens)?;
     for text in texts {
@@ -92,7 +98,9 @@ fn lay_numbers<'v>(texts: &'v Vec<String>, tokens: &mut Vec<Token<'v>>) -> Resul
 }
 
 fn lay_blobs<'v>(blobs: &'v Vec<Vec<u8>>, tokens: &mut Vec<Token<'v>>) -> Result<()>
-    ensures { OnOk result (row tokens.new.items ≡ row tokens.old.items ++ laid (av.Bs (map (λ b. b.items) blobs.now.items))) }
+    ensures { OnOk result
+        (row tokens.new.items
+        ≡ row tokens.old.items ++ laid (av.Bs (map (λ b. b.items) blobs.now.items))) }
 {
     lay_one(Token::BeginSet(SetKind::Blobs), tokens)?;
     for blob in blobs {
@@ -132,7 +140,9 @@ fn lay_list<'v>(
     levels: usize,
     tokens: &mut Vec<Token<'v>>,
 ) -> Result<()>
-    ensures { OnOk result (row tokens.new.items ≡ row tokens.old.items ++ laid (av.L (elements_view items.now.items))) }
+    ensures { OnOk result
+        (row tokens.new.items
+        ≡ row tokens.old.items ++ laid (av.L (elements_view items.now.items))) }
 {
     let Some(levels) = levels.checked_sub(1) else {
         return Err(too_deep(alloc));
@@ -152,7 +162,9 @@ fn lay_map<'v>(
     levels: usize,
     tokens: &mut Vec<Token<'v>>,
 ) -> Result<()>
-    ensures { OnOk result (row tokens.new.items ≡ row tokens.old.items ++ laid (av.M (members_view map.now.entries))) }
+    ensures { OnOk result
+        (row tokens.new.items
+        ≡ row tokens.old.items ++ laid (av.M (members_view map.now.entries))) }
 {
     let Some(levels) = levels.checked_sub(1) else {
         return Err(too_deep(alloc));
@@ -198,7 +210,9 @@ impl<'v> Tape<'v> {
     /// Returns [`ErrorImpl::Message`] for more than 127 levels of lists and maps, and
     /// [`ErrorImpl::OutOfMemory`] if memory runs out.
     pub fn of_map(alloc: Global, map: &'v HashMap<String, AttributeValue>) -> Result<Tape<'v>>
-        ensures { IfOk result (λ t. IsLaid (av.M (members_view map.now.entries)) (ahead t) × ((place t).told ≡ false)) }
+        ensures { IfOk result
+            (λ t. IsLaid (av.M (members_view map.now.entries)) (ahead t)
+            × ((place t).told ≡ false)) }
     {
         let mut tokens = Vec::new(alloc);
         lay_map(alloc, map, LEVELS, &mut tokens)?;
@@ -214,7 +228,8 @@ impl<'v> Tape<'v> {
     // The token that comes.
     #[inline(always)]
     pub(crate) fn look(&self) -> Option<Token<'v>>
-        ensures { MatchOption result (ahead self.now ≡ []) (λ t. (rest : List Laid) × (ahead self.now ≡ token_of t ∷ rest)) }
+        ensures { MatchOption result (ahead self.now ≡ [])
+            (λ t. (rest : List Laid) × (ahead self.now ≡ token_of t ∷ rest)) }
     {
         match self.tokens.get(self.at) {
             Some(token) => Some(*token),
@@ -261,7 +276,8 @@ impl<'v> Tape<'v> {
     // Passes over the token that comes.
     #[inline(always)]
     pub(crate) fn pass(&mut self)
-        ensures takes { (t : Laid) (rest : List Laid) → ahead self.old ≡ t ∷ rest → Takes (place self.old) t (place self.new) }
+        ensures takes { (t : Laid) (rest : List Laid) → ahead self.old ≡ t ∷ rest
+            → Takes (place self.old) t (place self.new) }
         ensures tokens { self.new.tokens ≡ self.old.tokens }
     {
         if self.at < self.tokens.len() {

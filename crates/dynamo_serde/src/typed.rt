@@ -39,7 +39,8 @@ use std::collections::HashMap;
 /// assert!(rt; dynamo_serde::to_attribute_value(alloc, &f64::NAN).is_err());
 /// ```
 pub fn to_attribute_value<T: Serialize>(alloc: Global, value: &T) -> Result<AttributeValue>
-    ensures { IfOk result (λ v. (log : Log) × T.writes value.now (Some []) log × IsValueOf log (view v)) }
+    ensures { IfOk result
+        (λ v. (log : Log) × T.writes value.now (Some []) log × IsValueOf log (view v)) }
 {
     let mut out = Writer::new(alloc);
     value.serialize(&mut out)?;
@@ -55,7 +56,9 @@ pub fn to_attribute_value<T: Serialize>(alloc: Global, value: &T) -> Result<Attr
 ///
 /// Returns [`ErrorImpl::OutOfMemory`] if memory runs out.
 pub fn to_item<T: Serialize>(alloc: Global, value: &T) -> Result<Item>
-    ensures { IfOk result (λ item. (log : Log) × T.writes value.now (Some []) log × IsValueOf log (av.M (item_view item))) }
+    ensures { IfOk result
+        (λ item. (log : Log) × T.writes value.now (Some []) log
+        × IsValueOf log (av.M (item_view item))) }
 {
     match to_attribute_value(alloc, value)? {
         AttributeValue::M(map) => Ok(Item::from(map)),

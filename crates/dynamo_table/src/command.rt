@@ -44,7 +44,8 @@ pub enum Asked<'a> {
 }
 
 impl<'a> Command<'a> {
-    /// The command of a name and the words behind it, but for the file's name; none where they are no command.
+    /// The command of a name and the words behind it, but for the file's name; none where they are
+    /// no command.
     pub fn of(name: &str, words: &'a [&'a str]) -> Option<Command<'a>> {
         match (name, words) {
             ("list", []) => Some(Command::List),

@@ -24,7 +24,8 @@ pub enum Document<'a> {
 ///
 /// # Errors
 ///
-/// `Input` with `NoItem` if the value is none of these; a `Message` if it has requests, and none for the table.
+/// `Input` with `NoItem` if the value is none of these; a `Message` if it has requests, and none
+/// for the table.
 pub fn document_of<'a>(
     alloc: Global,
     json: &'a Value,

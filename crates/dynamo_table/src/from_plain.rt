@@ -7,8 +7,8 @@ use std::collections::HashMap;
 
 /// The item of a text of plain JSON, which is an object of its attributes.
 ///
-/// A number is an `N` with the same digits, a string an `S`, `null` a `NULL`, an array an `L` and an object an `M`. Of a name that
-/// comes twice the last value stays.
+/// A number is an `N` with the same digits, a string an `S`, `null` a `NULL`, an array an `L` and
+/// an object an `M`. Of a name that comes twice the last value stays.
 ///
 /// # Errors
 ///

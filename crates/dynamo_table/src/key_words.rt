@@ -13,15 +13,16 @@ use table_store::StoreError;
 ///
 /// # Errors
 ///
-/// A `Message` that names the attribute, its kind and the word that says no value of it; `Table` if there is a word for a sort key
-/// and the table has none, or no memory.
+/// A `Message` that names the attribute, its kind and the word that says no value of it; `Table` if
+/// there is a word for a sort key and the table has none, or no memory.
 pub fn key_of_words(
     alloc: Global,
     schema: &KeySchema,
     partition: &str,
     sort: Option<&str>,
 ) -> Answer<Key>
-    ensures { IfOk result (λ key. SaysKey schema.now partition.now (option_map (λ w. w.now) sort.entry) (Ok key)) }
+    ensures { IfOk result
+        (λ key. SaysKey schema.now partition.now (option_map (λ w. w.now) sort.entry) (Ok key)) }
 {
     match schema.key_from(alloc, partition, sort) {
         Ok(key) => Ok(key),

@@ -59,8 +59,9 @@ impl<'r, 'a, 'i, S: Alter + Drop> Loading<'r, 'a, 'i, S> {
         }
     }
 
-    /// Puts and deletes what an input holds: line by line if its first line is a JSON value, and else the JSON values of the whole
-    /// text. The load prints a fault, and ends with all before it in the table or goes on behind it.
+    /// Puts and deletes what an input holds: line by line if its first line is a JSON value, and
+    /// else the JSON values of the whole text. The load prints a fault, and ends with all before it
+    /// in the table or goes on behind it.
     ///
     /// # Errors
     ///
@@ -92,8 +93,8 @@ impl<'r, 'a, 'i, S: Alter + Drop> Loading<'r, 'a, 'i, S> {
         Lines::with_limit(self.alloc(), reader, limit)
     }
 
-    // The first line that isn't blank, without a byte order mark; none at the end, and none if the line is
-    // too long, which is a fault.
+    // The first line that isn't blank, without a byte order mark; none at the end, and none if the
+    // line is too long, which is a fault.
     fn first_line<R: BufRead>(&mut self, lines: &mut Lines<R>) -> Answer<Option<Vec<u8>>> {
         for _ in 0..u64::MAX {
             let Some(line) = lines.next_text() else {
@@ -127,7 +128,8 @@ impl<'r, 'a, 'i, S: Alter + Drop> Loading<'r, 'a, 'i, S> {
         }
     }
 
-    // The whole text of an input whose first line that isn't blank was read, with line feeds for the blank ones before.
+    // The whole text of an input whose first line that isn't blank was read, with line feeds for
+    // the blank ones before.
     fn whole_text<R: BufRead + Drop>(&self, first: &[u8], lines: Lines<R>) -> Answer<Vec<u8>> {
         let mut text = Vec::new(self.alloc());
         for _ in 1..lines.number() {
@@ -156,8 +158,8 @@ impl<'r, 'a, 'i, S: Alter + Drop> Loading<'r, 'a, 'i, S> {
         Ok(())
     }
 
-    // Takes the JSON values of a whole text. Where it begins with none, its lines are taken one by one, as those of a file whose first
-    // line is broken.
+    // Takes the JSON values of a whole text. Where it begins with none, its lines are taken one by
+    // one, as those of a file whose first line is broken.
     fn take_whole(&mut self, text: &[u8]) -> Answer<()> {
         let mut rest = text;
         let mut start = Start::of_line(1);

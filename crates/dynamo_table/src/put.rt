@@ -12,7 +12,8 @@ use table_store::TableStore;
 
 /// The item of a text for a table: DynamoDB JSON of it, alone or under `Item` of an object.
 ///
-/// An object with a member `Item` that has the table's key as it is is an item with an attribute of that name.
+/// An object with a member `Item` that has the table's key as it is is an item with an attribute of
+/// that name.
 ///
 /// # Errors
 ///

@@ -50,7 +50,8 @@ pub fn open_for(
     open(rt, path, command.makes_file())
 }
 
-/// Runs a command on the tables of a database, and gives the connection back, unless the database failed.
+/// Runs a command on the tables of a database, and gives the connection back, unless the database
+/// failed.
 pub fn run_command<S: Alter + Drop>(
     teller: Teller<'_>,
     conn: Connection<S>,
@@ -77,7 +78,8 @@ fn print_list<S: Alter>(rt: &HostRuntime, conn: &mut Connection<S>) -> Answer {
     print_text(rt, lines.as_bytes())
 }
 
-// Runs what is asked of one table. Its name is looked for first, since a table that doesn't open keeps the connection.
+// Runs what is asked of one table. Its name is looked for first, since a table that doesn't open
+// keeps the connection.
 fn run_on_table<S: Alter + Drop>(
     teller: Teller<'_>,
     conn: Connection<S>,

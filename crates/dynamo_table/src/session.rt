@@ -12,7 +12,8 @@ use std::io::BufReader;
 // The file of a session, from the first command on that opens it.
 type Opened = Option<Connection<FileStore<File>>>;
 
-/// Runs the commands of the input's lines on the tables of a file. It goes on after a command that is refused.
+/// Runs the commands of the input's lines on the tables of a file. It goes on after a command that
+/// is refused.
 ///
 /// # Errors
 ///

@@ -14,7 +14,8 @@ const DROP_ITEMS: &str = "DELETE FROM dynamo_item WHERE table_id = ?1";
 
 const DROP_TABLE: &str = "DELETE FROM dynamo_table WHERE id = ?1";
 
-/// The lines of the tables: the name, the words of the keys and how many items there are, with tabs between.
+/// The lines of the tables: the name, the words of the keys and how many items there are, with tabs
+/// between.
 ///
 /// # Errors
 ///
@@ -45,8 +46,8 @@ pub fn find<S: Alter>(alloc: Global, conn: &mut Connection<S>, name: &str) -> An
     }
 }
 
-/// Makes a table with the keys of these words, and gives the connection back, unless the database failed. A table that is there with
-/// the same keys is left as it is.
+/// Makes a table with the keys of these words, and gives the connection back, unless the database
+/// failed. A table that is there with the same keys is left as it is.
 pub fn create<S: Alter + Drop>(
     alloc: Global,
     conn: Connection<S>,

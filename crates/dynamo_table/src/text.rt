@@ -26,8 +26,8 @@ pub fn unmarked(text: &[u8]) -> &[u8] {
     text.strip_prefix(MARK).unwrap_or(text)
 }
 
-/// The part of a text that its first JSON value is in, and what is behind it. A text that begins with no JSON value is split
-/// somewhere.
+/// The part of a text that its first JSON value is in, and what is behind it. A text that begins
+/// with no JSON value is split somewhere.
 pub fn first_value(text: &[u8]) -> (&[u8], &[u8]) {
     let mut scan = Scan {
         depth: 0,
@@ -55,7 +55,8 @@ struct Scan {
 }
 
 impl Scan {
-    // Whether a value ends at the next byte: the end of an object or an array, or of the line of a value that is neither.
+    // Whether a value ends at the next byte: the end of an object or an array, or of the line of a
+    // value that is neither.
     fn ends_at(&mut self, byte: u8) -> bool {
         if self.in_string {
             self.in_string = self.is_escaped || byte != b'"';

@@ -6,8 +6,8 @@ use std::collections::HashMap;
 
 /// Appends the plain JSON of an item to a text, which it takes and gives back.
 ///
-/// An `N` is a number with the same digits, or a string where its text is no number of JSON. A set is an array, a byte string its
-/// base64 text, and a `NULL` is `null`.
+/// An `N` is a number with the same digits, or a string where its text is no number of JSON. A set
+/// is an array, a byte string its base64 text, and a `NULL` is `null`.
 ///
 /// # Errors
 ///

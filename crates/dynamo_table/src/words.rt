@@ -4,8 +4,8 @@ use crate::refusal::{Answer, Refusal};
 use std::alloc::Global;
 use std::{mem, str};
 
-/// How many bytes a line of an input may have where `--max-line` isn't given: 4 MiB. An item has at most
-/// 400 KB in DynamoDB, which is 2.4 MB where every byte is escaped.
+/// How many bytes a line of an input may have where `--max-line` isn't given: 4 MiB. An item has at
+/// most 400 KB in DynamoDB, which is 2.4 MB where every byte is escaped.
 pub const MAX_LINE: usize = 4 << 20;
 
 /// The flags behind a command's other words.
@@ -81,7 +81,8 @@ fn takes(command: &str, flag: &str) -> bool {
     }
 }
 
-/// Returns the words before the flags at their end, and the flags. Each flag that the command takes may be given once.
+/// Returns the words before the flags at their end, and the flags. Each flag that the command takes
+/// may be given once.
 pub fn split_flags<'a>(words: &'a [&'a str], command: &str) -> (&'a [&'a str], Flags) {
     let mut flags = Flags::NONE;
     let mut length = words.len();
@@ -104,11 +105,13 @@ pub fn split_flags<'a>(words: &'a [&'a str], command: &str) -> (&'a [&'a str], F
     }
 }
 
-/// The words of a line, which blanks separate. A word that begins with a quote goes up to the next quote, and may hold blanks.
+/// The words of a line, which blanks separate. A word that begins with a quote goes up to the next
+/// quote, and may hold blanks.
 ///
 /// # Errors
 ///
-/// A `Message` if the line is no text by UTF-8, if a quote isn't closed, or if no blank follows a closing quote.
+/// A `Message` if the line is no text by UTF-8, if a quote isn't closed, or if no blank follows a
+/// closing quote.
 pub fn words_in(alloc: Global, line: &[u8]) -> Answer<Vec<&str>> {
     let Ok(line) = str::from_utf8(line) else {
         return Err(told(alloc, "it is no text by UTF-8"));

@@ -6,7 +6,8 @@ use std::process::ExitCode;
 use std::{env, io};
 use tool_commands::run::{lack_memory, run};
 
-// The words after the program's name; none where one of them is no text. It fails only if memory runs out.
+// The words after the program's name; none where one of them is no text. It fails only if memory
+// runs out.
 fn words(rt: &HostRuntime) -> Result<Vec<String>, AllocError> {
     let mut words = Vec::new(rt.alloc());
     let args = match env::args(rt) {

@@ -259,7 +259,8 @@ fn copy_list(list: &Vec<AttributeValue>) -> Result<Vec<AttributeValue>, AllocErr
 #[cycle(copy)]
 #[inline(never)]
 fn push_copy(value: &AttributeValue, copies: &mut Vec<AttributeValue>) -> Result<(), AllocError>
-    ensures { IfOk result (λ _. map view copies.new.items ≡ map view copies.old.items ++ view value.now ∷ []) }
+    ensures { IfOk result
+        (λ _. map view copies.new.items ≡ map view copies.old.items ++ view value.now ∷ []) }
 {
     match value {
         AttributeValue::L(list) => push_list(copies, copy_list(list)?),
@@ -270,7 +271,9 @@ fn push_copy(value: &AttributeValue, copies: &mut Vec<AttributeValue>) -> Result
 // Pushes a list.
 #[inline(never)]
 fn push_list(copies: &mut Vec<AttributeValue>, list: Vec<AttributeValue>) -> Result<(), AllocError>
-    ensures { IfOk result (λ _. map view copies.new.items ≡ map view copies.old.items ++ av.L (elements_view list.items) ∷ []) }
+    ensures { IfOk result
+        (λ _. map view copies.new.items
+        ≡ map view copies.old.items ++ av.L (elements_view list.items) ∷ []) }
 {
     copies.push(AttributeValue::L(list))?;
     Ok(())
@@ -280,7 +283,8 @@ fn push_list(copies: &mut Vec<AttributeValue>, list: Vec<AttributeValue>) -> Res
 #[cycle(copy)]
 #[inline(never)]
 fn push_other(value: &AttributeValue, copies: &mut Vec<AttributeValue>) -> Result<(), AllocError>
-    ensures { IfOk result (λ _. map view copies.new.items ≡ map view copies.old.items ++ view value.now ∷ []) }
+    ensures { IfOk result
+        (λ _. map view copies.new.items ≡ map view copies.old.items ++ view value.now ∷ []) }
 {
     copies.push(copy(value)?)?;
     Ok(())
@@ -303,8 +307,8 @@ pub(crate) fn copy_map(
     Ok(copies)
 }
 
-// Frees the spare capacity of a map. It isn't inlined, so that `fitted` is small where a value is no
-// map.
+// Frees the spare capacity of a map. It isn't inlined, so that `fitted` is small where a value is
+// no map.
 #[inline(never)]
 fn fit(map: &mut HashMap<String, AttributeValue>)
     ensures { members_view map.new.entries ≡ members_view map.old.entries }

@@ -79,7 +79,8 @@ impl Integer {
     ///
     /// Returns an [`AllocError`] if memory runs out.
     pub fn decimal(self, alloc: Global) -> Result<String, AllocError>
-        ensures { MatchResult result (λ text. string_bytes text ≡ signed_decimal (number_of self)) (λ e. Unit {0}) }
+        ensures { MatchResult result (λ text. string_bytes text ≡ signed_decimal (number_of self))
+            (λ e. Unit {0}) }
     {
         match self {
             Integer::I8(v) => v.to_string(alloc),

@@ -70,7 +70,8 @@ pub fn wrong_content(alloc: Global, prefix: Prefix) -> Error
 
 // The error of a message, or out of memory if the message could not be made.
 pub(crate) fn of_text(made: Result<String, AllocError>) -> Error
-    ensures { MatchResult made (λ text. fault_of result ≡ fault.message (string_bytes text)) (λ _. fault_of result ≡ fault.out_of_memory) }
+    ensures { MatchResult made (λ text. fault_of result ≡ fault.message (string_bytes text))
+        (λ _. fault_of result ≡ fault.out_of_memory) }
 {
     match made {
         Ok(text) => Error::from(ErrorImpl::Message(text)),

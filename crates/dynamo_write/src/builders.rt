@@ -32,7 +32,9 @@ pub type SerializerStructVariant<'a> = StructVariantOf<'a, Serializer>;
 // lies.
 #[inline(never)]
 fn put(map: &mut HashMap<String, AttributeValue>, key: String, value: AttributeValue) -> Result<()>
-    ensures ok { OnOk result (entries_view map.new.entries ≡ entries.put text_cmp (string_bytes key) (view value) (entries_view map.old.entries)) }
+    ensures ok { OnOk result
+        (entries_view map.new.entries
+        ≡ entries.put text_cmp (string_bytes key) (view value) (entries_view map.old.entries)) }
     ensures err { MatchResult result (λ _. Unit {0}) (λ e. fault_of e ≡ out_of_memory) }
 {
     match map.insert(key, value) {

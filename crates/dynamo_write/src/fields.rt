@@ -8,7 +8,8 @@ use std::alloc::AllocError;
 // For how many fields the first makes room at most, whatever number is expected.
 const MOST: usize = 64;
 
-/// Pushes a field of a struct. The first makes room for as many as are expected, and for 64 at most.
+/// Pushes a field of a struct. The first makes room for as many as are expected, and for 64 at
+/// most.
 #[inline(always)]
 pub(crate) fn push<V: Drop>(
     fields: &mut Vec<(&'static str, V)>,
@@ -16,7 +17,8 @@ pub(crate) fn push<V: Drop>(
     field: (&'static str, V),
 ) -> Result<()>
     ensures ok { OnOk result (fields.new.items ≡ fields.old.items ++ field.entry ∷ []) }
-    ensures err { MatchResult result (λ _. Unit {0}) (λ e. (fault_of e ≡ out_of_memory) × (fields.new.items ≡ fields.old.items)) }
+    ensures err { MatchResult result (λ _. Unit {0})
+        (λ e. (fault_of e ≡ out_of_memory) × (fields.new.items ≡ fields.old.items)) }
 {
     if fields.capacity() == 0 {
         make_room(fields, expected)?;

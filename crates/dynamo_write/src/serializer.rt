@@ -55,7 +55,8 @@ impl Serializer {
 
     // A string.
     fn string(self, text: &str) -> Result<AttributeValue>
-        ensures { MatchResult result (λ a. view a ≡ av.S text.now) (λ e. fault_of e ≡ out_of_memory) }
+        ensures { MatchResult result (λ a. view a ≡ av.S text.now)
+            (λ e. fault_of e ≡ out_of_memory) }
     {
         Ok(AttributeValue::S(String::from_str(self.alloc, text)?))
     }

@@ -1,11 +1,13 @@
-ghost use Rattle.std.specs.Prelude.{◌≡◌, ◌⊎◌, ℕ, List, [], None, Ok, Err, MatchResult, OnOk, option_map, string_bytes};
+ghost use Rattle.std.specs.Prelude.{◌≡◌, ◌⊎◌, ℕ, List, [], None, Ok, Err, MatchResult, OnOk};
+ghost use Rattle.std.specs.Prelude.{option_map, string_bytes};
 ghost use Rattle.std.specs.FinMap.Entries.{put};
 ghost use Rattle.dynamo_value.specs.Fault.{out_of_memory};
 ghost use Rattle.dynamo_value.specs.Kind.{fault_of};
 ghost use Rattle.dynamo_value.specs.View.{text_cmp};
 ghost use Rattle.dynamo_ser.specs.Datum.{Datum};
 ghost use Rattle.dynamo_write.specs.Held.{held_entries, fields_of};
-ghost use Rattle.dynamo_write.specs.Target.{AboutTarget, GivesList, GivesMap, GivesStruct, GivesWholeList, map_of, one_member, parts_before};
+ghost use Rattle.dynamo_write.specs.Target.{AboutTarget, GivesList, GivesMap, GivesStruct};
+ghost use Rattle.dynamo_write.specs.Target.{GivesWholeList, map_of, one_member, parts_before};
 
 use crate::fields;
 use dynamo_ser::{
@@ -61,7 +63,8 @@ pub trait Target: Outcomes<Error = Error> {
     ///
     /// Returns [`ErrorImpl::OutOfMemory`](dynamo_value::ErrorImpl::OutOfMemory) if memory runs out.
     fn room_for(alloc: Global, _count: usize) -> Result<Self::Map>
-        ensures ok { MatchResult result (λ map. members map ≡ []) (λ e. fault_of e ≡ out_of_memory) }
+        ensures ok { MatchResult result (λ map. members map ≡ [])
+            (λ e. fault_of e ≡ out_of_memory) }
     {
         Ok(Self::no_members(alloc))
     }
@@ -72,7 +75,9 @@ pub trait Target: Outcomes<Error = Error> {
     ///
     /// Returns [`ErrorImpl::OutOfMemory`](dynamo_value::ErrorImpl::OutOfMemory) if memory runs out.
     fn insert(map: &mut Self::Map, key: String, value: Self::Ok) -> Result<()>
-        ensures ok { OnOk result (members map.new ≡ put text_cmp (string_bytes key) (about.seen value) (members map.old)) }
+        ensures ok { OnOk result
+            (members map.new
+            ≡ put text_cmp (string_bytes key) (about.seen value) (members map.old)) }
         ensures err { MatchResult result (λ _. Unit {0}) (λ e. fault_of e ≡ out_of_memory) };
 
     /// Returns the value that is this map.
@@ -85,7 +90,10 @@ pub trait Target: Outcomes<Error = Error> {
     ///
     /// Returns [`ErrorImpl::OutOfMemory`](dynamo_value::ErrorImpl::OutOfMemory) if memory runs out.
     final fn map_of_entries(alloc: Global, entries: Vec<(String, Self::Ok)>) -> Result<Self::Ok>
-        ensures { MatchResult result (λ v. Self.about.seen v ≡ map_of Self.about (held_entries Self.about.seen entries.items)) (λ e. fault_of e ≡ out_of_memory) }
+        ensures { MatchResult result
+            (λ v. Self.about.seen v
+            ≡ map_of Self.about (held_entries Self.about.seen entries.items))
+            (λ e. fault_of e ≡ out_of_memory) }
     {
         let mut map = Self::no_members(alloc);
         for (key, value) in entries {
@@ -101,7 +109,10 @@ pub trait Target: Outcomes<Error = Error> {
     ///
     /// Returns [`ErrorImpl::OutOfMemory`](dynamo_value::ErrorImpl::OutOfMemory) if memory runs out.
     final fn map_of_fields(alloc: Global, fields: Vec<(&'static str, Self::Ok)>) -> Result<Self::Ok>
-        ensures { MatchResult result (λ v. Self.about.seen v ≡ map_of Self.about (fields_of Self.about.seen fields.entry.items)) (λ e. fault_of e ≡ out_of_memory) }
+        ensures { MatchResult result
+            (λ v. Self.about.seen v
+            ≡ map_of Self.about (fields_of Self.about.seen fields.entry.items))
+            (λ e. fault_of e ≡ out_of_memory) }
     {
         let mut map = Self::room_for(alloc, fields.len())?;
         for (name, value) in fields {
@@ -117,7 +128,9 @@ pub trait Target: Outcomes<Error = Error> {
     ///
     /// Returns [`ErrorImpl::OutOfMemory`](dynamo_value::ErrorImpl::OutOfMemory) if memory runs out.
     final fn one_member(alloc: Global, name: &str, value: Self::Ok) -> Result<Self::Ok>
-        ensures { MatchResult result (λ v. Self.about.seen v ≡ one_member Self.about name.now (Self.about.seen value)) (λ e. fault_of e ≡ out_of_memory) }
+        ensures { MatchResult result
+            (λ v. Self.about.seen v ≡ one_member Self.about name.now (Self.about.seen value))
+            (λ e. fault_of e ≡ out_of_memory) }
     {
         let mut map = Self::no_members(alloc);
         let key = String::from_str(alloc, name)?;
@@ -126,9 +139,11 @@ pub trait Target: Outcomes<Error = Error> {
     }
 
     // The result for a datum is what it is written as, or out of memory.
-    ghost answers: { (s : Self) (d : Datum) (v : Self.Ok) → Self.outcome s d (Ok v) → about.written d ≡ Ok (about.seen v) };
+    ghost answers: { (s : Self) (d : Datum) (v : Self.Ok) → Self.outcome s d (Ok v)
+        → about.written d ≡ Ok (about.seen v) };
 
-    ghost refuses: { (s : Self) (d : Datum) (e : Error) → Self.outcome s d (Err e) → (about.written d ≡ Err (fault_of e)) ⊎ (fault_of e ≡ out_of_memory) };
+    ghost refuses: { (s : Self) (d : Datum) (e : Error) → Self.outcome s d (Err e)
+        → (about.written d ≡ Err (fault_of e)) ⊎ (fault_of e ≡ out_of_memory) };
 }
 
 /// The builder of a list, for sequences, tuples and tuple structs.
@@ -276,7 +291,8 @@ impl<T: Target> StructBuilder<T> for StructOf<T> {
 
     type Error = Error;
 
-    ghost gives = { λ b fs r. GivesStruct T.about (fields_of T.about.seen b.fields.items) (λ a. a) fs r };
+    ghost gives = { λ b fs r. GivesStruct T.about (fields_of T.about.seen b.fields.items) (λ a. a)
+        fs r };
 
     ghost writer = { λ b. T.over b.alloc };
 
@@ -325,7 +341,8 @@ impl<T: Target> ListBuilder<T> for TupleVariantOf<'_, T> {
 
     type Error = Error;
 
-    ghost gives = { λ b ds r. GivesList T.about b.values.items (λ parts. one_member T.about b.key.now (T.about.list parts)) ds r };
+    ghost gives = { λ b ds r. GivesList T.about b.values.items
+        (λ parts. one_member T.about b.key.now (T.about.list parts)) ds r };
 
     ghost writer = { λ b. T.over b.alloc };
 
@@ -376,7 +393,8 @@ impl<T: Target> StructBuilder<T> for StructVariantOf<'_, T> {
 
     type Error = Error;
 
-    ghost gives = { λ b fs r. GivesStruct T.about (fields_of T.about.seen b.fields.items) (one_member T.about b.key.now) fs r };
+    ghost gives = { λ b fs r. GivesStruct T.about (fields_of T.about.seen b.fields.items)
+        (one_member T.about b.key.now) fs r };
 
     ghost writer = { λ b. T.over b.alloc };
 

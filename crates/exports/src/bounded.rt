@@ -22,9 +22,9 @@ enum Next {
     TooMuch,
 }
 
-/// Returns the bytes of the next line with its line feed, if it has at most `limit` bytes before that; no
-/// bytes at the end. A longer line is skipped, and `None` is returned. At most `limit` bytes and a line
-/// feed are held.
+/// Returns the bytes of the next line with its line feed, if it has at most `limit` bytes before
+/// that; no bytes at the end. A longer line is skipped, and `None` is returned. At most `limit`
+/// bytes and a line feed are held.
 pub(crate) fn read_within<R: BufRead>(
     alloc: Global,
     reader: &mut R,
@@ -50,9 +50,11 @@ pub(crate) fn read_within<R: BufRead>(
 // Takes what the reader's buffer has of a line, unless that is its end.
 fn take_part<R: BufRead>(reader: &mut R, limit: usize, text: &mut Vec<u8>) -> io::Result<Next>
     ensures part { result ≡ Ok Next.Part
-        → TakesPart (R.remaining reader.old) (R.remaining reader.new) text.old.items text.new.items }
+        → TakesPart (R.remaining reader.old) (R.remaining reader.new) text.old.items
+        text.new.items }
     ensures end { result ≡ Ok Next.End
-        → (text.new.items ≡ text.old.items) × Keeps (R.remaining reader.old) (R.remaining reader.new) }
+        → (text.new.items ≡ text.old.items)
+        × Keeps (R.remaining reader.old) (R.remaining reader.new) }
     ensures too_much { result ≡ Ok Next.TooMuch
         → TakesTooMuch limit (R.remaining reader.old) (R.remaining reader.new) text.old.items }
 {
@@ -77,7 +79,8 @@ fn take_part<R: BufRead>(reader: &mut R, limit: usize, text: &mut Vec<u8>) -> io
 
 // Reads the rest of a line whose beginning is `text`, which has no line feed.
 fn read_rest<R: BufRead>(reader: &mut R, limit: usize, text: Vec<u8>) -> io::Result<Option<Vec<u8>>>
-    ensures { IfOk result (ReadsRest limit text.items (R.remaining reader.old) (R.remaining reader.new)) }
+    ensures { IfOk result
+        (ReadsRest limit text.items (R.remaining reader.old) (R.remaining reader.new)) }
 {
     let mut text = text;
     reader.read_until(b'\n', &mut text)?;

@@ -11,17 +11,17 @@ use std::alloc::Global;
 
 /// Returns the put or the delete of a line of an export, given the line's JSON value.
 ///
-/// A line of a full export has an `Item`, which is put. A line of an incremental export has `Keys`. If
-/// it has a `NewImage`, that is put; otherwise the item under the keys is deleted. Other members, such as
-/// `Metadata` and `OldImage`, are ignored. The DynamoDB Developer Guide describes both in "DynamoDB table
-/// export output format".
+/// A line of a full export has an `Item`, which is put. A line of an incremental export has `Keys`.
+/// If it has a `NewImage`, that is put; otherwise the item under the keys is deleted. Other
+/// members, such as `Metadata` and `OldImage`, are ignored. The DynamoDB Developer Guide describes
+/// both in "DynamoDB table export output format".
 ///
 /// # Errors
 ///
 /// Returns [`Fault::NoItem`] if the JSON value isn't an object, or has neither `Item` nor `Keys`.
 ///
-/// Returns [`Fault::Form`] if the item or the keys aren't DynamoDB JSON of an item, or if memory runs
-/// out.
+/// Returns [`Fault::Form`] if the item or the keys aren't DynamoDB JSON of an item, or if memory
+/// runs out.
 ///
 /// # Examples
 ///

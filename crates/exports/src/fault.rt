@@ -15,8 +15,8 @@ pub struct Position {
     /// The line of the text. The first line is 1.
     pub line: usize,
 
-    /// The column in bytes, as serde_json reports it: 1 is the first byte of the line. It is the last byte of
-    /// a text that ends too early.
+    /// The column in bytes, as serde_json reports it: 1 is the first byte of the line. It is the
+    /// last byte of a text that ends too early.
     pub column: usize,
 }
 

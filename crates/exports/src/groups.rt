@@ -9,11 +9,12 @@ use std::collections::BTreeMap;
 use std::fmt;
 use std::string::ToString;
 
-/// How many lines have the same error at the same place, where the indexes of elements don't matter.
+/// How many lines have the same error at the same place, where the indexes of elements don't
+/// matter.
 ///
-/// It is printed as a line for each group, in the order of the places:
-/// `1204 lines at orders[].price: Expected num`. It has up to a given number of groups, so that a file
-/// of any length takes bounded memory if its lines are bounded. Lines of further groups are counted
+/// It is printed as a line for each group, in the order of the places: `1204 lines at
+/// orders[].price: Expected num`. It has up to a given number of groups, so that a file of any
+/// length takes bounded memory if its lines are bounded. Lines of further groups are counted
 /// together.
 ///
 /// # Examples
@@ -55,16 +56,17 @@ impl Groups {
         }
     }
 
-    /// Counts a line. The group of a line is the finding's place, without the indexes of elements, and
-    /// the text of its error. A string that can't be parsed as a number is left out of the text; other
-    /// texts may hold a name from the file, as of an unknown variant.
+    /// Counts a line. The group of a line is the finding's place, without the indexes of elements,
+    /// and the text of its error. A string that can't be parsed as a number is left out of the
+    /// text; other texts may hold a name from the file, as of an unknown variant.
     ///
     /// # Errors
     ///
     /// Returns [`AllocError`] if memory runs out. The counts are unchanged then.
     pub fn add(&mut self, finding: &Finding) -> Result<(), AllocError>
         ensures counts { OnOk result (Counts self.old self.new) }
-        ensures unchanged { OnErr result ((counts_of self.new).entries ≡ (counts_of self.old).entries) }
+        ensures unchanged { OnErr result
+            ((counts_of self.new).entries ≡ (counts_of self.old).entries) }
         ensures others { OnErr result (others_of self.new ≡ others_of self.old) }
         ensures limit { limit_of self.new ≡ limit_of self.old }
     {

@@ -13,16 +13,18 @@ use serde_json::Value;
 use std::alloc::{AllocError, Global};
 use std::str;
 
-// So long a text is read in the room that is kept from line to line, which doubles as it grows: it has up to twice as much.
+// So long a text is read in the room that is kept from line to line, which doubles as it grows: it
+// has up to twice as much.
 const KEPT: usize = 32_768;
 
-/// Reads the item under `Item` of a line's JSON object. A line of up to 32 KB is read in the buffers of
-/// `scratch`, a longer one in its own, which are freed before a JSON value is made of the line.
+/// Reads the item under `Item` of a line's JSON object. A line of up to 32 KB is read in the
+/// buffers of `scratch`, a longer one in its own, which are freed before a JSON value is made of
+/// the line.
 ///
 /// # Errors
 ///
-/// Returns `NotJson`, `NoItem`, and `Form` if the value under `Item` isn't DynamoDB JSON of an item, or
-/// if memory runs out.
+/// Returns `NotJson`, `NoItem`, and `Form` if the value under `Item` isn't DynamoDB JSON of an
+/// item, or if memory runs out.
 pub(crate) fn item_of(alloc: Global, scratch: &mut Scratch, line: &[u8]) -> Result<Item, Fault>
     ensures { ReadsLine line.now result }
 {
@@ -33,13 +35,13 @@ pub(crate) fn item_of(alloc: Global, scratch: &mut Scratch, line: &[u8]) -> Resu
     item_in(alloc, &json)
 }
 
-/// Reads the item of a line of an export, given its bytes, as [`Lines::next_line`](crate::Lines::next_line)
-/// does of the next line.
+/// Reads the item of a line of an export, given its bytes, as
+/// [`Lines::next_line`](crate::Lines::next_line) does of the next line.
 ///
 /// # Errors
 ///
-/// Returns [`Fault::NotJson`] if the line isn't JSON, [`Fault::NoItem`] if it isn't an object with an
-/// `Item`, and [`Fault::Form`] if that isn't DynamoDB JSON of an item, or if memory runs out.
+/// Returns [`Fault::NotJson`] if the line isn't JSON, [`Fault::NoItem`] if it isn't an object with
+/// an `Item`, and [`Fault::Form`] if that isn't DynamoDB JSON of an item, or if memory runs out.
 ///
 /// # Examples
 ///
@@ -56,7 +58,8 @@ pub fn item_of_text(alloc: Global, line: &[u8]) -> Result<Item, Fault>
     item_of(alloc, &mut Scratch::new(alloc), line)
 }
 
-/// Reads the item of a line that has nothing else, as most lines of an export do. No JSON value is made.
+/// Reads the item of a line that has nothing else, as most lines of an export do. No JSON value is
+/// made.
 ///
 /// Returns `None` for any other line, whose JSON value says whether it has an item.
 ///
@@ -98,7 +101,8 @@ fn item_in_long_text(alloc: Global, text: &str) -> Result<Option<Item>, AllocErr
     item_in_text(alloc, &mut Scratch::new(alloc), text)
 }
 
-// Whether a line may have its item alone, by its end: most that have more behind the item aren't read twice.
+// Whether a line may have its item alone, by its end: most that have more behind the item aren't
+// read twice.
 fn ends_with_two_objects(line: &[u8]) -> bool {
     line.trim_ascii_end().ends_with(b"}}")
 }
@@ -120,8 +124,8 @@ pub fn json_of(alloc: Global, bytes: &[u8]) -> Result<Value, Fault>
     }
 }
 
-// Where bytes stop being JSON. They are read again without the blanks at their end, which would hide
-// that a string or a number ends too early.
+// Where bytes stop being JSON. They are read again without the blanks at their end, which would
+// hide that a string or a number ends too early.
 fn position_of(alloc: Global, bytes: &[u8], error: &serde_json::Error) -> Position {
     let text = bytes.trim_ascii_end();
     if ends_too_early(alloc, text) {

@@ -47,8 +47,8 @@ impl std::error::Error for LineFault {}
 
 /// Reads the lines of an export, one at a time.
 ///
-/// It holds one line at a time, and buffers from line to line: 16 KB in itself, and after a line of up to
-/// 32 KB at most 64 KB more. What a longer line takes is freed after it. With
+/// It holds one line at a time, and buffers from line to line: 16 KB in itself, and after a line of
+/// up to 32 KB at most 64 KB more. What a longer line takes is freed after it. With
 /// [`with_limit`](Self::with_limit) no line takes more than the limit.
 ///
 /// # Examples
@@ -86,7 +86,8 @@ impl<R: fmt::Debug> fmt::Debug for Lines<R> {
 
 impl<R: BufRead> Lines<R> {
     /// Returns the lines of a reader. A line may have any length: for input from strangers use
-    /// [`with_limit`](Self::with_limit). This call allocates nothing; lines are allocated in `alloc`.
+    /// [`with_limit`](Self::with_limit). This call allocates nothing; lines are allocated in
+    /// `alloc`.
     pub fn new(alloc: Global, reader: R) -> Self
         ensures number { number_of result ≡ 0 }
         ensures reader { reader_of result ≡ reader }
@@ -103,11 +104,12 @@ impl<R: BufRead> Lines<R> {
         }
     }
 
-    /// Returns the lines of a reader, each of at most this many bytes without its line feed. A longer line
-    /// gives the fault [`Fault::TooLong`] and is skipped: no more than `bytes` bytes of it are held.
+    /// Returns the lines of a reader, each of at most this many bytes without its line feed. A
+    /// longer line gives the fault [`Fault::TooLong`] and is skipped: no more than `bytes` bytes of
+    /// it are held.
     ///
-    /// An item has at most 400 KB in DynamoDB, which is 2.4 MB where each byte is escaped. So a limit of
-    /// 4 MiB is enough for every export.
+    /// An item has at most 400 KB in DynamoDB, which is 2.4 MB where each byte is escaped. So a
+    /// limit of 4 MiB is enough for every export.
     ///
     /// # Examples
     ///
@@ -144,14 +146,15 @@ impl<R: BufRead> Lines<R> {
         self.number
     }
 
-    /// Returns the item of the next line that isn't blank, or `None` at the end, and after 2^64 - 1 lines.
+    /// Returns the item of the next line that isn't blank, or `None` at the end, and after 2^64 - 1
+    /// lines.
     ///
     /// # Errors
     ///
-    /// Returns the errors of [`next_text`](Self::next_text), [`Fault::NotJson`] if the line isn't JSON,
-    /// [`Fault::NoItem`] if it isn't an object with an `Item`, and [`Fault::Form`] if that isn't DynamoDB
-    /// JSON of an item, or if memory runs out. After each of them but [`Fault::Read`] the next call goes
-    /// on behind the line.
+    /// Returns the errors of [`next_text`](Self::next_text), [`Fault::NotJson`] if the line isn't
+    /// JSON, [`Fault::NoItem`] if it isn't an object with an `Item`, and [`Fault::Form`] if that
+    /// isn't DynamoDB JSON of an item, or if memory runs out. After each of them but
+    /// [`Fault::Read`] the next call goes on behind the line.
     pub fn next_line(&mut self) -> Option<Result<Line, LineFault>>
         ensures gives { Gives R.remaining self.old self.new result }
         ensures limit { limit_of self.new ≡ limit_of self.old }
@@ -165,8 +168,9 @@ impl<R: BufRead> Lines<R> {
         })
     }
 
-    /// Returns the item of the next line that isn't blank as [`next_line`](Self::next_line) does, with the
-    /// bytes of the line, from which [`item_of_text`](crate::item_of_text) reads the item again.
+    /// Returns the item of the next line that isn't blank as [`next_line`](Self::next_line) does,
+    /// with the bytes of the line, from which [`item_of_text`](crate::item_of_text) reads the item
+    /// again.
     ///
     /// # Errors
     ///
@@ -191,15 +195,16 @@ impl<R: BufRead> Lines<R> {
         reader
     }
 
-    /// Returns the bytes of the next line that isn't blank, with its line feed, or `None` at the end, and
-    /// after 2^64 - 1 lines.
+    /// Returns the bytes of the next line that isn't blank, with its line feed, or `None` at the
+    /// end, and after 2^64 - 1 lines.
     ///
     /// # Errors
     ///
-    /// Returns [`Fault::TooLong`] if the line is longer than the limit. The next call goes on behind it.
+    /// Returns [`Fault::TooLong`] if the line is longer than the limit. The next call goes on
+    /// behind it.
     ///
-    /// Returns [`Fault::Read`] if the reader fails, or if memory for the line runs out. Every further call
-    /// returns `None` then.
+    /// Returns [`Fault::Read`] if the reader fails, or if memory for the line runs out. Every
+    /// further call returns `None` then.
     pub fn next_text(&mut self) -> Option<Result<Vec<u8>, Fault>>
         ensures text { GivesText R.remaining self.old self.new result }
         ensures limit { limit_of self.new ≡ limit_of self.old }
@@ -233,8 +238,8 @@ impl<R: BufRead> Lines<R> {
         None
     }
 
-    // Returns the bytes of the next line, blank or not, with its line feed; no bytes at the end; and `None`
-    // if the line is too long.
+    // Returns the bytes of the next line, blank or not, with its line feed; no bytes at the end;
+    // and `None` if the line is too long.
     fn read_text(&mut self) -> io::Result<Option<Vec<u8>>>
         ensures takes { IfOk result (λ found. (line : List ℕ)
             × TakesLine (R.remaining self.old.reader) (R.remaining self.new.reader) line

@@ -9,7 +9,8 @@ ghost use Rattle.dynamo_value.specs.Kind.{fault_of};
 ghost use Rattle.dynamo_value.specs.Refusal.{Refused, refusal_in};
 ghost use Rattle.exports.specs.Items.{IsJson, IsLackOfMemory, IsNotJson, IsRefusal};
 ghost use Rattle.exports.specs.Requests as spec;
-ghost use Rattle.exports.specs.Requests.{asked, asked_of_table, item_under, request_in, requests_in, tables_in};
+ghost use Rattle.exports.specs.Requests.{asked, asked_of_table, item_under, request_in};
+ghost use Rattle.exports.specs.Requests.{requests_in, tables_in};
 
 use crate::Fault;
 use crate::line::json_of;
@@ -40,8 +41,8 @@ pub struct TableRequests {
     pub requests: Vec<Request>,
 }
 
-/// Reads a request file of `aws dynamodb batch-write-item`: the requests to each table, in the order of
-/// the tables' names.
+/// Reads a request file of `aws dynamodb batch-write-item`: the requests to each table, in the
+/// order of the tables' names.
 ///
 /// # Errors
 ///
@@ -61,7 +62,9 @@ pub struct TableRequests {
 /// assert!(rt; tables[0].requests.len() == 1);
 /// ```
 pub fn requests_in_file(alloc: Global, bytes: &[u8]) -> Result<Vec<TableRequests>, Fault>
-    ensures ok { IfOk result (λ tables. (json : Data) × IsJson bytes.now json × (spec.requests_by_table json ≡ Ok (map asked_of_table tables.items))) }
+    ensures ok { IfOk result
+        (λ tables. (json : Data) × IsJson bytes.now json
+        × (spec.requests_by_table json ≡ Ok (map asked_of_table tables.items))) }
     ensures err { IfErr result (λ fault. IsNotJson bytes.now fault ⊎ IsLackOfMemory fault
         ⊎ ((json : Data) × IsJson bytes.now json × IsRefusal (spec.requests_by_table json) fault)) }
 {
@@ -75,7 +78,8 @@ pub fn requests_in_file(alloc: Global, bytes: &[u8]) -> Result<Vec<TableRequests
     }
 }
 
-/// Reads the JSON value of a request file: the requests to each table, in the order of the tables' names.
+/// Reads the JSON value of a request file: the requests to each table, in the order of the tables'
+/// names.
 ///
 /// # Errors
 ///
@@ -84,8 +88,10 @@ pub fn requests_in_file(alloc: Global, bytes: &[u8]) -> Result<Vec<TableRequests
 ///
 /// Returns [`ErrorImpl::OutOfMemory`](dynamo_value::ErrorImpl::OutOfMemory) if memory runs out.
 pub fn requests_by_table(alloc: Global, json: &Value) -> Result<Vec<TableRequests>>
-    ensures ok { IfOk result (λ tables. spec.requests_by_table (view json.now) ≡ Ok (map asked_of_table tables.items)) }
-    ensures err { IfErr result (λ e. Refused (refusal_in (spec.requests_by_table (view json.now))) (fault_of e)) }
+    ensures ok { IfOk result
+        (λ tables. spec.requests_by_table (view json.now) ≡ Ok (map asked_of_table tables.items)) }
+    ensures err { IfErr result
+        (λ e. Refused (refusal_in (spec.requests_by_table (view json.now))) (fault_of e)) }
 {
     match json {
         Value::Object(object) => tables(alloc, object),
@@ -97,8 +103,11 @@ pub fn requests_by_table(alloc: Global, json: &Value) -> Result<Vec<TableRequest
 }
 
 fn tables(alloc: Global, object: &Map<String, Value>) -> Result<Vec<TableRequests>>
-    ensures ok { IfOk result (λ tables. tables_in (members_view object.now.entries) ≡ Ok (map asked_of_table tables.items)) }
-    ensures err { IfErr result (λ e. Refused (refusal_in (tables_in (members_view object.now.entries))) (fault_of e)) }
+    ensures ok { IfOk result
+        (λ tables. tables_in (members_view object.now.entries)
+        ≡ Ok (map asked_of_table tables.items)) }
+    ensures err { IfErr result
+        (λ e. Refused (refusal_in (tables_in (members_view object.now.entries))) (fault_of e)) }
 {
     let mut tables = Vec::with_capacity(alloc, object.len())?;
     for (name, json) in object.iter() {
@@ -111,8 +120,10 @@ fn tables(alloc: Global, object: &Map<String, Value>) -> Result<Vec<TableRequest
 
 // The requests of a list, in order.
 fn table_requests(alloc: Global, json: &Value) -> Result<Vec<Request>>
-    ensures ok { IfOk result (λ requests. requests_in (view json.now) ≡ Ok (map asked requests.items)) }
-    ensures err { IfErr result (λ e. Refused (refusal_in (requests_in (view json.now))) (fault_of e)) }
+    ensures ok { IfOk result
+        (λ requests. requests_in (view json.now) ≡ Ok (map asked requests.items)) }
+    ensures err { IfErr result
+        (λ e. Refused (refusal_in (requests_in (view json.now))) (fault_of e)) }
 {
     match json {
         Value::Array(array) => each_request(alloc, array),
@@ -121,8 +132,11 @@ fn table_requests(alloc: Global, json: &Value) -> Result<Vec<Request>>
 }
 
 fn each_request(alloc: Global, array: &Vec<Value>) -> Result<Vec<Request>>
-    ensures ok { IfOk result (λ requests. each_in request_in (items_view array.now.items) ≡ Ok (map asked requests.items)) }
-    ensures err { IfErr result (λ e. Refused (refusal_in (each_in request_in (items_view array.now.items))) (fault_of e)) }
+    ensures ok { IfOk result
+        (λ requests. each_in request_in (items_view array.now.items)
+        ≡ Ok (map asked requests.items)) }
+    ensures err { IfErr result
+        (λ e. Refused (refusal_in (each_in request_in (items_view array.now.items))) (fault_of e)) }
 {
     let mut requests = Vec::with_capacity(alloc, array.len())?;
     for json in array {
@@ -141,7 +155,8 @@ fn each_request(alloc: Global, array: &Vec<Value>) -> Result<Vec<Request>>
 /// Returns [`ErrorImpl::OutOfMemory`](dynamo_value::ErrorImpl::OutOfMemory) if memory runs out.
 pub fn one_request(alloc: Global, json: &Value) -> Result<Request>
     ensures ok { IfOk result (λ r. request_in (view json.now) ≡ Ok (asked r)) }
-    ensures err { IfErr result (λ e. Refused (refusal_in (request_in (view json.now))) (fault_of e)) }
+    ensures err { IfErr result
+        (λ e. Refused (refusal_in (request_in (view json.now))) (fault_of e)) }
 {
     match (json.get("PutRequest"), json.get("DeleteRequest")) {
         (Some(put), None) => Ok(Request::Put(item_under(alloc, "Item", put)?)),
@@ -160,7 +175,8 @@ pub fn one_request(alloc: Global, json: &Value) -> Result<Request>
 /// Returns the error of [`one_request`], with its place in the request as `PutRequest.Item.price`.
 pub fn one_request_located(alloc: Global, json: &Value) -> Result<Request, LocatedError<Error>>
     ensures ok { IfOk result (λ r. request_in (view json.now) ≡ Ok (asked r)) }
-    ensures err { IfErr result (λ e. Refused (refusal_in (request_in (view json.now))) (fault_of e.error)) }
+    ensures err { IfErr result
+        (λ e. Refused (refusal_in (request_in (view json.now))) (fault_of e.error)) }
 {
     match one_request(alloc, json) {
         Ok(request) => Ok(request),
@@ -173,7 +189,8 @@ pub fn one_request_located(alloc: Global, json: &Value) -> Result<Request, Locat
 
 fn item_under(alloc: Global, name: &str, json: &Value) -> Result<Item>
     ensures ok { IfOk result (λ item. item_under name.now (view json.now) ≡ Ok (item_view item)) }
-    ensures err { IfErr result (λ e. Refused (refusal_in (item_under name.now (view json.now))) (fault_of e)) }
+    ensures err { IfErr result
+        (λ e. Refused (refusal_in (item_under name.now (view json.now))) (fault_of e)) }
 {
     match json.get(name) {
         Some(content) => Item::from_json(alloc, content),

@@ -107,9 +107,9 @@ impl Case {
         }
     }
 
-    /// Its pattern in the list of variants, as `Named(Field(a))`. Several fields are bound after it,
-    /// since no pattern moves several parts out of an enum: it is `Named(fields)`, and the second
-    /// the pattern of these, as `(Field(a), Field(b))`.
+    /// Its pattern in the list of variants, as `Named(Field(a))`. Several fields are bound after
+    /// it, since no pattern moves several parts out of an enum: it is `Named(fields)`, and the
+    /// second the pattern of these, as `(Field(a), Field(b))`.
     pub fn listed(&self, alloc: Global) -> Result<(String, Option<String>), AllocError> {
         let listed = self.listed_name();
         let leaves = tree_of(alloc, self.names.as_slice(), "Field(", ")")?;

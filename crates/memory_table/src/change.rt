@@ -1,7 +1,8 @@
 ghost use Rattle.std.specs.Prelude.{◌≡◌, None, [], IsTrue, ◌↔◌, length, option_map, OnOk};
 ghost use Rattle.std.specs.BTreeMap.{get, IsOrdered, Updates};
 ghost use Rattle.std.specs.Fn.{FnOnceReturnsAt};
-ghost use Rattle.memory_table.specs.Change.{DeletesIf, PutsIf, PutsItem, PutsItemIf, PutsUnder, UpdatesItem};
+ghost use Rattle.memory_table.specs.Change.{DeletesIf, PutsIf, PutsItem, PutsItemIf, PutsUnder};
+ghost use Rattle.memory_table.specs.Change.{UpdatesItem};
 ghost use Rattle.memory_table.specs.Content.{items_of, entries_of, schema_of};
 ghost use Rattle.table_keys.specs.Held.{IsHeldKey};
 ghost use Rattle.table_keys.specs.KeyOf.{ReadsKey};
@@ -256,7 +257,8 @@ impl Table {
         change: F,
     ) -> Result<(), E>
         requires { F.IsAlwaysCallable change }
-        ensures updates { UpdatesItem E.from_gives (FnOnceReturnsAt F.FnOnce change) key.now self.old self.new result }
+        ensures updates { UpdatesItem E.from_gives (FnOnceReturnsAt F.FnOnce change) key.now
+            self.old self.new result }
         ensures ordered { OnOk result (IsOrdered key_cmp (items_of self.new)) }
         ensures schema { schema_of self.new ≡ schema_of self.old }
     {

@@ -1,7 +1,8 @@
 //! Puts on the map of a table's items, each with one search.
 ghost use Rattle.std.specs.BTreeMap.{IsOrdered, get, insert_entry, keys};
 ghost use Rattle.std.specs.Bool.{OnTrue};
-ghost use Rattle.std.specs.Prelude.{◌≡◌, ◌↔◌, IfOk, IsTrue, MatchOption, None, OnErr, OnOk, if◌then◌else◌};
+ghost use Rattle.std.specs.Prelude.{◌≡◌, ◌↔◌, IfOk, IsTrue, MatchOption, None, OnErr, OnOk};
+ghost use Rattle.std.specs.Prelude.{if◌then◌else◌};
 ghost use Rattle.std.specs.Fn.{FnOnceReturnsAt};
 ghost use Rattle.memory_table.specs.Change.{ChangesItem};
 ghost use Rattle.memory_table.specs.Places.{IsPut, Stays, TakesPlace};
@@ -17,7 +18,8 @@ use table_keys::{Key, KeySchema, TableError};
 // Puts an item in the place of the one under the key, and returns that one. A key without an item
 // gets none.
 pub(crate) fn replace(items: &mut BTreeMap<Key, Item>, key: &Key, item: Item) -> Option<Item>
-    ensures { MatchOption result ((get key_cmp items.old key.now ≡ None) × Stays items.old items.new)
+    ensures { MatchOption result
+        ((get key_cmp items.old key.now ≡ None) × Stays items.old items.new)
         (λ before. TakesPlace key.now item before items.old items.new) }
 {
     match items.get_mut(key) {
@@ -32,7 +34,8 @@ pub(crate) fn add(items: &mut BTreeMap<Key, Item>, key: Key, item: Item) -> Resu
     ensures put { IfOk result (λ added. OnTrue added (IsPut key item items.old items.new)) }
     ensures entries { IfOk result (λ added. items.new.entries
         ≡ (if added then insert_entry key_cmp items.old.entries key item else items.old.entries)) }
-    ensures err { OnErr result ((get key_cmp items.old key ≡ None) × (items.new.entries ≡ items.old.entries)) }
+    ensures err { OnErr result
+        ((get key_cmp items.old key ≡ None) × (items.new.entries ≡ items.old.entries)) }
     ensures ordered { IsOrdered key_cmp items.new }
 {
     let Ok(entry) = items.entry(key) else {
@@ -55,7 +58,8 @@ pub(crate) fn change<E: From<TableError>, F: FnOnce(&Item) -> Result<Item, E>>(
     change: F,
 ) -> Result<(), E>
     requires { F.IsAlwaysCallable change }
-    ensures changes { ChangesItem E.from_gives (FnOnceReturnsAt F.FnOnce change) schema.now key.now items.old items.new result }
+    ensures changes { ChangesItem E.from_gives (FnOnceReturnsAt F.FnOnce change) schema.now key.now
+        items.old items.new result }
     ensures keys { keys items.new ≡ keys items.old }
     ensures ordered { OnOk result (IsOrdered key_cmp items.new) }
 {

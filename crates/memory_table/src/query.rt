@@ -88,9 +88,14 @@ impl Table {
         backward: bool,
         limit: usize,
     ) -> Result<Vec<(&Key, &Item)>, AllocError>
-        requires { IsForward (IsLeBy key_cmp) (IsLtBy key_cmp) (bound_map (λ x. x.now) low) (bound_map (λ x. x.now) high) }
-        ensures { IfOk result (λ page. seen page.items ≡ take limit (in_direction backward (entries_between key_cmp
-            (bound_map (λ x. x.now) low.entry) (bound_map (λ x. x.now) high.entry) (entries_of self.now)))) }
+        requires { IsForward (IsLeBy key_cmp) (IsLtBy key_cmp) (bound_map (λ x. x.now) low)
+            (bound_map (λ x. x.now) high) }
+        ensures { IfOk result
+            (λ page. seen page.items
+            ≡ take limit
+            (in_direction backward
+            (entries_between key_cmp (bound_map (λ x. x.now) low.entry)
+            (bound_map (λ x. x.now) high.entry) (entries_of self.now)))) }
     {
         let mut page = Vec::new(alloc);
         let mut left = self.items.range((low, high));
@@ -132,7 +137,8 @@ impl Table {
         limit: usize,
         start_after: Option<&Key>,
     ) -> Result<Vec<(&Key, &Item)>, AllocError>
-        ensures { IfOk result (λ page. seen page.items ≡ take limit (rest start_after.entry (entries_of self.now))) }
+        ensures { IfOk result
+            (λ page. seen page.items ≡ take limit (rest start_after.entry (entries_of self.now))) }
     {
         let low = match start_after {
             Some(key) => Bound::Excluded(key),
@@ -167,7 +173,8 @@ impl Table {
 // Takes the first item that is left in a direction.
 fn next_of<'a>(left: &mut Range<'a, Key, Item>, backward: bool) -> Option<(&'a Key, &'a Item)>
     ensures { MatchOption result (in_direction backward left.old ≡ [])
-        (λ e. in_direction backward left.old ≡ (e.0.now, e.1.now) ∷ in_direction backward left.new) }
+        (λ e. in_direction backward left.old
+        ≡ (e.0.now, e.1.now) ∷ in_direction backward left.new) }
 {
     if backward {
         left.next_back()

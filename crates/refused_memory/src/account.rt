@@ -61,7 +61,12 @@ type AccountFields = (
 impl Record for Account {
     type Fields = AccountFields;
 
-    ghost about = { record_of (codes "Account") (codes "user" ∷ codes "events" ∷ codes "sets" ∷ codes "answers" ∷ []) (λ s. ((record { 0 = s.user }, record { 0 = s.events }), (record { 0 = s.sets }, record { 0 = s.answers }))) ⟦<AccountFields as FieldList>⟧.about };
+    ghost about = { record_of (codes "Account")
+        (codes "user" ∷ codes "events" ∷ codes "sets" ∷ codes "answers" ∷ [])
+        (λ s. (
+          (record { 0 = s.user }, record { 0 = s.events }),
+          (record { 0 = s.sets }, record { 0 = s.answers }),
+        )) ⟦<AccountFields as FieldList>⟧.about };
 
     ghost named = { (refl, refl) };
 

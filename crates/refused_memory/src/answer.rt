@@ -6,7 +6,8 @@ use std::collections::HashMap;
 use std::fmt::{self, Debug, Formatter, Write};
 use std::io;
 
-/// Prints a label, and behind it what a call returned: the value, or the kind of the error. Drops what was returned.
+/// Prints a label, and behind it what a call returned: the value, or the kind of the error. Drops
+/// what was returned.
 pub fn say<T: Debug + Drop>(rt: &HostRuntime, label: &str, returned: Result<T>) -> io::Result<()> {
     print!(rt; "{label}: {}", Answer(&returned))
 }
@@ -37,8 +38,8 @@ impl Debug for Json {
     }
 }
 
-/// An attribute value, by kind and content: `N "1"`, `Null(true)`, `B [1, 2]`, `L [S "a"]`, `Ss ["a", "b"]`, `M {"a": N "1"}`
-/// with the keys in order.
+/// An attribute value, by kind and content: `N "1"`, `Null(true)`, `B [1, 2]`, `L [S "a"]`, `Ss
+/// ["a", "b"]`, `M {"a": N "1"}` with the keys in order.
 #[derive(Drop)]
 pub struct Written(pub AttributeValue);
 

@@ -1,5 +1,5 @@
-//! Rows of what a builder has after a call. The builders hold what fills their lists, or nearly so, so that one of the
-//! calls lets the list grow.
+//! Rows of what a builder has after a call. The builders hold what fills their lists, or nearly so,
+//! so that one of the calls lets the list grow.
 
 use crate::answer::{Answer, Written, say};
 use crate::stopped::Stopped;

@@ -9,8 +9,8 @@ use serde_dynamo::{AttributeValue, DynamoJson, Error};
 const TEN_KINDS: &str =
     r#"{"M":{"b":{"B":"AQI="},"bool":{"BOOL":true},"bs":{"BS":["AQI="]},"l":{"L":[{"N":"1"},{"S":"a"}]},"n":{"N":"1.5"},"ns":{"NS":["1","2"]},"null":{"NULL":true},"s":{"S":"a"},"ss":{"SS":["a","b"]}}}"#;
 
-// JSON that isn't an attribute value: no key, two keys, a key that is no prefix, invalid base64, a value that isn't an object,
-// and contents of another kind.
+// JSON that isn't an attribute value: no key, two keys, a key that is no prefix, invalid base64, a
+// value that isn't an object, and contents of another kind.
 const REFUSED: [&str; 7] = [
     "{}",
     r#"{"S":"1","N":"1"}"#,

@@ -9,7 +9,8 @@ use serde_dynamo::{
 use std::collections::HashMap;
 use std::fmt::{self, Debug, Formatter, Write};
 
-// What a located call answers: a value, or the place and the kind of the fault. Printing takes no memory.
+// What a located call answers: a value, or the place and the kind of the fault. Printing takes no
+// memory.
 #[derive(Drop)]
 struct At<'a, T>(&'a Result<T, LocatedError<serde_dynamo::Error>>);
 

@@ -1,9 +1,10 @@
-//! Calls of the library and of tables in memory, in rows: what each returns if one of its requests for memory is refused, and what
-//! is left after it. A row makes its values, then makes its calls, and prints one line of what they returned. The word after the
-//! program's name says which row; without one all rows are printed, each after its name.
+//! Calls of the library and of tables in memory, in rows: what each returns if one of its requests
+//! for memory is refused, and what is left after it. A row makes its values, then makes its calls,
+//! and prints one line of what they returned. The word after the program's name says which row;
+//! without one all rows are printed, each after its name.
 //!
-//! Run with one request for memory refused, a row shows what the calls return when memory runs out. If that happens while its
-//! values are made, it prints `making: out of memory`.
+//! Run with one request for memory refused, a row shows what the calls return when memory runs out.
+//! If that happens while its values are made, it prints `making: out of memory`.
 #![tactic(auto)]
 
 mod accesses;

@@ -2,11 +2,15 @@
 //! states the law. A law speaks of the definitions alone, and of all data.
 //!
 //! Call a law in a function of yours to have it in that function's proof.
-ghost use Rattle.dynamo_json.specs.AttributeBack.{TellsSome, TellsItsDatum, ViewsInOrder, EachDatumBack};
-ghost use Rattle.dynamo_json.specs.AttributeBack.{ItemTellsSome, TellsItsItem, ItemViewsInOrder, EachItemDatumBack};
+ghost use Rattle.dynamo_json.specs.AttributeBack.{TellsSome, TellsItsDatum, ViewsInOrder};
+ghost use Rattle.dynamo_json.specs.AttributeBack.{EachDatumBack};
+ghost use Rattle.dynamo_json.specs.AttributeBack.{ItemTellsSome, TellsItsItem, ItemViewsInOrder};
+ghost use Rattle.dynamo_json.specs.AttributeBack.{EachItemDatumBack};
 ghost use Rattle.dynamo_json.specs.JsonBack.{IsJson, JsonBack};
-ghost use Rattle.dynamo_json.specs.Laws.{ReadsItsJson, StandsForOne, RefusesByMessage, WritesNoFloat, HoldsTexts};
-ghost use Rattle.dynamo_json.specs.Laws.{ReadsItemsExactly, StandsForOneItem, RefusesItemsByMessage, WritesItemsWithoutFloat};
+ghost use Rattle.dynamo_json.specs.Laws.{ReadsItsJson, StandsForOne, RefusesByMessage};
+ghost use Rattle.dynamo_json.specs.Laws.{WritesNoFloat, HoldsTexts};
+ghost use Rattle.dynamo_json.specs.Laws.{ReadsItemsExactly, StandsForOneItem};
+ghost use Rattle.dynamo_json.specs.Laws.{RefusesItemsByMessage, WritesItemsWithoutFloat};
 ghost use Rattle.dynamo_json.specs.Plain.{plain};
 ghost use Rattle.dynamo_json.specs.Square.{InSquare, IsSquare, IsWritten};
 ghost use Rattle.dynamo_ser.specs.Datum.{Datum};

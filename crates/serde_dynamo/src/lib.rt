@@ -158,8 +158,9 @@
 //! A `Vec`, a `BTreeSet` and a `HashSet` are written as lists, the sets in ascending order. The
 //! wrappers [`StringSet`], [`NumberSet`] and [`BinarySet`] write them as sets, and they read from a
 //! set as from a list. A described field has the type `InStringSet<T>` of `dynamo_record` for a
-//! `Vec<T>`, or `AsStringSet<BTreeSet<T>>` for a set, and so for numbers and byte strings. A derived
-//! field says `#[serde(with = "dynamo_serde::string_set")]`, or `number_set` or `binary_set`.
+//! `Vec<T>`, or `AsStringSet<BTreeSet<T>>` for a set, and so for numbers and byte strings. A
+//! derived field says `#[serde(with = "dynamo_serde::string_set")]`, or `number_set` or
+//! `binary_set`.
 //!
 //! ```rust
 //! use serde_dynamo::{AttributeValue, NumberSet, to_attribute_value};
@@ -241,8 +242,8 @@
 //! assert_eq!(rt; error.to_string(alloc)?.as_str(), "missing field `id`");
 //! ```
 //!
-//! [`from_item_located`], [`to_item_located`] and their namesakes return an error with its [`Place`],
-//! and are otherwise the same calls:
+//! [`from_item_located`], [`to_item_located`] and their namesakes return an error with its
+//! [`Place`], and are otherwise the same calls:
 //!
 //! ```rust
 //! use serde_dynamo::samples::User;

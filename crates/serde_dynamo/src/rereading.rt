@@ -52,18 +52,25 @@ use std::alloc::Global;
 pub fn reread<T: Shaped>(alloc: Global, value: &T) -> Result<(AttributeValue, Value, T)>
     // The first part is the attribute value of the value's datum, the second its DynamoDB JSON, and
     // reading by the shape permits the datum of the third.
-    ensures written { IfOk result (λ parts. write.written (T.tells value.now) ≡ Ok (av.view parts.0)) }
+    ensures written { IfOk result
+        (λ parts. write.written (T.tells value.now) ≡ Ok (av.view parts.0)) }
     ensures json { IfOk result (λ parts. sj.view parts.1 ≡ json_of (av.view parts.0)) }
-    ensures read { IfOk result (λ parts. Permitted T.about.shape (attribute (av.view parts.0)) (Ok (T.tells parts.2))) }
-    ensures err { IfErr result (λ e. (fault_of e ≡ out_of_memory) ⊎ IsFaultOf T.about.shape (T.tells value.now) (fault_of e)) }
+    ensures read { IfOk result
+        (λ parts. Permitted T.about.shape (attribute (av.view parts.0)) (Ok (T.tells parts.2))) }
+    ensures err { IfErr result
+        (λ e. (fault_of e ≡ out_of_memory)
+        ⊎ IsFaultOf T.about.shape (T.tells value.now) (fault_of e)) }
 
     // If the shape is nearly clear, the datum of the third part is what is kept of the value's
     // datum.
     ensures nearly { NearlyClear T.about.shape
-        → MatchResult result (λ parts. Same (kept (T.tells value.now)) (T.tells parts.2)) (λ e. fault_of e ≡ out_of_memory) }
+        → MatchResult result (λ parts. Same (kept (T.tells value.now)) (T.tells parts.2))
+        (λ e. fault_of e ≡ out_of_memory) }
 
     // What was stored reads back.
-    ensures clear { Clear T.about.shape → MatchResult result (λ parts. T.about.same value.now parts.2) (λ e. fault_of e ≡ out_of_memory) }
+    ensures clear { Clear T.about.shape
+        → MatchResult result (λ parts. T.about.same value.now parts.2)
+        (λ e. fault_of e ≡ out_of_memory) }
 {
     value.conforms();
     let written = to_attribute_value(alloc, value)?;
@@ -97,7 +104,8 @@ pub fn reread<T: Shaped>(alloc: Global, value: &T) -> Result<(AttributeValue, Va
 /// ```
 pub fn reread_clear<T: Shaped>(alloc: Global, value: &T) -> Result<(AttributeValue, Value, T)>
     requires { Clear T.about.shape }
-    ensures { MatchResult result (λ parts. T.about.same value.now parts.2) (λ e. fault_of e ≡ out_of_memory) }
+    ensures { MatchResult result (λ parts. T.about.same value.now parts.2)
+        (λ e. fault_of e ≡ out_of_memory) }
 {
     reread(alloc, value)
 }
@@ -131,13 +139,15 @@ pub fn reread_clear<T: Shaped>(alloc: Global, value: &T) -> Result<(AttributeVal
 /// assert!(rt; matches!(number, Err(e) if *e.kind() == ErrorImpl::NotMaplike));
 /// ```
 pub fn stored<T: Shaped>(alloc: Global, value: &T) -> Result<T>
-    // The result is one that reading the item of the value's datum may have, or the fault of writing
-    // the item.
+    // The result is one that reading the item of the value's datum may have, or the fault of
+    // writing the item.
     ensures read { Meets fault_of (Stores T.reads (T.tells value.now)) result }
 
     // What was stored reads back.
-    ensures clear { Clear T.about.shape → MatchResult result (λ back. T.about.same value.now back)
-        (λ e. (fault_of e ≡ out_of_memory) ⊎ (item_written (T.tells value.now) ≡ Err (fault_of e))) }
+    ensures clear { Clear T.about.shape
+        → MatchResult result (λ back. T.about.same value.now back)
+        (λ e. (fault_of e ≡ out_of_memory)
+        ⊎ (item_written (T.tells value.now) ≡ Err (fault_of e))) }
 {
     value.conforms();
     let item = to_item(alloc, value)?;

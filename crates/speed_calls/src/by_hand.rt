@@ -1,5 +1,6 @@
-//! The same work by the types of the kit alone, for a floor under the calls: maps of texts whose values are as large as attribute
-//! values, made, copied and taken apart by hand. Those that are kept give back the room that they don't use, as the library's do.
+//! The same work by the types of the kit alone, for a floor under the calls: maps of texts whose
+//! values are as large as attribute values, made, copied and taken apart by hand. Those that are
+//! kept give back the room that they don't use, as the library's do.
 use serde_dynamo::samples::User;
 use std::alloc::{AllocError, Global};
 use std::collections::HashMap;
@@ -17,7 +18,8 @@ enum Plain {
 pub struct Maps(Vec<HashMap<String, Plain>>);
 
 impl Maps {
-    /// The maps of these users, as they are made: with the room that no entry takes, as what `to_item` answers has.
+    /// The maps of these users, as they are made: with the room that no entry takes, as what
+    /// `to_item` answers has.
     pub fn of(alloc: Global, users: &[User]) -> Result<Maps, AllocError> {
         let mut maps = Vec::new(alloc);
         for user in users {
@@ -37,7 +39,8 @@ impl Maps {
         Ok(Maps(maps))
     }
 
-    // Copies, made entry by entry, as those of items are: the clone of the kit's map has no use for values that hold themselves.
+    // Copies, made entry by entry, as those of items are: the clone of the kit's map has no use for
+    // values that hold themselves.
     fn copies(&self) -> Result<Maps, AllocError> {
         let mut copies = Vec::with_capacity(*self.0.allocator(), self.0.len())?;
         for map in &self.0 {
@@ -74,7 +77,8 @@ pub fn written(alloc: Global, users: &[User]) -> Result<usize, AllocError> {
     Ok(count)
 }
 
-/// What `to_attribute_value` does of a list: makes a map of each user, and keeps them all. How many there are.
+/// What `to_attribute_value` does of a list: makes a map of each user, and keeps them all. How many
+/// there are.
 #[inline(never)]
 pub fn listed(alloc: Global, users: &[User]) -> Result<usize, AllocError> {
     Ok(Maps::kept(alloc, users)?.0.len())
@@ -99,8 +103,8 @@ fn in_order(
     Ok(entries)
 }
 
-/// What `from_item` does: copies the maps, and takes each apart to a user, its entries in the order of their keys. How long their
-/// ids are.
+/// What `from_item` does: copies the maps, and takes each apart to a user, its entries in the order
+/// of their keys. How long their ids are.
 #[inline(never)]
 pub fn read(alloc: Global, maps: &Maps) -> Result<usize, AllocError> {
     let mut count: usize = 0;

@@ -21,7 +21,8 @@ pub fn run(rt: &HostRuntime, word: &str) -> io::Result<()> {
     }
 }
 
-// Whether the attribute value of this DynamoDB JSON, written as a value of a program, reads back as itself.
+// Whether the attribute value of this DynamoDB JSON, written as a value of a program, reads back as
+// itself.
 fn is_reread(alloc: Global, json: &Value) -> Result<bool> {
     let value = AttributeValue::from_json(alloc, json)?;
     let written = to_attribute_value(alloc, &value)?;

@@ -1,8 +1,9 @@
 //! Calls of the library and of serde_json, each by a word, for `bench/speed` to time.
 //!
-//! `reads_json` and `rereads` take their input to the end, one JSON text. The other words take a number of repeats: they make
-//! 10,000 users and what the call takes, and then call so many times. So the time of a call is that of more repeats less that
-//! of fewer, in so many parts. The words that begin with `depth_` take the depth of nested lists.
+//! `reads_json` and `rereads` take their input to the end, one JSON text. The other words take a
+//! number of repeats: they make 10,000 users and what the call takes, and then call so many times.
+//! So the time of a call is that of more repeats less that of fewer, in so many parts. The words
+//! that begin with `depth_` take the depth of nested lists.
 #![tactic(auto)]
 
 mod by_hand;

@@ -1,11 +1,13 @@
-//! Calls on lists that are nested deep, each in a run of its own, to see at which depth it runs out of stack.
+//! Calls on lists that are nested deep, each in a run of its own, to see at which depth it runs out
+//! of stack.
 use serde_dynamo::{AttributeValue, Result, from_attribute_value, to_attribute_value};
 use std::alloc::Global;
 use std::collections::HashMap;
 use std::io;
 use std::mem::forget;
 
-/// Makes the call of this name on lists so deep, and prints what came of it. What is made isn't dropped, but by `depth_drop`.
+/// Makes the call of this name on lists so deep, and prints what came of it. What is made isn't
+/// dropped, but by `depth_drop`.
 pub fn run(rt: &HostRuntime, word: &str, depth: u32) -> io::Result<()> {
     match call(rt.alloc(), word, depth) {
         Ok(true) => println!(rt; "done"),

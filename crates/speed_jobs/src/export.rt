@@ -1,5 +1,5 @@
-//! Exports that are read in: lines of users and of purchases that are checked against their types, and wide items that are loaded
-//! into a table. Some lines are broken, blank or of another form.
+//! Exports that are read in: lines of users and of purchases that are checked against their types,
+//! and wide items that are loaded into a table. Some lines are broken, blank or of another form.
 use crate::digest::{self, Digested};
 use crate::lines;
 use crate::purchase::Purchase;

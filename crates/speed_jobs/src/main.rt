@@ -1,5 +1,5 @@
-//! Jobs that users wait for, each by a word, for `bench/run` to time: a job's rounds are made from a seed, no two alike, and what
-//! all calls answer goes into the digest that is printed.
+//! Jobs that users wait for, each by a word, for `bench/run` to time: a job's rounds are made from
+//! a seed, no two alike, and what all calls answer goes into the digest that is printed.
 //!
 //! The words are the job, how many rounds, and the seed. With no words each job runs one round.
 #![tactic(auto)]

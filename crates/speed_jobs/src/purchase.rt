@@ -1,4 +1,5 @@
-//! What was bought: a type with texts, a number, an optional field, a list, an enum and a nested struct.
+//! What was bought: a type with texts, a number, an optional field, a list, an enum and a nested
+//! struct.
 ghost use Rattle.std.specs.Prelude.{[], ◌∷◌, codes, refl};
 ghost use Rattle.dynamo_record.specs.Records.{record_of, record_tells, record_reads, about_record};
 
@@ -47,7 +48,18 @@ type PurchaseFields = (
 impl Record for Purchase {
     type Fields = PurchaseFields;
 
-    ghost about = { record_of (codes "Purchase") (codes "customer" ∷ codes "placed" ∷ codes "amount" ∷ codes "note" ∷ codes "articles" ∷ codes "shipment" ∷ codes "home" ∷ []) (λ s. ((record { 0 = s.customer }, record { 0 = s.placed }), (record { 0 = s.amount }, record { 0 = s.note }), (record { 0 = s.articles }, record { 0 = s.shipment }), record { 0 = s.home })) ⟦<PurchaseFields as FieldList>⟧.about };
+    ghost about = { record_of (codes "Purchase")
+        (codes "customer" ∷ codes "placed" ∷ codes "amount" ∷ codes "note" ∷ codes "articles"
+        ∷ codes "shipment"
+        ∷ codes "home"
+        ∷ [])
+        (λ s. (
+          (record { 0 = s.customer }, record { 0 = s.placed }),
+          (record { 0 = s.amount }, record { 0 = s.note }),
+          (record { 0 = s.articles }, record { 0 = s.shipment }),
+          record { 0 = s.home },
+        ))
+        ⟦<PurchaseFields as FieldList>⟧.about };
 
     ghost named = { (refl, refl) };
 

@@ -1,5 +1,6 @@
-//! Queries, and no more than the puts before them: of tables in memory, and of smaller ones in a database. A table has the readings of
-//! some sensors by their seconds, or the orders of one customer with thousands among customers with two each.
+//! Queries, and no more than the puts before them: of tables in memory, and of smaller ones in a
+//! database. A table has the readings of some sensors by their seconds, or the orders of one
+//! customer with thousands among customers with two each.
 use crate::random::Random;
 use crate::stopped::Stopped;
 use crate::tables::{number_of, second};
@@ -239,7 +240,8 @@ fn beginning(prefix: &Option<KeyValue>) -> SortCondition<'_> {
     }
 }
 
-// At most ten readings of a window of twenty, from one end, of those behind a key where there is one.
+// At most ten readings of a window of twenty, from one end, of those behind a key where there is
+// one.
 fn in_window<T: Asked>(
     alloc: Global,
     table: &mut T,
@@ -286,8 +288,8 @@ fn of_readings<T: Asked>(
     Ok(digest)
 }
 
-// What is asked of a sensor's readings: the latest, some of a window from its end, and behind the first or before the last of all
-// readings, and all in pages from both ends.
+// What is asked of a sensor's readings: the latest, some of a window from its end, and behind the
+// first or before the last of all readings, and all in pages from both ends.
 fn of_sensor<T: Asked>(
     alloc: Global,
     table: &mut T,
@@ -344,8 +346,8 @@ fn month(alloc: Global, number: u64) -> Result<KeyValue, AllocError> {
     Ok(KeyValue::S(format!(in alloc; "order#2024-{number:02}")?))
 }
 
-// What is asked of orders: the newest of a month, those of the months at the ends of many orders from the other end, many in
-// pages, and one of each customer.
+// What is asked of orders: the newest of a month, those of the months at the ends of many orders
+// from the other end, many in pages, and one of each customer.
 fn of_orders<T: Asked>(
     alloc: Global,
     table: &mut T,

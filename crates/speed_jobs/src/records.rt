@@ -1,5 +1,5 @@
-//! Records in and out: purchases, which are described, one by one, as items of a batch and as a list; users; and orders, which
-//! derive serde's traits.
+//! Records in and out: purchases, which are described, one by one, as items of a batch and as a
+//! list; users; and orders, which derive serde's traits.
 use crate::digest::{self, Digested};
 use crate::purchase::Purchase;
 use crate::purchases::purchase;

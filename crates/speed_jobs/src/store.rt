@@ -1,5 +1,5 @@
-//! Tables in a database in memory: purchases that are loaded in transactions, got, asked for and read in pages, and users of a
-//! table of one type.
+//! Tables in a database in memory: purchases that are loaded in transactions, got, asked for and
+//! read in pages, and users of a table of one type.
 use crate::digest::{self, Digested};
 use crate::purchase::Purchase;
 use crate::purchases::{self, purchase};
@@ -60,7 +60,8 @@ fn exported(alloc: Global, store: &mut TableStore<MemStore>) -> Result<u64, Stop
     Ok(digest)
 }
 
-// What each customer bought in a month, and some purchases by their keys, of which some are put and taken out again.
+// What each customer bought in a month, and some purchases by their keys, of which some are put and
+// taken out again.
 fn looked_up(
     alloc: Global,
     store: &mut TableStore<MemStore>,

@@ -1,5 +1,5 @@
-//! The tests of a service on tables in memory: purchases of some hundred customers, the log of one machine under a single partition
-//! key, and users, of whom each has a partition of one item.
+//! The tests of a service on tables in memory: purchases of some hundred customers, the log of one
+//! machine under a single partition key, and users, of whom each has a partition of one item.
 use crate::digest::{self, Digested};
 use crate::purchase::Purchase;
 use crate::purchases;
@@ -162,7 +162,8 @@ fn ended(digest: u64, answer: &Result<Option<Item>, TableError>) -> u64 {
     }
 }
 
-// The readings of one machine by their seconds: put where there are none, changed, and looked at in windows and from the end.
+// The readings of one machine by their seconds: put where there are none, changed, and looked at in
+// windows and from the end.
 fn log(alloc: Global, random: &mut Random) -> Result<u64, Stopped> {
     let partition = attribute(alloc, "machine", KeyKind::S)?;
     let sort = Some(attribute(alloc, "at", KeyKind::N)?);

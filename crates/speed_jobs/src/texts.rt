@@ -1,5 +1,5 @@
-//! DynamoDB JSON both ways: many small items, each by itself and all in one text, one wide value and a deep one, and the words of
-//! `dynamo_tool`.
+//! DynamoDB JSON both ways: many small items, each by itself and all in one text, one wide value
+//! and a deep one, and the words of `dynamo_tool`.
 use crate::purchases::purchase;
 use crate::random::Random;
 use crate::stopped::Stopped;

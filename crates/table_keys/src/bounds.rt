@@ -39,7 +39,8 @@ impl Bounds {
     /// assert!(rt; matches!(found, Some(bounds) if bounds.low <= sort && sort < bounds.high));
     /// ```
     pub fn of_query(alloc: Global, query: &Query<'_>) -> Result<Option<Bounds>, AllocError>
-        ensures { IfOk result (λ bounds. MatchOption bounds (FindsNone query.now) (AreBounds query.now)) }
+        ensures { IfOk result
+            (λ bounds. MatchOption bounds (FindsNone query.now) (AreBounds query.now)) }
     {
         let Some(range) = query.key_range(alloc)? else {
             return Ok(None);

@@ -49,7 +49,8 @@ impl KeyBytes {
 
     /// Returns bytes that are less than those of each key.
     pub fn before_all(alloc: Global) -> KeyBytes
-        ensures { (key : Key) (bytes : KeyBytes) → IsKeyBytes key bytes → text_cmp result.partition.items bytes.partition.items ≡ Less }
+        ensures { (key : Key) (bytes : KeyBytes) → IsKeyBytes key bytes
+            → text_cmp result.partition.items bytes.partition.items ≡ Less }
     {
         KeyBytes {
             partition: Vec::new(alloc),

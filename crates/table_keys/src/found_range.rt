@@ -5,7 +5,8 @@ ghost use Rattle.std.specs.Range.Bound.{IsForward, bound_map};
 ghost use Rattle.table_keys.specs.KeyOrder.{key_cmp};
 ghost use Rattle.table_keys.specs.declared.key.Key.{Key};
 ghost use Rattle.table_keys.specs.Places.{is_from_place};
-ghost use Rattle.table_keys.specs.Ranges.{FindsBetween, FindsNone, IsEndIn, IsNextValue, IsPlaceIn, is_found_between, lies_between};
+ghost use Rattle.table_keys.specs.Ranges.{FindsBetween, FindsNone, IsEndIn, IsNextValue, IsPlaceIn};
+ghost use Rattle.table_keys.specs.Ranges.{is_found_between, lies_between};
 
 use crate::key_range::KeyRange;
 use crate::place::Place;
@@ -26,7 +27,8 @@ impl Query<'_> {
     ///
     /// Returns [`AllocError`] if memory runs out.
     pub fn key_range(&self, alloc: Global) -> Result<Option<KeyRange>, AllocError>
-        ensures { IfOk result (λ range. MatchOption range (FindsNone self.now) (FindsBetween self.now)) }
+        ensures { IfOk result
+            (λ range. MatchOption range (FindsNone self.now) (FindsBetween self.now)) }
     {
         let Some(sorts) = self.sort.range(alloc)? else {
             return Ok(None);
@@ -49,8 +51,8 @@ impl Query<'_> {
         })
     }
 
-    // Returns the place of the query's partition at an end of its sort keys. At the end of all, that
-    // is the place before the partition that comes next.
+    // Returns the place of the query's partition at an end of its sort keys. At the end of all,
+    // that is the place before the partition that comes next.
     fn end_in(&self, alloc: Global, end: Option<SortPlace>) -> Result<Place, AllocError>
         ensures { IfOk result (IsEndIn self.now.partition.now end) }
     {
@@ -88,7 +90,8 @@ impl KeyRange {
     fn between(low: Place, high: Place) -> Option<KeyRange>
         ensures { MatchOption result
             ((key : Key) → (is_from_place low key && not (is_from_place high key)) ≡ false)
-            (λ range. (key : Key) → (is_from_place low key && not (is_from_place high key)) ≡ lies_between range key) }
+            (λ range. (key : Key)
+            → (is_from_place low key && not (is_from_place high key)) ≡ lies_between range key) }
     {
         if low.cmp(&high).is_lt() {
             Some(KeyRange { low, high })

@@ -75,7 +75,8 @@ impl KeyKind {
 
     /// Returns the kind with this letter, or `None` if no kind has it.
     pub fn parse(name: &str) -> Option<KeyKind>
-        ensures { MatchOption result ((kind : KeyKind) → name.now ≢ kind_name kind) (λ kind. name.now ≡ kind_name kind) }
+        ensures { MatchOption result ((kind : KeyKind) → name.now ≢ kind_name kind)
+            (λ kind. name.now ≡ kind_name kind) }
     {
         match name {
             "S" => Some(KeyKind::S),

@@ -23,9 +23,13 @@ ghost use Rattle.table_keys.specs.declared.schema.KeySchema.{KeySchema};
 /// keeps those of the other. A string says at most one number.
 pub fn one_key()
     ensures key { (schema : KeySchema) (item : Item) (key other : Key)
-        → ReadsKey schema item (Ok key) → ReadsKey schema item (Ok other) → key_cmp key other ≡ Equal }
+        → ReadsKey schema item (Ok key)
+        → ReadsKey schema item (Ok other)
+        → key_cmp key other ≡ Equal }
     ensures equal { (schema : KeySchema) (item : Item) (key other : Key)
-        → ReadsKey schema item (Ok key) → key_cmp other key ≡ Equal → ReadsKey schema item (Ok other) }
+        → ReadsKey schema item (Ok key)
+        → key_cmp other key ≡ Equal
+        → ReadsKey schema item (Ok other) }
     ensures held { (key other : Key) → IsHeldKey key → key_cmp other key ≡ Equal → IsHeldKey other }
     ensures number { (text : List ℕ) (y z : ℤ) → IsNumber text y → IsNumber text z → y ≡ z }
 {}
@@ -33,18 +37,24 @@ pub fn one_key()
 /// The bytes of numbers are in the order of the numbers, so a database that sorts rows by their
 /// bytes sorts them by their numbers.
 pub fn number_bytes_in_order()
-    ensures { (a b : ℤ) (x y : List ℕ) → IsBytesOf a x → IsBytesOf b y → slice_cmp nat_cmp x y ≡ int_cmp a b }
+    ensures { (a b : ℤ) (x y : List ℕ) → IsBytesOf a x → IsBytesOf b y
+        → slice_cmp nat_cmp x y ≡ int_cmp a b }
 {}
 
 /// The bytes of keys are in the order of the keys, so a database that sorts rows by their two byte
 /// strings sorts them as DynamoDB sorts their keys.
 pub fn bytes_in_order()
-    ensures values { (a b : KeyValue) (x y : List ℕ) → IsValueBytes a x → IsValueBytes b y → text_cmp x y ≡ value_cmp a b }
+    ensures values { (a b : KeyValue) (x y : List ℕ) → IsValueBytes a x → IsValueBytes b y
+        → text_cmp x y ≡ value_cmp a b }
     ensures keys { (a b : Key) (x y : KeyBytes) → IsKeyBytes a x → IsKeyBytes b y
-        → ordering_then (text_cmp x.partition.items y.partition.items) (text_cmp x.sort.items y.sort.items) ≡ key_cmp a b }
+        → ordering_then (text_cmp x.partition.items y.partition.items)
+        (text_cmp x.sort.items y.sort.items)
+        ≡ key_cmp a b }
 {}
 
 /// Equal values have the same bytes, so a row is found by the bytes of its key.
 pub fn same_bytes()
-    ensures { (a b : KeyValue) (x y : List ℕ) → IsValueBytes a x → IsValueBytes b y → value_cmp a b ≡ Equal → x ≡ y }
+    ensures { (a b : KeyValue) (x y : List ℕ) → IsValueBytes a x → IsValueBytes b y
+        → value_cmp a b ≡ Equal
+        → x ≡ y }
 {}

@@ -1,11 +1,15 @@
-ghost use Rattle.std.specs.Prelude.{◌≡◌, ◌⊎◌, ⊤, refl, ℕ, ◌+◌, ◌*◌, ◌^◌, ◌<◌, ◌≤◌, ◌==◌, ℤ, pos, neg_ℤ, ◌+ℤ◌, ◌≤ℤ◌, true, false, length, MatchOption};
+ghost use Rattle.std.specs.Prelude.{◌≡◌, ◌⊎◌, ⊤, refl, ℕ, ◌+◌, ◌*◌, ◌^◌, ◌<◌, ◌≤◌, ◌==◌, ℤ, pos};
+ghost use Rattle.std.specs.Prelude.{neg_ℤ, ◌+ℤ◌, ◌≤ℤ◌, true, false, length, MatchOption};
 ghost use Rattle.std.specs.Cmp.{partial_equiv_from_equiv, int_eq_equiv, int_cmp_total, po};
 ghost use Rattle.std.specs.Ordering.{int_cmp, int_eq, as_partial_cmp};
 ghost use Rattle.std.specs.List.{before_first, after_first};
-ghost use Rattle.std.specs.Str.Parse.{AllDigits, digits_value_after, starts_with_minus, without_leading_sign};
-ghost use Rattle.table_keys.specs.Numbers.{IsNumber, IsDecimal, IsExponent, IsKept, mantissa, mark, has, signed};
+ghost use Rattle.std.specs.Str.Parse.{AllDigits, digits_value_after, starts_with_minus};
+ghost use Rattle.std.specs.Str.Parse.{without_leading_sign};
+ghost use Rattle.table_keys.specs.Numbers.{IsNumber, IsDecimal, IsExponent, IsKept, mantissa, mark};
+ghost use Rattle.table_keys.specs.Numbers.{has, signed};
 ghost use Rattle.table_keys.specs.Digits.{IsLong, IsScaled};
-ghost use Rattle.table_keys.specs.Neighbours.{IsFull, IsGreatest, IsGreatestSize, IsKeptNumber, IsLeast, IsNext, IsNextSize};
+ghost use Rattle.table_keys.specs.Neighbours.{IsFull, IsGreatest, IsGreatestSize, IsKeptNumber};
+ghost use Rattle.table_keys.specs.Neighbours.{IsLeast, IsNext, IsNextSize};
 ghost use Rattle.table_keys.specs.NumberBytes.{IsBytesOf, size_bytes};
 
 use std::alloc::AllocError;
@@ -138,7 +142,9 @@ impl Number {
 
     // The number of a sign, the digits before and behind a point, and an exponent.
     fn decimal(negative: bool, whole: &[u8], fraction: &[u8], exponent: i32) -> Option<Number>
-        ensures { MatchOption result ((z : ℤ) → ¬ (IsDecimal negative whole.now fraction.now exponent z)) (IsDecimal negative whole.now fraction.now exponent) }
+        ensures { MatchOption result
+            ((z : ℤ) → ¬ (IsDecimal negative whole.now fraction.now exponent z))
+            (IsDecimal negative whole.now fraction.now exponent) }
     {
         if whole.len() + fraction.len() == 0 {
             return None;
@@ -224,7 +230,8 @@ fn size_bytes(power: u8, coefficient: u128) -> [u8; 18]
 
 // What stands before the exponent of a number's text, and the exponent, 0 where none is written.
 fn split_exponent(text: &str) -> Option<(&str, i32)>
-    ensures { MatchOption result ((z : ℤ) → ¬ (IsExponent text.now z)) (λ r. (r.0.now ≡ mantissa text.now) × IsExponent text.now r.1) }
+    ensures { MatchOption result ((z : ℤ) → ¬ (IsExponent text.now z))
+        (λ r. (r.0.now ≡ mantissa text.now) × IsExponent text.now r.1) }
 {
     match split_mark(text) {
         Some((mantissa, exponent)) => match exponent.parse::<i32>() {
@@ -237,8 +244,9 @@ fn split_exponent(text: &str) -> Option<(&str, i32)>
 
 // What stands before the first `e`, or `E` where there is no `e`, and what stands behind it.
 fn split_mark(text: &str) -> Option<(&str, &str)>
-    ensures { MatchOption result (has (mark text.now) text.now ≡ false) (λ r. (has (mark text.now) text.now ≡ true)
-        × (r.0.now ≡ mantissa text.now) × (r.1.now ≡ after_first (λ b. b == mark text.now) text.now)) }
+    ensures { MatchOption result (has (mark text.now) text.now ≡ false)
+        (λ r. (has (mark text.now) text.now ≡ true) × (r.0.now ≡ mantissa text.now)
+        × (r.1.now ≡ after_first (λ b. b == mark text.now) text.now)) }
 {
     text.split_once('e').or(text.split_once('E'))
 }
@@ -266,15 +274,19 @@ fn split_sign(text: &[u8]) -> (bool, &[u8])
     }
 }
 
-// Reads digits behind those read so far, which are `digits` and then `zeros` zeros. `None` where there is another character,
-// or a 39th digit that counts.
+// Reads digits behind those read so far, which are `digits` and then `zeros` zeros. `None` where
+// there is another character, or a 39th digit that counts.
 fn read_digits(mut digits: u128, mut zeros: usize, text: &[u8]) -> Option<(u128, usize)>
     requires bound { digits < 10 ^ 38 }
     requires full { (zeros ≡ 0) ⊎ (10 ^ 37 ≤ digits) }
     requires room { zeros + length text.now < 2 ^ 64 }
-    ensures { MatchOption result (AllDigits 10 text.now → IsLong (digits_value_after 10 (digits * 10 ^ zeros) text.now)) (λ r.
-        AllDigits 10 text.now × (r.0 * 10 ^ r.1 ≡ digits_value_after 10 (digits * 10 ^ zeros) text.now)
-        × (r.0 < 10 ^ 38) × ((r.1 ≡ 0) ⊎ (10 ^ 37 ≤ r.0)) × (r.1 ≤ zeros + length text.now)) }
+    ensures { MatchOption result
+        (AllDigits 10 text.now → IsLong (digits_value_after 10 (digits * 10 ^ zeros) text.now))
+        (λ r. AllDigits 10 text.now
+        × (r.0 * 10 ^ r.1 ≡ digits_value_after 10 (digits * 10 ^ zeros) text.now)
+        × (r.0 < 10 ^ 38)
+        × ((r.1 ≡ 0) ⊎ (10 ^ 37 ≤ r.0))
+        × (r.1 ≤ zeros + length text.now)) }
 {
     let mut rest = text;
     while let Some((byte, tail)) = rest.split_first() {

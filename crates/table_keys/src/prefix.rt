@@ -15,7 +15,8 @@ use std::alloc::AllocError;
 ///
 /// Returns [`AllocError`] if memory runs out.
 pub(crate) fn text_past(prefix: &String) -> Result<Option<String>, AllocError>
-    ensures { IfOk result (λ past. BeginsUpTo IsUtf8 (string_bytes prefix.now) (option_map string_bytes past)) }
+    ensures { IfOk result
+        (λ past. BeginsUpTo IsUtf8 (string_bytes prefix.now) (option_map string_bytes past)) }
 {
     let mut text = prefix.clone()?;
     while let Some(last) = text.pop() {
@@ -34,7 +35,8 @@ pub(crate) fn text_past(prefix: &String) -> Result<Option<String>, AllocError>
 ///
 /// Returns [`AllocError`] if memory runs out.
 pub(crate) fn bytes_past(prefix: &Vec<u8>) -> Result<Option<Vec<u8>>, AllocError>
-    ensures { IfOk result (λ past. BeginsUpTo (All IsByte) prefix.now.items (option_map (λ b. b.items) past)) }
+    ensures { IfOk result
+        (λ past. BeginsUpTo (All IsByte) prefix.now.items (option_map (λ b. b.items) past)) }
 {
     let mut bytes = Vec::from_slice(*prefix.allocator(), prefix.as_slice())?;
     while let Some(last) = bytes.pop() {

@@ -1,5 +1,6 @@
 ghost use Rattle.std.specs.Prelude.{◌≡◌, false};
-ghost use Rattle.table_keys.specs.Queries.{begins_with, compared, finds, is_behind, meets, meets_sort};
+ghost use Rattle.table_keys.specs.Queries.{begins_with, compared, finds, is_behind, meets};
+ghost use Rattle.table_keys.specs.Queries.{meets_sort};
 
 use crate::{Key, KeyValue};
 use std::cmp::Ordering;

@@ -1,7 +1,9 @@
 ghost use Rattle.std.specs.Prelude.{◌≡◌, ◌⊎◌, IfOk, IfErr, map, option_map, string_bytes};
 ghost use Rattle.table_keys.specs.Held.{IsHeld, IsHeldKey};
-ghost use Rattle.table_keys.specs.KeyOf.{AreNamed, AreNoWords, IsNamed, IsNoWord, Reads, ReadsAs, ReadsKey, Says, SaysKey, word_of, words_of};
-ghost use Rattle.table_keys.specs.declared.error.TableError.TheVariants.{NotAnAttribute, OutOfMemory};
+ghost use Rattle.table_keys.specs.KeyOf.{AreNamed, AreNoWords, IsNamed, IsNoWord, Reads, ReadsAs};
+ghost use Rattle.table_keys.specs.KeyOf.{ReadsKey, Says, SaysKey, word_of, words_of};
+ghost use Rattle.table_keys.specs.declared.error.TableError.TheVariants.{NotAnAttribute};
+ghost use Rattle.table_keys.specs.declared.error.TableError.TheVariants.{OutOfMemory};
 
 use crate::{Key, KeyKind, KeyValue, Number, TableError};
 use dynamo_value::{AttributeValue, ErrorImpl, Item, base64_text};
@@ -51,7 +53,8 @@ impl KeyAttribute {
     /// Returns [`TableError::OutOfMemory`] if memory runs out.
     pub fn parse(alloc: Global, word: &str) -> Result<KeyAttribute, TableError>
         ensures ok { IfOk result (λ attribute. (word.now ≡ word_of attribute) × IsNamed attribute) }
-        ensures err { IfErr result (λ e. (e ≡ OutOfMemory) ⊎ ((e ≡ NotAnAttribute) × IsNoWord word.now)) }
+        ensures err { IfErr result
+            (λ e. (e ≡ OutOfMemory) ⊎ ((e ≡ NotAnAttribute) × IsNoWord word.now)) }
     {
         let Some((name, kind)) = word.rsplit_once(':') else {
             return Err(TableError::NotAnAttribute);
@@ -183,8 +186,11 @@ impl KeySchema {
     /// Otherwise returns the error of [`KeyAttribute::parse`], for the sort key before the
     /// partition key.
     pub fn parse(alloc: Global, words: &[&str]) -> Result<KeySchema, TableError>
-        ensures ok { IfOk result (λ schema. (map (λ w. w.now) words.now ≡ words_of schema) × AreNamed schema) }
-        ensures err { IfErr result (λ e. (e ≡ OutOfMemory) ⊎ ((e ≡ NotAnAttribute) × AreNoWords (map (λ w. w.now) words.now))) }
+        ensures ok { IfOk result
+            (λ schema. (map (λ w. w.now) words.now ≡ words_of schema) × AreNamed schema) }
+        ensures err { IfErr result
+            (λ e. (e ≡ OutOfMemory)
+            ⊎ ((e ≡ NotAnAttribute) × AreNoWords (map (λ w. w.now) words.now))) }
     {
         let (partition, sort) = match words {
             [partition] => (partition, None),

@@ -2,7 +2,8 @@
 ghost use Rattle.std.specs.Prelude.{◌≡◌, IfOk, MatchOption, Option, Some, false, true};
 ghost use Rattle.table_keys.specs.declared.key.KeyValue.{KeyValue};
 ghost use Rattle.table_keys.specs.declared.query.SortCondition.{SortCondition};
-ghost use Rattle.table_keys.specs.Ranges.{IsKindEnd, IsKindStart, IsPlaceAt, MeetsBetween, MeetsNone, is_from_sort};
+ghost use Rattle.table_keys.specs.Ranges.{IsKindEnd, IsKindStart, IsPlaceAt, MeetsBetween};
+ghost use Rattle.table_keys.specs.Ranges.{MeetsNone, is_from_sort};
 
 use crate::prefix::{bytes_past, text_past};
 use crate::{KeyValue, Number, SortCondition};
@@ -31,7 +32,8 @@ impl SortCondition<'_> {
     ///
     /// Returns [`AllocError`] if memory runs out.
     pub(crate) fn range(self, alloc: Global) -> Result<Option<SortRange>, AllocError>
-        ensures { IfOk result (λ range. MatchOption range (MeetsNone self.entry) (MeetsBetween self.entry)) }
+        ensures { IfOk result
+            (λ range. MatchOption range (MeetsNone self.entry) (MeetsBetween self.entry)) }
     {
         match self {
             SortCondition::Any => Ok(Some(SortRange {
@@ -70,7 +72,8 @@ impl SortCondition<'_> {
 
 // Returns the range of the values that begin with a prefix, or `None` if the prefix is a number.
 fn prefixed(alloc: Global, prefix: &KeyValue) -> Result<Option<SortRange>, AllocError>
-    ensures { IfOk result (λ range. MatchOption range (MeetsNone (SortCondition.BeginsWith prefix.entry))
+    ensures { IfOk result
+        (λ range. MatchOption range (MeetsNone (SortCondition.BeginsWith prefix.entry))
         (MeetsBetween (SortCondition.BeginsWith prefix.entry))) }
 {
     let low = SortPlace::at(prefix, false)?;

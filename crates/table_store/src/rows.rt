@@ -5,7 +5,8 @@ ghost use Rattle.serde_json.specs.Read.{read};
 ghost use Rattle.dynamo_value.specs.Item.{item_view};
 ghost use Rattle.dynamo_json.specs.Json.{item_json};
 ghost use Rattle.table_store.specs.Content.{FoundHasKey, HasThisKey};
-ghost use Rattle.table_store.specs.Runs.{Counts, Deletes, Gets, GetsOwn, IfOwn, IsClean, IsItemOf, IsUnread, Puts, RunsText, WasClean};
+ghost use Rattle.table_store.specs.Runs.{Counts, Deletes, Gets, GetsOwn, IfOwn, IsClean, IsItemOf};
+ghost use Rattle.table_store.specs.Runs.{IsUnread, Puts, RunsText, WasClean};
 
 mod definition;
 mod order;
@@ -37,7 +38,8 @@ const COUNT: &str = "SELECT count(*) FROM dynamo_item WHERE table_id = ?1";
 
 // The item of a text of DynamoDB JSON.
 fn item_of(alloc: Global, text: &[u8]) -> Result<Item, StoreError>
-    ensures { MatchResult result (λ item. read text.now ≡ Some (item_json (item_view item))) IsUnread }
+    ensures { MatchResult result (λ item. read text.now ≡ Some (item_json (item_view item)))
+        IsUnread }
 {
     let Ok(text) = str::from_utf8(text) else {
         return Err(StoreError::Unreadable);
@@ -104,7 +106,8 @@ fn of_key(schema: &KeySchema, key: &Key, item: Item) -> Result<Item, StoreError>
     Ok(item)
 }
 
-/// Returns the item under a key with these bytes, or `None` if there is none. The item has this key.
+/// Returns the item under a key with these bytes, or `None` if there is none. The item has this
+/// key.
 ///
 /// # Errors
 ///
@@ -144,7 +147,8 @@ pub fn put<S: Alter>(
     key: &KeyBytes,
     item: &Item,
 ) -> Result<(), StoreError>
-    ensures ran { IsClean S.Store conn.new → Puts S.Store id key.now item.now conn.old conn.new result }
+    ensures ran { IsClean S.Store conn.new
+        → Puts S.Store id key.now item.now conn.old conn.new result }
     ensures clean { WasClean S.Store conn.old conn.new }
 {
     let Ok(text) = item.to_json_text(alloc) else {

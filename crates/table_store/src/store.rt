@@ -4,11 +4,15 @@ ghost use Rattle.std.specs.Option.{option_copied};
 ghost use Rattle.table_keys.specs.KeyOf.{ReadsKey, words_of};
 ghost use Rattle.table_keys.specs.Conditions.{holds};
 ghost use Rattle.table_store.specs.Depth.{Checked, IsKept};
-ghost use Rattle.table_store.specs.Content.{FailsToChange, FoundHasKey, HadKeyOf, HasKey, HasThisKey, KeepsKey, NeedsKey, OfKey, connection_of, schema_of, table_of};
+ghost use Rattle.table_store.specs.Content.{FailsToChange, FoundHasKey, HadKeyOf, HasKey};
+ghost use Rattle.table_store.specs.Content.{HasThisKey, KeepsKey, NeedsKey, OfKey, connection_of};
+ghost use Rattle.table_store.specs.Content.{schema_of, table_of};
 ghost use Rattle.table_store.specs.Faults.{CreateFails, OpenFails, QueryFails};
 ghost use Rattle.table_store.specs.Found.{IsFound};
 ghost use Rattle.table_store.specs.Order.{AreBehind};
-ghost use Rattle.table_store.specs.Calls.{BeforeOf, CountsAll, DeletesIf, GetsAt, IsStart, KeyOf, PutsAt, PutsChanged, PutsEach, PutsIf, PutsOver, Ran, Scans, Updates, WritesAll};
+ghost use Rattle.table_store.specs.Calls.{BeforeOf, CountsAll, DeletesIf, GetsAt, IsStart, KeyOf};
+ghost use Rattle.table_store.specs.Calls.{PutsAt, PutsChanged, PutsEach, PutsIf, PutsOver, Ran};
+ghost use Rattle.table_store.specs.Calls.{Scans, Updates, WritesAll};
 ghost use Rattle.table_store.specs.Runs.{WasClean, listed};
 ghost use Rattle.table_keys.specs.declared.condition.Condition.{Condition};
 
@@ -241,8 +245,8 @@ impl<S: Alter + Drop> TableStore<S> {
         Ok(key)
     }
 
-    /// Puts an item under its key if the condition holds there, and returns the key and the item that
-    /// was there, which has the same key.
+    /// Puts an item under its key if the condition holds there, and returns the key and the item
+    /// that was there, which has the same key.
     ///
     /// # Errors
     ///
@@ -326,14 +330,16 @@ impl<S: Alter + Drop> TableStore<S> {
         change: F,
     ) -> Result<(), E>
         requires { F.IsAlwaysCallable change }
-        ensures changes { OnOk result (KeepsKey (FnOnceReturnsAt F.FnOnce change) (schema_of self.old) key.now) }
+        ensures changes { OnOk result
+            (KeepsKey (FnOnceReturnsAt F.FnOnce change) (schema_of self.old) key.now) }
         ensures err { IfErr result (FailsToChange E.from_gives (FnOnceReturnsAt F.FnOnce change)) }
         ensures given { OnOk result (KeepsKey
             (OfKey (FnOnceReturnsAt F.FnOnce change) (schema_of self.old) key.now)
             (schema_of self.old) key.now) }
         ensures schema { schema_of self.new ≡ schema_of self.old }
-        ensures ran { Ran S.Store (Updates S.Store E.from_gives (FnOnceReturnsAt F.FnOnce change) key.now)
-            self.old self.new result }
+        ensures ran { Ran S.Store
+            (Updates S.Store E.from_gives (FnOnceReturnsAt F.FnOnce change) key.now) self.old
+            self.new result }
     {
         let Some(item) = self.get(key)? else {
             return Err(E::from(StoreError::Key(TableError::NoItem)));
@@ -363,13 +369,14 @@ impl<S: Alter + Drop> TableStore<S> {
     /// # Errors
     ///
     /// Returns [`StoreError::Unreadable`] if the text of an item can't be read, and
-    /// [`StoreError::Key`] if an item has no key of the table. An item with another key than its row
-    /// is left out if the query doesn't find that key.
+    /// [`StoreError::Key`] if an item has no key of the table. An item with another key than its
+    /// row is left out if the query doesn't find that key.
     ///
     /// Returns [`StoreError::Database`] if the database fails, and [`StoreError::OutOfMemory`] if
     /// memory runs out.
     pub fn query(&mut self, query: &Query<'_>) -> Result<Vec<Item>, StoreError>
-        ensures found { IfOk result (λ items. All (IsFound (schema_of self.old) query.now) items.items) }
+        ensures found { IfOk result
+            (λ items. All (IsFound (schema_of self.old) query.now) items.items) }
         ensures limit { IfOk result (λ items. length items.items ≤ query.now.limit) }
         ensures errors { IfErr result (QueryFails (schema_of self.old)) }
         ensures schema { schema_of self.new ≡ schema_of self.old }
@@ -393,8 +400,8 @@ impl<S: Alter + Drop> TableStore<S> {
     ///
     /// # Errors
     ///
-    /// Returns [`StoreError::Unreadable`] if the text of an item can't be read, or if an item of the
-    /// page has no key or one that isn't behind the key before it: then no call of `TableStore`
+    /// Returns [`StoreError::Unreadable`] if the text of an item can't be read, or if an item of
+    /// the page has no key or one that isn't behind the key before it: then no call of `TableStore`
     /// wrote one of the rows.
     ///
     /// Returns [`StoreError::Database`] if the database fails, and [`StoreError::OutOfMemory`] if

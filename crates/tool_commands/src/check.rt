@@ -20,7 +20,8 @@ use std::mem;
 /// Returns the error of reading the input, [`Failure::NotJson`] if it isn't JSON, and
 /// [`Failure::Fault`] if it is other JSON or if memory runs out.
 pub fn check<R: Input>(alloc: Global, reader: &mut R) -> Result<String, Failure>
-    ensures { (input : Result (List ℕ) Failed) × Reads R.read_gives calls reader.old input reader.new
+    ensures { (input : Result (List ℕ) Failed)
+        × Reads R.read_gives calls reader.old input reader.new
         × OfJson ChecksJson input (result_map_both string_bytes reason result) }
 {
     let value = read_stored(alloc, reader)?;

@@ -25,7 +25,8 @@ use std::mem;
 /// Returns the error of reading the input, [`Failure::NotJson`] if it isn't JSON, and
 /// [`Failure::Fault`] if it can't be written as an attribute value or if memory runs out.
 pub fn to_dynamo<R: Input>(alloc: Global, reader: &mut R) -> Result<String, Failure>
-    ensures { (input : Result (List ℕ) Failed) × Reads R.read_gives calls reader.old input reader.new
+    ensures { (input : Result (List ℕ) Failed)
+        × Reads R.read_gives calls reader.old input reader.new
         × OfJson ToDynamo input (result_map_both string_bytes reason result) }
 {
     let json = read_json(alloc, reader)?;
@@ -67,7 +68,8 @@ fn dynamo_via_value(alloc: Global, json: Value) -> Result<String, Failure>
 /// [`Failure::Fault`] if it is other JSON, if the attribute value isn't read as plain JSON, or if
 /// memory runs out.
 pub fn to_plain<R: Input>(alloc: Global, reader: &mut R) -> Result<String, Failure>
-    ensures { (input : Result (List ℕ) Failed) × Reads R.read_gives calls reader.old input reader.new
+    ensures { (input : Result (List ℕ) Failed)
+        × Reads R.read_gives calls reader.old input reader.new
         × OfJson ToPlain input (result_map_both string_bytes reason result) }
 {
     let value = read_stored(alloc, reader)?;
@@ -102,7 +104,8 @@ fn plain_via_json(alloc: Global, value: AttributeValue) -> Result<String, Failur
 
 // The text and a line feed.
 fn line_of(text: String) -> Result<String, Failure>
-    ensures { MatchResult result (λ line. string_bytes line ≡ string_bytes text ++ 10 ∷ []) (λ e. reason e ≡ no_memory) }
+    ensures { MatchResult result (λ line. string_bytes line ≡ string_bytes text ++ 10 ∷ [])
+        (λ e. reason e ≡ no_memory) }
 {
     let mut line = text;
     line.push('\n')?;

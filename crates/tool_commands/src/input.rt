@@ -27,7 +27,8 @@ pub trait Input {
 
 impl<R: Read> Input for R {
     ghost read_gives = { λ r room answer s. MatchResult answer
-        (λ bytes. Consumes (R.remaining r) (R.remaining s) bytes × (bytes ≡ [] → 0 < room → IsAtEnd (R.remaining s)))
+        (λ bytes. Consumes (R.remaining r) (R.remaining s) bytes
+        × (bytes ≡ [] → 0 < room → IsAtEnd (R.remaining s)))
         (λ _. Keeps (R.remaining r) (R.remaining s)) };
 
     fn read(&mut self, buf: &mut [u8]) -> io::Result<usize> {

@@ -25,7 +25,8 @@ use std::alloc::{AllocError, Global};
 /// Returns the error of reading the input, [`Failure::NotJson`] if it isn't UTF-8 or isn't JSON,
 /// and [`Failure::Fault`] if memory runs out.
 pub fn read_json<R: Input>(alloc: Global, reader: &mut R) -> Result<Value, Failure>
-    ensures { (input : Result (List ℕ) Failed) × Reads R.read_gives calls reader.old input reader.new
+    ensures { (input : Result (List ℕ) Failed)
+        × Reads R.read_gives calls reader.old input reader.new
         × ReadsJson input (result_map_both view reason result) }
 {
     let bytes = read_to_end(alloc, reader)?;
@@ -62,7 +63,9 @@ pub fn json_line(alloc: Global, json: &Value) -> Result<String, AllocError>
 ///
 /// Returns [`ErrorImpl::OutOfMemory`](serde_dynamo::ErrorImpl::OutOfMemory) if memory runs out.
 pub fn dynamo_line(alloc: Global, value: &AttributeValue) -> serde_dynamo::Result<String>
-    ensures { MatchResult result (λ line. string_bytes line ≡ text.json_line (json_of (av.view value.now))) (λ e. fault_of e ≡ out_of_memory) }
+    ensures { MatchResult result
+        (λ line. string_bytes line ≡ text.json_line (json_of (av.view value.now)))
+        (λ e. fault_of e ≡ out_of_memory) }
 {
     let mut line = value.to_json_text(alloc)?;
     line.push('\n')?;

@@ -22,7 +22,8 @@ const ROOM: usize = 65_536;
 /// Returns [`Failure::Read`] if a call fails or the calls are used up, and [`Failure::Fault`] if
 /// memory runs out.
 pub fn read_to_end<R: Input>(alloc: Global, reader: &mut R) -> Result<Vec<u8>, Failure>
-    ensures { Reads R.read_gives calls reader.old (result_map_both (λ v. v.items) reason result) reader.new }
+    ensures { Reads R.read_gives calls reader.old (result_map_both (λ v. v.items) reason result)
+        reader.new }
 {
     let mut room = [0; ROOM];
     let mut bytes = Vec::new(alloc);

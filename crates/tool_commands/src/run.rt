@@ -28,8 +28,10 @@ pub fn run<R: Input, W: Output>(
     reader: &mut R,
     writer: &mut W,
 ) -> u8
-    ensures runs { Runs R.read_gives W.write_gives (command_of (map string_bytes words.now)) reader.old reader.new writer.old writer.new result }
-    ensures on_known { RunsOnKnown R.read_gives W.write_gives (command_of (map string_bytes words.now)) reader.old writer.old writer.new result }
+    ensures runs { Runs R.read_gives W.write_gives (command_of (map string_bytes words.now))
+        reader.old reader.new writer.old writer.new result }
+    ensures on_known { RunsOnKnown R.read_gives W.write_gives
+        (command_of (map string_bytes words.now)) reader.old writer.old writer.new result }
 {
     match command_of(words) {
         Some(Command::User(id, name, age)) => {
@@ -51,7 +53,8 @@ pub fn lack_memory<W: Output>(writer: &mut W) -> u8
 
 // Prints the output of a command, or the line of its failure.
 fn print_answer<W: Output>(alloc: Global, writer: &mut W, answer: Result<String, Failure>) -> u8
-    ensures { (text : List ℕ) × (status : ℕ) × Tells (result_map_both string_bytes reason answer) text status
+    ensures { (text : List ℕ) × (status : ℕ)
+        × Tells (result_map_both string_bytes reason answer) text status
         × Prints W.write_gives writer.old writer.new text status result }
 {
     match answer {
@@ -64,7 +67,9 @@ fn print_answer<W: Output>(alloc: Global, writer: &mut W, answer: Result<String,
 }
 
 fn error_line(alloc: Global, failure: &Failure) -> Result<String, AllocError>
-    ensures { IfOk result (λ line. IfSome (reason_text (reason failure.now)) (λ text. string_bytes line ≡ lines.error_line text)) }
+    ensures { IfOk result
+        (λ line. IfSome (reason_text (reason failure.now))
+        (λ text. string_bytes line ≡ lines.error_line text)) }
 {
     let mut line = String::new(alloc);
     writeln!(line, "error: {failure}")?;

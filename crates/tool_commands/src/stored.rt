@@ -20,7 +20,8 @@ use std::str;
 /// Returns the error of reading the input, [`Failure::NotJson`] if it isn't UTF-8 or isn't JSON,
 /// and [`Failure::Fault`] if it is other JSON or if memory runs out.
 pub fn read_stored<R: Input>(alloc: Global, reader: &mut R) -> Result<AttributeValue, Failure>
-    ensures { (input : Result (List ℕ) Failed) × Reads R.read_gives calls reader.old input reader.new
+    ensures { (input : Result (List ℕ) Failed)
+        × Reads R.read_gives calls reader.old input reader.new
         × OfJson Stands input (result_map_both view reason result) }
 {
     let bytes = read_to_end(alloc, reader)?;

@@ -37,7 +37,9 @@ pub fn user_lines(alloc: Global, id: &str, name: &str, age: u8) -> Result<String
 // The line of a field: its name, its kind and its string.
 fn push_line(text: &mut String, item: &Item, name: &str) -> Result<(), AllocError>
     ensures { MatchResult result
-        (λ _. string_bytes text.new ≡ string_bytes text.old ++ line_at name.now (option_map view (get_by_text (map_of item.now) name.now)))
+        (λ _. string_bytes text.new
+        ≡ string_bytes text.old
+        ++ line_at name.now (option_map view (get_by_text (map_of item.now) name.now)))
         (λ _. Unit {0}) }
 {
     match item.get(name) {

@@ -25,7 +25,8 @@ impl<E: From<TypedStoreError>> From<StoreError> for Failed<E> {
 ///
 /// # Errors
 ///
-/// `Value` if the item can't be read, the error of `change`, and `Value` if what it makes can't be written.
+/// `Value` if the item can't be read, the error of `change`, and `Value` if what it makes can't be
+/// written.
 pub(crate) fn changed<T: AsItem, E: From<TypedStoreError>, F: FnOnce(T) -> Result<T, E>>(
     alloc: Global,
     item: &Item,

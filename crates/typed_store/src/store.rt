@@ -4,9 +4,13 @@ ghost use Rattle.std.specs.Option.{option_copied};
 ghost use Rattle.table_keys.specs.KeyOf.{words_of};
 ghost use Rattle.table_keys.specs.Conditions.{holds};
 ghost use Rattle.typed_table.specs.Stored.{IsKeyOf};
-ghost use Rattle.typed_store.specs.Stored.{FailsToChange, FailsToKey, KeepsKey, NeedsKey, ReadsAs, SaysKeyOf};
-ghost use Rattle.typed_store.specs.Stored.{WasReadAt, WereFound, WereRead, WereScanned, schema_of, store_of, table_of};
-ghost use Rattle.typed_store.specs.Calls.{CountsValues, DeletesValue, GetsValue, GotAgain, Located, PutsValue, PutsValueIf, ReadsEach, ScansValues, UpdatesValue};
+ghost use Rattle.typed_store.specs.Stored.{FailsToChange, FailsToKey, KeepsKey, NeedsKey, ReadsAs};
+ghost use Rattle.typed_store.specs.Stored.{SaysKeyOf};
+ghost use Rattle.typed_store.specs.Stored.{WasReadAt, WereFound, WereRead, WereScanned, schema_of};
+ghost use Rattle.typed_store.specs.Stored.{store_of, table_of};
+ghost use Rattle.typed_store.specs.Calls.{CountsValues, DeletesValue, GetsValue, GotAgain, Located};
+ghost use Rattle.typed_store.specs.Calls.{PutsValue, PutsValueIf, ReadsEach, ScansValues};
+ghost use Rattle.typed_store.specs.Calls.{UpdatesValue};
 ghost use Rattle.typed_store.specs.Faults.{QueryFails, StoreFails};
 ghost use Rattle.table_store.specs.Calls.{GetsAt, Ran, Scans};
 ghost use Rattle.table_store.specs.Faults.{CreateFails};
@@ -140,7 +144,8 @@ impl<T: AsItem + Keyed, S: Alter + Drop> TypedStore<T, S> {
     /// Returns either with `OutOfMemory` if memory runs out.
     pub fn key_of(&self, value: &T) -> Result<Key, TypedStoreError>
         ensures ok { IfOk result (IsKeyOf T.written (schema_of self.now) value.now) }
-        ensures err { IfErr result (FailsToKey T.written T.unwritten (schema_of self.now) value.now) }
+        ensures err { IfErr result
+            (FailsToKey T.written T.unwritten (schema_of self.now) value.now) }
     {
         let item = value.to_item(self.alloc)?;
         Ok(self.store.key_of(&item)?)
@@ -192,7 +197,8 @@ impl<T: AsItem + Keyed, S: Alter + Drop> TypedStore<T, S> {
         value: &T,
     ) -> Result<(Key, bool), TypedStoreError>
         ensures condition { IfOk result (λ done. holds condition done.1 ≡ true) }
-        ensures key { IfOk result (λ done. IsKeyOf T.written (schema_of self.old) value.now done.0) }
+        ensures key { IfOk result
+            (λ done. IsKeyOf T.written (schema_of self.old) value.now done.0) }
         ensures needs { NeedsKey T.written T.unwritten (schema_of self.old) value.now result }
         ensures schema { schema_of self.new ≡ schema_of self.old }
         ensures ran { Ran S.Store (PutsValueIf S.Store T.written T.unwritten condition value.now)
@@ -230,7 +236,8 @@ impl<T: AsItem + Keyed, S: Alter + Drop> TypedStore<T, S> {
     ///
     /// # Errors
     ///
-    /// Returns the error of [`get`](Self::get), with the place in the item of an error of reading it.
+    /// Returns the error of [`get`](Self::get), with the place in the item of an error of reading
+    /// it.
     pub fn get_located(&mut self, key: &Key) -> Result<Option<T>, LocatedError<TypedStoreError>>
         ensures read { IfOk result (λ found. IfSome found
             (WasReadAt T.reads_item (schema_of self.old) key.now)) }
@@ -298,12 +305,13 @@ impl<T: AsItem + Keyed, S: Alter + Drop> TypedStore<T, S> {
         change: F,
     ) -> Result<(), E>
         requires { F.IsAlwaysCallable change }
-        ensures changes { OnOk result (KeepsKey T.written T.reads_item (F.post change) (schema_of self.old) key.now) }
+        ensures changes { OnOk result
+            (KeepsKey T.written T.reads_item (F.post change) (schema_of self.old) key.now) }
         ensures err { IfErr result (FailsToChange T.reads_item (F.post change) E.from_gives) }
         ensures schema { schema_of self.new ≡ schema_of self.old }
         ensures ran { Ran S.Store
-            (UpdatesValue S.Store T.written T.unwritten T.reads_item (F.post change) E.from_gives key.now)
-            (store_of self.old) (store_of self.new) result }
+            (UpdatesValue S.Store T.written T.unwritten T.reads_item (F.post change) E.from_gives
+            key.now) (store_of self.old) (store_of self.new) result }
     {
         let alloc = self.alloc;
         match self
@@ -324,7 +332,8 @@ impl<T: AsItem + Keyed, S: Alter + Drop> TypedStore<T, S> {
     ///
     /// Returns [`TypedStoreError::Store`] with the error of [`TableStore::query`].
     pub fn query(&mut self, query: &Query<'_>) -> Result<Vec<T>, TypedStoreError>
-        ensures found { IfOk result (λ values. WereFound T.reads_item (schema_of self.old) query.now values.items) }
+        ensures found { IfOk result
+            (λ values. WereFound T.reads_item (schema_of self.old) query.now values.items) }
         ensures errors { IfErr result (QueryFails T.reads_item (schema_of self.old) query.now) }
         ensures schema { schema_of self.new ≡ schema_of self.old }
     {
@@ -332,8 +341,8 @@ impl<T: AsItem + Keyed, S: Alter + Drop> TypedStore<T, S> {
         self.values_from(found)
     }
 
-    /// Returns the values that a query finds as [`query`](Self::query) does, and says where an error was
-    /// found. The place begins with the index of the value, as `[7].orders[3].price`.
+    /// Returns the values that a query finds as [`query`](Self::query) does, and says where an
+    /// error was found. The place begins with the index of the value, as `[7].orders[3].price`.
     ///
     /// # Errors
     ///
@@ -342,8 +351,10 @@ impl<T: AsItem + Keyed, S: Alter + Drop> TypedStore<T, S> {
         &mut self,
         query: &Query<'_>,
     ) -> Result<Vec<T>, LocatedError<TypedStoreError>>
-        ensures found { IfOk result (λ values. WereFound T.reads_item (schema_of self.old) query.now values.items) }
-        ensures errors { IfErr result (λ e. QueryFails T.reads_item (schema_of self.old) query.now e.error) }
+        ensures found { IfOk result
+            (λ values. WereFound T.reads_item (schema_of self.old) query.now values.items) }
+        ensures errors { IfErr result
+            (λ e. QueryFails T.reads_item (schema_of self.old) query.now e.error) }
         ensures schema { schema_of self.new ≡ schema_of self.old }
     {
         match self.query(query) {
@@ -386,8 +397,8 @@ impl<T: AsItem + Keyed, S: Alter + Drop> TypedStore<T, S> {
         self.values_from(found)
     }
 
-    /// Returns a page of all values as [`scan`](Self::scan) does, and says where an error was found.
-    /// The place begins with the index of the value in the page.
+    /// Returns a page of all values as [`scan`](Self::scan) does, and says where an error was
+    /// found. The place begins with the index of the value in the page.
     ///
     /// # Errors
     ///
@@ -485,7 +496,8 @@ impl<T: AsItem + Keyed, S: Alter + Drop> TypedStore<T, S> {
 
     // Reads a value from each of these items, whose parts it moves.
     fn values_from(&self, found: Vec<Item>) -> Result<Vec<T>, TypedStoreError>
-        ensures read { IfOk result (λ values. AllZip (ReadsAs T.reads_item) found.items values.items) }
+        ensures read { IfOk result
+            (λ values. AllZip (ReadsAs T.reads_item) found.items values.items) }
         ensures exact { ReadsEach T.reads_item found.items (listed result) }
     {
         let mut values = Vec::with_capacity(self.alloc, found.len())?;

@@ -19,8 +19,8 @@ use std::alloc::Global;
 /// A type whose values are written as items and read from items.
 ///
 /// Every [`Shaped`] type is one. If its shape is clear, its values read back the same. A type that
-/// derives serde's traits becomes one by two methods that call `dynamo_serde`, and by a third one if
-/// errors should have places. Nothing is promised of what they write and read.
+/// derives serde's traits becomes one by two methods that call `dynamo_serde`, and by a third one
+/// if errors should have places. Nothing is promised of what they write and read.
 ///
 /// # Examples
 ///
@@ -77,7 +77,8 @@ pub trait AsItem: Sized + Drop {
     /// Returns [`ErrorImpl::OutOfMemory`](dynamo_value::ErrorImpl::OutOfMemory) if memory runs out.
     fn to_item(&self, alloc: Global) -> Result<Item>
         ensures ok { IfOk result (written self.now) }
-        ensures err { IfErr result (λ e. unwritten self.now (fault_of e) ⊎ (fault_of e ≡ out_of_memory)) };
+        ensures err { IfErr result
+            (λ e. unwritten self.now (fault_of e) ⊎ (fault_of e ≡ out_of_memory)) };
 
     /// Reads a value from a borrowed item.
     ///

@@ -30,7 +30,9 @@ use table_keys::Key;
 /// Returns [`ErrorImpl::OutOfMemory`](dynamo_value::ErrorImpl::OutOfMemory) if memory runs out.
 pub fn item_of<T: Shaped>(alloc: Global, value: &T) -> Result<Item>
     ensures ok { IfOk result (λ item. IsItemOf T.about.shape T.tells value.now item) }
-    ensures err { IfErr result (λ e. (item_written (T.tells value.now) ≡ Err (fault_of e)) ⊎ (fault_of e ≡ out_of_memory)) }
+    ensures err { IfErr result
+        (λ e. (item_written (T.tells value.now) ≡ Err (fault_of e))
+        ⊎ (fault_of e ≡ out_of_memory)) }
 {
     value.conforms();
     to_item(alloc, value)
@@ -80,7 +82,9 @@ pub fn value_from<T: Shaped>(alloc: Global, item: Item) -> Result<T>
 /// runs out.
 pub(crate) fn values_of<T: AsItem>(alloc: Global, found: &[(&Key, &Item)]) -> Result<Vec<T>>
     ensures read { IfOk result (λ values. ReadEach T.reads_item (seen found.now) values.items) }
-    ensures err { IfErr result (λ e. (fault_of e ≡ out_of_memory) ⊎ RefusesFirst T.reads_item (fault_of e) (seen found.now)) }
+    ensures err { IfErr result
+        (λ e. (fault_of e ≡ out_of_memory)
+        ⊎ RefusesFirst T.reads_item (fault_of e) (seen found.now)) }
 {
     let mut values = Vec::with_capacity(alloc, found.len())?;
     for (_, item) in found {

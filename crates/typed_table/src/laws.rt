@@ -28,7 +28,8 @@ pub fn put_then_get<T: AsItem + Keyed>(
     value: &T,
 ) -> Result<Option<T>, TypedTableError>
     ensures back { T.reads_back → IfOk result (λ found. MatchOption found ⊥ (T.alike value.now)) }
-    ensures err { IfErr result (λ e. FailsToPut T.written T.unwritten (schema_of (table_of table.old)) value.now e
+    ensures err { IfErr result
+        (λ e. FailsToPut T.written T.unwritten (schema_of (table_of table.old)) value.now e
         ⊎ FailsToReread T.written T.reads_item value.now e) }
 {
     let key = table.put(value)?;
@@ -40,8 +41,10 @@ pub fn put_then_get<T: AsItem + Keyed>(
 pub fn of_shaped<T: Shaped>()
     ensures back { Clear T.about.shape → ⟦<T as AsItem>⟧.reads_back }
     ensures alike { (v w : T) → ⟦<T as AsItem>⟧.alike v w → T.about.same v w }
-    ensures written { (v : T) (item : Item) → ⟦<T as AsItem>⟧.written v item → IsItemOf T.about.shape T.tells v item }
-    ensures unwritten { (v : T) (f : Fault) → ⟦<T as AsItem>⟧.unwritten v f → item_written (T.tells v) ≡ Err f }
+    ensures written { (v : T) (item : Item) → ⟦<T as AsItem>⟧.written v item
+        → IsItemOf T.about.shape T.tells v item }
+    ensures unwritten { (v : T) (f : Fault) → ⟦<T as AsItem>⟧.unwritten v f
+        → item_written (T.tells v) ≡ Err f }
     ensures reads { (item : Item) (r : Result T Fault) → ⟦<T as AsItem>⟧.reads_item item r
         → T.reads (attribute (av.M (item_view item))) r }
 {}

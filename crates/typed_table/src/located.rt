@@ -6,8 +6,8 @@ use dynamo_value::{Error, Item};
 use std::alloc::Global;
 use table_keys::Key;
 
-/// Returns the place in an item where reading it as the type returns this error. It is `None` if the
-/// item can be read, or if reading it returns another error, as if memory runs out.
+/// Returns the place in an item where reading it as the type returns this error. It is `None` if
+/// the item can be read, or if reading it returns another error, as if memory runs out.
 pub fn place_of_error<T: AsItem>(alloc: Global, item: &Item, error: &Error) -> Option<Place> {
     match T::read_item_located(alloc, item) {
         Ok(_value) => None,

@@ -1,4 +1,5 @@
-ghost use Rattle.std.specs.Prelude.{◌≡◌, ◌⊎◌, ◌↔◌, [], None, true, length, is_some, option_map, IsTrue};
+ghost use Rattle.std.specs.Prelude.{◌≡◌, ◌⊎◌, ◌↔◌, [], None, true, length, is_some, option_map};
+ghost use Rattle.std.specs.Prelude.{IsTrue};
 ghost use Rattle.std.specs.Prelude.{IfOk, IfErr, OnOk, OnErr, MatchOption, MatchResult};
 ghost use Rattle.std.specs.BTreeMap.{get, Updates};
 ghost use Rattle.dynamo_value.specs.Fault.{out_of_memory};
@@ -8,7 +9,8 @@ ghost use Rattle.table_keys.specs.KeyOrder.{key_cmp};
 ghost use Rattle.table_keys.specs.Conditions.{holds};
 ghost use Rattle.table_keys.specs.Queries.{answer};
 ghost use Rattle.memory_table.specs.Content.{entries_of, items_of, schema_of};
-ghost use Rattle.typed_table.specs.Stored.{DeletesIf, FailsCondition, FailsToPut, FailsToRead, Holds, IsKeyOf};
+ghost use Rattle.typed_table.specs.Stored.{DeletesIf, FailsCondition, FailsToPut, FailsToRead};
+ghost use Rattle.typed_table.specs.Stored.{Holds, IsKeyOf};
 ghost use Rattle.typed_table.specs.Stored.{OthersStay, ReadEach, ReadsAt, page, table_of};
 ghost use Rattle.dynamo_place.specs.Placed.{without_place};
 ghost use Rattle.typed_table.specs.Updated.{FailsToUpdate, UpdatesValue};
@@ -142,7 +144,8 @@ impl<T: AsItem + Keyed> TypedTable<T> {
     /// Returns either with `OutOfMemory` if memory runs out.
     pub fn key_of(&self, value: &T) -> std::result::Result<Key, TypedTableError>
         ensures ok { IfOk result (IsKeyOf T.written (schema_of (table_of self.now)) value.now) }
-        ensures err { IfErr result (FailsToPut T.written T.unwritten (schema_of (table_of self.now)) value.now) }
+        ensures err { IfErr result
+            (FailsToPut T.written T.unwritten (schema_of (table_of self.now)) value.now) }
     {
         let item = value.to_item(self.alloc)?;
         Ok(self.table.key_of(&item)?)
@@ -161,7 +164,8 @@ impl<T: AsItem + Keyed> TypedTable<T> {
         partition: &str,
         sort: Option<&str>,
     ) -> std::result::Result<Key, TableError>
-        ensures { SaysKey (schema_of (table_of self.now)) partition.now (option_map (λ w. w.now) sort.entry) result }
+        ensures { SaysKey (schema_of (table_of self.now)) partition.now
+            (option_map (λ w. w.now) sort.entry) result }
     {
         self.table.schema().key_from(self.alloc, partition, sort)
     }
@@ -177,9 +181,12 @@ impl<T: AsItem + Keyed> TypedTable<T> {
     /// Returns either with `OutOfMemory` if memory runs out. The table is unchanged after an error.
     pub fn put(&mut self, value: &T) -> std::result::Result<Key, TypedTableError>
         ensures holds { IfOk result (λ key. Holds T.written (table_of self.new) key value.now) }
-        ensures others { IfOk result (λ key. OthersStay key (table_of self.old) (table_of self.new)) }
-        ensures err { IfErr result (λ e. FailsToPut T.written T.unwritten (schema_of (table_of self.old)) value.now e) }
-        ensures unchanged { OnErr result (entries_of (table_of self.new) ≡ entries_of (table_of self.old)) }
+        ensures others { IfOk result
+            (λ key. OthersStay key (table_of self.old) (table_of self.new)) }
+        ensures err { IfErr result
+            (λ e. FailsToPut T.written T.unwritten (schema_of (table_of self.old)) value.now e) }
+        ensures unchanged { OnErr result
+            (entries_of (table_of self.new) ≡ entries_of (table_of self.old)) }
         ensures schema { schema_of (table_of self.new) ≡ schema_of (table_of self.old) }
     {
         let item = value.to_item(self.alloc)?;
@@ -201,10 +208,13 @@ impl<T: AsItem + Keyed> TypedTable<T> {
         ensures condition { IfOk result (λ key.
             holds condition (is_some (get key_cmp (items_of (table_of self.old)) key)) ≡ true) }
         ensures holds { IfOk result (λ key. Holds T.written (table_of self.new) key value.now) }
-        ensures others { IfOk result (λ key. OthersStay key (table_of self.old) (table_of self.new)) }
-        ensures err { IfErr result (λ e. FailsToPut T.written T.unwritten (schema_of (table_of self.old)) value.now e
+        ensures others { IfOk result
+            (λ key. OthersStay key (table_of self.old) (table_of self.new)) }
+        ensures err { IfErr result
+            (λ e. FailsToPut T.written T.unwritten (schema_of (table_of self.old)) value.now e
             ⊎ FailsCondition T.written condition (table_of self.old) value.now e) }
-        ensures unchanged { OnErr result (entries_of (table_of self.new) ≡ entries_of (table_of self.old)) }
+        ensures unchanged { OnErr result
+            (entries_of (table_of self.new) ≡ entries_of (table_of self.old)) }
         ensures schema { schema_of (table_of self.new) ≡ schema_of (table_of self.old) }
     {
         let item = value.to_item(self.alloc)?;
@@ -223,9 +233,12 @@ impl<T: AsItem + Keyed> TypedTable<T> {
     ///
     /// Returns [`ErrorImpl::OutOfMemory`](dynamo_value::ErrorImpl::OutOfMemory) if memory runs out.
     pub fn get(&self, key: &Key) -> Result<Option<T>>
-        ensures read { ReadsAt T.reads_item (get key_cmp (items_of (table_of self.now)) key.now) result }
-        ensures clear { T.reads_back → (value : T) → Holds T.written (table_of self.now) key.now value
-            → MatchResult result (λ found. MatchOption found ⊥ (T.alike value)) (λ e. fault_of e ≡ out_of_memory) }
+        ensures read { ReadsAt T.reads_item (get key_cmp (items_of (table_of self.now)) key.now)
+            result }
+        ensures clear { T.reads_back → (value : T)
+            → Holds T.written (table_of self.now) key.now value
+            → MatchResult result (λ found. MatchOption found ⊥ (T.alike value))
+            (λ e. fault_of e ≡ out_of_memory) }
     {
         match self.table.get(key) {
             Some(item) => Ok(Some(T::read_item(self.alloc, item)?)),
@@ -242,7 +255,8 @@ impl<T: AsItem + Keyed> TypedTable<T> {
     pub fn get_located(&self, key: &Key) -> std::result::Result<Option<T>, LocatedError<Error>>
         ensures read { ReadsAt T.reads_item (get key_cmp (items_of (table_of self.now)) key.now)
             (without_place result) }
-        ensures clear { T.reads_back → (value : T) → Holds T.written (table_of self.now) key.now value
+        ensures clear { T.reads_back → (value : T)
+            → Holds T.written (table_of self.now) key.now value
             → MatchResult result (λ found. MatchOption found ⊥ (T.alike value))
             (λ e. fault_of e.error ≡ out_of_memory) }
     {
@@ -262,7 +276,8 @@ impl<T: AsItem + Keyed> TypedTable<T> {
     /// Deletes the value under a key, and returns whether there was one.
     pub fn delete(&mut self, key: &Key) -> bool
         ensures answer { result ≡ is_some (get key_cmp (items_of (table_of self.old)) key.now) }
-        ensures updates { Updates key_cmp (items_of (table_of self.old)) (items_of (table_of self.new)) key.now None }
+        ensures updates { Updates key_cmp (items_of (table_of self.old))
+            (items_of (table_of self.new)) key.now None }
         ensures schema { schema_of (table_of self.new) ≡ schema_of (table_of self.old) }
     {
         self.table.delete(key).is_some()
@@ -279,7 +294,8 @@ impl<T: AsItem + Keyed> TypedTable<T> {
         condition: Condition,
         key: &Key,
     ) -> std::result::Result<bool, TableError>
-        ensures deletes { DeletesIf condition key.now (table_of self.old) (table_of self.new) result }
+        ensures deletes { DeletesIf condition key.now (table_of self.old) (table_of self.new)
+            result }
         ensures schema { schema_of (table_of self.new) ≡ schema_of (table_of self.old) }
     {
         Ok(self.table.delete_if(condition, key)?.is_some())
@@ -309,9 +325,11 @@ impl<T: AsItem + Keyed> TypedTable<T> {
         ensures updates { OnOk result (UpdatesValue T.written T.reads_item (F.post change) key.now
             (table_of self.old) (table_of self.new)) }
         ensures others { OnOk result (OthersStay key.now (table_of self.old) (table_of self.new)) }
-        ensures err { IfErr result (FailsToUpdate T.written T.unwritten T.reads_item (F.post change) E.from_gives key.now
+        ensures err { IfErr result
+            (FailsToUpdate T.written T.unwritten T.reads_item (F.post change) E.from_gives key.now
             (table_of self.old)) }
-        ensures unchanged { OnErr result (entries_of (table_of self.new) ≡ entries_of (table_of self.old)) }
+        ensures unchanged { OnErr result
+            (entries_of (table_of self.new) ≡ entries_of (table_of self.old)) }
         ensures schema { schema_of (table_of self.new) ≡ schema_of (table_of self.old) }
     {
         let alloc = self.alloc;
@@ -332,15 +350,18 @@ impl<T: AsItem + Keyed> TypedTable<T> {
     ///
     /// Returns [`ErrorImpl::OutOfMemory`](dynamo_value::ErrorImpl::OutOfMemory) if memory runs out.
     pub fn query(&self, query: &Query<'_>) -> Result<Vec<T>>
-        ensures read { IfOk result (λ values. ReadEach T.reads_item (answer query.now (entries_of (table_of self.now))) values.items) }
-        ensures err { IfErr result (FailsToRead T.reads_item (answer query.now (entries_of (table_of self.now)))) }
+        ensures read { IfOk result
+            (λ values. ReadEach T.reads_item (answer query.now (entries_of (table_of self.now)))
+            values.items) }
+        ensures err { IfErr result
+            (FailsToRead T.reads_item (answer query.now (entries_of (table_of self.now)))) }
     {
         let found = self.table.query(self.alloc, query)?;
         values_of(self.alloc, found.as_slice())
     }
 
-    /// Returns the values that a query finds as [`query`](Self::query) does, and says where an error was
-    /// found. The place begins with the index of the value, as `[7].orders[3].price`.
+    /// Returns the values that a query finds as [`query`](Self::query) does, and says where an
+    /// error was found. The place begins with the index of the value, as `[7].orders[3].price`.
     ///
     /// # Errors
     ///
@@ -349,8 +370,12 @@ impl<T: AsItem + Keyed> TypedTable<T> {
         &self,
         query: &Query<'_>,
     ) -> std::result::Result<Vec<T>, LocatedError<Error>>
-        ensures read { IfOk result (λ values. ReadEach T.reads_item (answer query.now (entries_of (table_of self.now))) values.items) }
-        ensures err { IfErr result (λ e. FailsToRead T.reads_item (answer query.now (entries_of (table_of self.now))) e.error) }
+        ensures read { IfOk result
+            (λ values. ReadEach T.reads_item (answer query.now (entries_of (table_of self.now)))
+            values.items) }
+        ensures err { IfErr result
+            (λ e. FailsToRead T.reads_item (answer query.now (entries_of (table_of self.now)))
+            e.error) }
     {
         match self.query(query) {
             Ok(values) => Ok(values),
@@ -374,15 +399,18 @@ impl<T: AsItem + Keyed> TypedTable<T> {
     ///
     /// Returns [`ErrorImpl::OutOfMemory`](dynamo_value::ErrorImpl::OutOfMemory) if memory runs out.
     pub fn scan(&self, limit: usize, start_after: Option<&Key>) -> Result<Vec<T>>
-        ensures read { IfOk result (λ values. ReadEach T.reads_item (page limit start_after.entry (table_of self.now)) values.items) }
-        ensures err { IfErr result (FailsToRead T.reads_item (page limit start_after.entry (table_of self.now))) }
+        ensures read { IfOk result
+            (λ values. ReadEach T.reads_item (page limit start_after.entry (table_of self.now))
+            values.items) }
+        ensures err { IfErr result
+            (FailsToRead T.reads_item (page limit start_after.entry (table_of self.now))) }
     {
         let found = self.table.scan(self.alloc, limit, start_after)?;
         values_of(self.alloc, found.as_slice())
     }
 
-    /// Returns a page of all values as [`scan`](Self::scan) does, and says where an error was found.
-    /// The place begins with the index of the value in the page.
+    /// Returns a page of all values as [`scan`](Self::scan) does, and says where an error was
+    /// found. The place begins with the index of the value in the page.
     ///
     /// # Errors
     ///
@@ -392,8 +420,12 @@ impl<T: AsItem + Keyed> TypedTable<T> {
         limit: usize,
         start_after: Option<&Key>,
     ) -> std::result::Result<Vec<T>, LocatedError<Error>>
-        ensures read { IfOk result (λ values. ReadEach T.reads_item (page limit start_after.entry (table_of self.now)) values.items) }
-        ensures err { IfErr result (λ e. FailsToRead T.reads_item (page limit start_after.entry (table_of self.now)) e.error) }
+        ensures read { IfOk result
+            (λ values. ReadEach T.reads_item (page limit start_after.entry (table_of self.now))
+            values.items) }
+        ensures err { IfErr result
+            (λ e. FailsToRead T.reads_item (page limit start_after.entry (table_of self.now))
+            e.error) }
     {
         match self.scan(limit, start_after) {
             Ok(values) => Ok(values),
@@ -415,7 +447,8 @@ impl<T: AsItem + Keyed> TypedTable<T> {
     ///
     /// Returns [`ErrorImpl::OutOfMemory`](dynamo_value::ErrorImpl::OutOfMemory) if memory runs out.
     pub fn scan_all(&self) -> Result<Vec<T>>
-        ensures read { IfOk result (λ values. ReadEach T.reads_item (entries_of (table_of self.now)) values.items) }
+        ensures read { IfOk result
+            (λ values. ReadEach T.reads_item (entries_of (table_of self.now)) values.items) }
         ensures err { IfErr result (FailsToRead T.reads_item (entries_of (table_of self.now))) }
     {
         let found = self.table.scan_all(self.alloc, self.table.len())?;

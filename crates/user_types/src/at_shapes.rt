@@ -25,8 +25,11 @@ use std::alloc::Global;
 ///
 /// Returns an error that reading by the shape permits, or `OutOfMemory` if memory runs out.
 pub fn value_at_shape<T: Shaped>(alloc: Global, value: AttributeValue) -> Result<T>
-    ensures ok { IfOk result (λ v. Permitted T.about.shape (attribute (view value)) (Ok (T.tells v))) }
-    ensures err { IfErr result (λ e. (fault_of e ≡ out_of_memory) ⊎ Permitted T.about.shape (attribute (view value)) (Err (fault_of e))) }
+    ensures ok { IfOk result
+        (λ v. Permitted T.about.shape (attribute (view value)) (Ok (T.tells v))) }
+    ensures err { IfErr result
+        (λ e. (fault_of e ≡ out_of_memory)
+        ⊎ Permitted T.about.shape (attribute (view value)) (Err (fault_of e))) }
 {
     let read = from_attribute_value::<T>(alloc, value)?;
     read.conforms();
@@ -39,8 +42,11 @@ pub fn value_at_shape<T: Shaped>(alloc: Global, value: AttributeValue) -> Result
 ///
 /// Returns an error that reading by the shape permits, or `OutOfMemory` if memory runs out.
 pub fn item_at_shape<T: Shaped>(alloc: Global, item: Item) -> Result<T>
-    ensures ok { IfOk result (λ v. Permitted T.about.shape (attribute (av.M (item_view item))) (Ok (T.tells v))) }
-    ensures err { IfErr result (λ e. (fault_of e ≡ out_of_memory) ⊎ Permitted T.about.shape (attribute (av.M (item_view item))) (Err (fault_of e))) }
+    ensures ok { IfOk result
+        (λ v. Permitted T.about.shape (attribute (av.M (item_view item))) (Ok (T.tells v))) }
+    ensures err { IfErr result
+        (λ e. (fault_of e ≡ out_of_memory)
+        ⊎ Permitted T.about.shape (attribute (av.M (item_view item))) (Err (fault_of e))) }
 {
     let read = from_item::<T>(alloc, item)?;
     read.conforms();
@@ -53,8 +59,14 @@ pub fn item_at_shape<T: Shaped>(alloc: Global, item: Item) -> Result<T>
 ///
 /// Returns an error that reading by the shape permits, or `OutOfMemory` if memory runs out.
 pub fn items_at_shape<T: Shaped>(alloc: Global, items: Items) -> Result<Vec<T>>
-    ensures ok { IfOk result (λ vs. Permitted (shape.list T.about.shape) (attribute (av.L (av.elements_of (map av.M (items_view items))))) (Ok (datum.seq (datum.elements_of (map T.tells vs.items))))) }
-    ensures err { IfErr result (λ e. (fault_of e ≡ out_of_memory) ⊎ Permitted (shape.list T.about.shape) (attribute (av.L (av.elements_of (map av.M (items_view items))))) (Err (fault_of e))) }
+    ensures ok { IfOk result
+        (λ vs. Permitted (shape.list T.about.shape)
+        (attribute (av.L (av.elements_of (map av.M (items_view items)))))
+        (Ok (datum.seq (datum.elements_of (map T.tells vs.items))))) }
+    ensures err { IfErr result
+        (λ e. (fault_of e ≡ out_of_memory)
+        ⊎ Permitted (shape.list T.about.shape)
+        (attribute (av.L (av.elements_of (map av.M (items_view items))))) (Err (fault_of e))) }
 {
     let read = from_items::<T>(alloc, items)?;
     read.conforms();
@@ -82,7 +94,8 @@ pub fn read_twice<T: Shaped>(
 ) -> (Result<T>, Result<T>)
     ensures first { Meets fault_of (T.reads (attribute (view first))) result.0 }
     ensures second { Meets fault_of (T.reads (attribute (view second))) result.1 }
-    ensures same { view first ≡ view second → Meets fault_of (λ r. Meets fault_of (SameAnswer T.about.same r) result.1) result.0 }
+    ensures same { view first ≡ view second
+        → Meets fault_of (λ r. Meets fault_of (SameAnswer T.about.same r) result.1) result.0 }
 {
     (conforming(alloc, first), conforming(alloc, second))
 }

@@ -3,9 +3,11 @@ ghost use Rattle.std.specs.Prelude.{◌≡◌, refl, Ok, codes};
 ghost use Rattle.serde_dynamo.specs.Answer.{After};
 ghost use Rattle.serde_dynamo.specs.Reading.{read_parts};
 ghost use Rattle.serde_dynamo.specs.Fields.{NamesOne};
-ghost use Rattle.serde_dynamo.specs.Visitors.{claims_str, take_identifier, claims_struct, take_parts};
+ghost use Rattle.serde_dynamo.specs.Visitors.{claims_str, take_identifier, claims_struct};
+ghost use Rattle.serde_dynamo.specs.Visitors.{take_parts};
 ghost use Rattle.dynamo_shape.proofs.TypesByHand.{struct_permitted};
-ghost use Rattle.user_types.specs.GaugeShape.{gauge_told, gauge_field, gauge_parts, gauge_from_parts};
+ghost use Rattle.user_types.specs.GaugeShape.{gauge_told, gauge_field, gauge_parts};
+ghost use Rattle.user_types.specs.GaugeShape.{gauge_from_parts};
 ghost use Rattle.user_types.specs.GaugeShape.{gauge_fields, gauge_named, gauge_listed, about_gauge};
 
 use serde_dynamo::Shaped;
@@ -160,7 +162,8 @@ impl Shaped for Gauge {
 
     ghost as_told = { refl };
 
-    ghost reads_by_shape = { struct_permitted (codes "Gauge") gauge_fields gauge_told gauge_parts gauge_named gauge_listed };
+    ghost reads_by_shape = { struct_permitted (codes "Gauge") gauge_fields gauge_told gauge_parts
+        gauge_named gauge_listed };
 
     fn absent<E: Error>(_alloc: Global) -> Result<Option<Gauge>, E> {
         Ok(None)

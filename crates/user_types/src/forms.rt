@@ -2,8 +2,12 @@
 //! struct.
 ghost use Rattle.std.specs.Prelude.{codes};
 ghost use Rattle.std.proofs.Common.{refl};
-ghost use Rattle.dynamo_record.specs.Newtypes.{about_newtype, newtype_by_shape, newtype_reads, about_unit_struct, unit_struct_by_shape, unit_struct_reads};
-ghost use Rattle.dynamo_record.specs.TupleStructs.{about_tuple_struct, tuple_struct_by_shape, tuple_struct_of, tuple_struct_reads, tuple_struct_tells};
+ghost use Rattle.dynamo_record.specs.Newtypes.{about_newtype, newtype_by_shape, newtype_reads};
+ghost use Rattle.dynamo_record.specs.Newtypes.{about_unit_struct, unit_struct_by_shape};
+ghost use Rattle.dynamo_record.specs.Newtypes.{unit_struct_reads};
+ghost use Rattle.dynamo_record.specs.TupleStructs.{about_tuple_struct, tuple_struct_by_shape};
+ghost use Rattle.dynamo_record.specs.TupleStructs.{tuple_struct_of, tuple_struct_reads};
+ghost use Rattle.dynamo_record.specs.TupleStructs.{tuple_struct_tells};
 
 use dynamo_record::{
     Field, FieldList, TupleStruct, read_newtype, read_tuple_struct, read_unit_struct,
@@ -77,7 +81,8 @@ impl Shaped for Name {
 
     ghost as_told = { refl };
 
-    ghost reads_by_shape = { newtype_by_shape (codes "Name") (λ n. n.0) ⟦<String as Shaped>⟧.about };
+    ghost reads_by_shape = { newtype_by_shape (codes "Name") (λ n. n.0)
+        ⟦<String as Shaped>⟧.about };
 
     fn absent<E: Error>(_alloc: Global) -> Result<Option<Name>, E> {
         Ok(None)
@@ -135,7 +140,8 @@ type PointFields = (Field<u8>, Field<u8>);
 impl TupleStruct for Point {
     type Fields = PointFields;
 
-    ghost about = { tuple_struct_of (codes "Point") (λ s. (record { 0 = s.0 }, record { 0 = s.1 })) ⟦<PointFields as FieldList>⟧.about };
+    ghost about = { tuple_struct_of (codes "Point") (λ s. (record { 0 = s.0 }, record { 0 = s.1 }))
+        ⟦<PointFields as FieldList>⟧.about };
 
     fn name() -> &'static str {
         "Point"

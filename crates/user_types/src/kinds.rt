@@ -35,7 +35,9 @@ impl Serialize for EmptyMap {
 pub struct Pair(pub String, pub String);
 
 impl Serialize for Pair {
-    ghost tells = { λ p. datum.tuple_struct (codes "Pair") (datum.element (datum.string (string_bytes p.0)) (datum.element (datum.string (string_bytes p.1)) datum.no_elements)) };
+    ghost tells = { λ p. datum.tuple_struct (codes "Pair")
+        (datum.element (datum.string (string_bytes p.0))
+        (datum.element (datum.string (string_bytes p.1)) datum.no_elements)) };
 
     fn serialize<S: Serializer>(&self, serializer: S) -> Result<S::Ok, S::Error> {
         let mut state = serializer.serialize_tuple_struct("Pair", 2)?;
@@ -55,7 +57,9 @@ pub struct Twice<T, U> {
 }
 
 impl<T: Serialize, U: Serialize> Serialize for Twice<T, U> {
-    ghost tells = { λ t. datum.struct (codes "Twice") (datum.field (codes "a") (T.tells t.first) (datum.field (codes "a") (U.tells t.second) datum.no_fields)) };
+    ghost tells = { λ t. datum.struct (codes "Twice")
+        (datum.field (codes "a") (T.tells t.first)
+        (datum.field (codes "a") (U.tells t.second) datum.no_fields)) };
 
     fn serialize<S: Serializer>(&self, serializer: S) -> Result<S::Ok, S::Error> {
         let mut state = serializer.serialize_struct("Twice", 2)?;

@@ -78,7 +78,8 @@ pub fn and_back(alloc: Global, value: &AttributeValue) -> Result<AttributeValue>
 /// be written.
 pub fn json_value_and_back(alloc: Global, value: &Value) -> Result<Value>
     ensures back { IfOk result (λ v. has_float (view value.now) ≡ false → view v ≡ view value.now) }
-    ensures err { IfErr result (λ e. has_float (view value.now) ≡ false → fault_of e ≡ out_of_memory) }
+    ensures err { IfErr result
+        (λ e. has_float (view value.now) ≡ false → fault_of e ≡ out_of_memory) }
 {
     laws::json_value();
     let _no_float = is_without_floats(value);

@@ -22,7 +22,9 @@ type StationFields = (Field<String>, Field<Option<u8>>);
 impl Record for Station {
     type Fields = StationFields;
 
-    ghost about = { record_of (codes "Station") (codes "id" ∷ codes "reading" ∷ []) (λ s. (record { 0 = s.id }, record { 0 = s.reading })) ⟦<StationFields as FieldList>⟧.about };
+    ghost about = { record_of (codes "Station") (codes "id" ∷ codes "reading" ∷ [])
+        (λ s. (record { 0 = s.id }, record { 0 = s.reading }))
+        ⟦<StationFields as FieldList>⟧.about };
 
     ghost named = { (refl, refl) };
 

@@ -11,7 +11,9 @@ ghost use Rattle.dynamo_de.specs.Access.{NextElement};
 ghost use Rattle.dynamo_de.specs.Meets.{Meets};
 ghost use Rattle.dynamo_de.specs.OpenedView.{opened_view};
 ghost use Rattle.dynamo_de.specs.Promises.{Agrees};
-ghost use Rattle.dynamo_de.specs.ReadAttribute.{attribute_from, entry_from, opened_from, item_from, content_opened, read_each, read_entries, read_opened};
+ghost use Rattle.dynamo_de.specs.ReadAttribute.{attribute_from, entry_from, opened_from, item_from};
+ghost use Rattle.dynamo_de.specs.ReadAttribute.{content_opened, read_each, read_entries};
+ghost use Rattle.dynamo_de.specs.ReadAttribute.{read_opened};
 ghost use Rattle.dynamo_de.specs.ReadAttribute.{read_texts, read_blob, read_blobs};
 
 use crate::taken::{elements_of, entries_of};
@@ -67,7 +69,8 @@ fn read_opened<R: Reader>(
     alloc: Global,
     opened: Opened<R::Elements, R::Entries>,
 ) -> Result<AttributeValue, R::Error>
-    ensures { Meets R.Error.fault (Agrees view (read_opened (opened_view R.elements R.entries opened))) result }
+    ensures { Meets R.Error.fault
+        (Agrees view (read_opened (opened_view R.elements R.entries opened))) result }
 {
     match opened {
         Opened::Whole(value) => Ok(value),
@@ -81,7 +84,8 @@ fn read_opened<R: Reader>(
 // Opens an attribute value.
 #[inline(never)]
 fn open<R: Reader>(alloc: Global, reader: R) -> Result<Opened<R::Elements, R::Entries>, R::Error>
-    ensures { Meets R.Error.fault (Agrees (opened_view R.elements R.entries) (opened_from (R.source reader))) result }
+    ensures { Meets R.Error.fault
+        (Agrees (opened_view R.elements R.entries) (opened_from (R.source reader))) result }
 {
     let (prefix, content) = read_entry(alloc, reader)?;
     open_content(alloc, prefix, content)
@@ -90,7 +94,8 @@ fn open<R: Reader>(alloc: Global, reader: R) -> Result<Opened<R::Elements, R::En
 // The prefix of an attribute value, and the reader of its content.
 #[inline(never)]
 fn read_entry<R: Reader>(alloc: Global, reader: R) -> Result<(Prefix, R), R::Error>
-    ensures { Meets R.Error.fault (Agrees (λ e. (prefix_view e.0, R.source e.1)) (entry_from (R.source reader))) result }
+    ensures { Meets R.Error.fault
+        (Agrees (λ e. (prefix_view e.0, R.source e.1)) (entry_from (R.source reader))) result }
 {
     let mut entries = entries_of(
         alloc,
@@ -116,7 +121,9 @@ fn open_content<R: Reader>(
     prefix: Prefix,
     content: R,
 ) -> Result<Opened<R::Elements, R::Entries>, R::Error>
-    ensures { Meets R.Error.fault (Agrees (opened_view R.elements R.entries) (content_opened (prefix_view prefix) (R.source content))) result }
+    ensures { Meets R.Error.fault
+        (Agrees (opened_view R.elements R.entries)
+        (content_opened (prefix_view prefix) (R.source content))) result }
 {
     match prefix {
         Prefix::N => Ok(Opened::Whole(AttributeValue::N(String::deserialize(alloc, content)?))),
@@ -143,7 +150,9 @@ fn open_next<R: Reader>(
     alloc: Global,
     elements: &mut R::Elements,
 ) -> Result<Option<Opened<R::Elements, R::Entries>>, R::Error>
-    ensures { NextElement R.Error.fault (λ s. Agrees (opened_view R.elements R.entries) (opened_from s)) (R.elements elements.old) (R.elements elements.new) result }
+    ensures { NextElement R.Error.fault
+        (λ s. Agrees (opened_view R.elements R.entries) (opened_from s)) (R.elements elements.old)
+        (R.elements elements.new) result }
 {
     match R::next_element(elements) {
         None => Ok(None),
@@ -157,7 +166,8 @@ fn read_elements<R: Reader>(
     alloc: Global,
     mut elements: R::Elements,
 ) -> Result<Vec<AttributeValue>, R::Error>
-    ensures { Meets R.Error.fault (Agrees (λ v. map view v.items) (read_each attribute_from (R.elements elements))) result }
+    ensures { Meets R.Error.fault
+        (Agrees (λ v. map view v.items) (read_each attribute_from (R.elements elements))) result }
 {
     let mut values = Vec::new(alloc);
     while let Some(opened) = open_next::<R>(alloc, &mut elements)? {
@@ -176,7 +186,8 @@ fn read_members<R: Reader>(
     alloc: Global,
     mut entries: R::Entries,
 ) -> Result<HashMap<String, AttributeValue>, R::Error>
-    ensures { Meets R.Error.fault (Agrees (λ m. members_view m.entries) (read_entries [] (R.entries entries))) result }
+    ensures { Meets R.Error.fault
+        (Agrees (λ m. members_view m.entries) (read_entries [] (R.entries entries))) result }
 {
     let mut members = HashMap::new(alloc);
     while let Some((key, value)) = R::next_entry(&mut entries) {
@@ -191,14 +202,16 @@ fn read_members<R: Reader>(
 
 // Reads the strings of a sequence, in order.
 fn read_texts<R: Reader>(alloc: Global, reader: R) -> Result<Vec<String>, R::Error>
-    ensures { Meets R.Error.fault (Agrees (λ v. map string_bytes v.items) (read_texts (R.source reader))) result }
+    ensures { Meets R.Error.fault
+        (Agrees (λ v. map string_bytes v.items) (read_texts (R.source reader))) result }
 {
     Vec::deserialize(alloc, reader)
 }
 
 // Reads the byte strings of a sequence of base64 strings, in order.
 fn read_blobs<R: Reader>(alloc: Global, reader: R) -> Result<Vec<Vec<u8>>, R::Error>
-    ensures { Meets R.Error.fault (Agrees (λ v. map (λ b. b.items) v.items) (read_blobs (R.source reader))) result }
+    ensures { Meets R.Error.fault
+        (Agrees (λ v. map (λ b. b.items) v.items) (read_blobs (R.source reader))) result }
 {
     let mut elements = elements_of(alloc, Request::Seq, reader, "a sequence of base64 texts")?;
     let mut blobs = Vec::new(alloc);

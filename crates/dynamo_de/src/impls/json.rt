@@ -39,7 +39,8 @@ fn scalar<R: Reader>(
     alloc: Global,
     shown: Showing<R, R::Elements, R::Entries, R::Choice>,
 ) -> Result<Value, R::Error>
-    ensures { Meets R.Error.fault (Gives view (read_scalar (seen R.source R.elements R.entries R.chosen shown))) result }
+    ensures { Meets R.Error.fault
+        (Gives view (read_scalar (seen R.source R.elements R.entries R.chosen shown))) result }
 {
     match shown {
         Showing::Bool(v) => Ok(Value::Bool(v)),
@@ -64,7 +65,8 @@ fn read_elements<R: Reader>(
     alloc: Global,
     mut elements: R::Elements,
 ) -> Result<Vec<Value>, R::Error>
-    ensures { Meets R.Error.fault (Gives (λ v. items_view v.items) (read_sources (R.elements elements))) result }
+    ensures { Meets R.Error.fault
+        (Gives (λ v. items_view v.items) (read_sources (R.elements elements))) result }
 {
     let mut items = Vec::new(alloc);
     while let Some(element) = R::next_element(&mut elements) {
@@ -81,7 +83,9 @@ fn read_members<R: Reader>(
     alloc: Global,
     mut entries: R::Entries,
 ) -> Result<Map<String, Value>, R::Error>
-    ensures { Meets R.Error.fault (Gives (λ m. members_view m.entries) (read_entries json.no_members (R.entries entries))) result }
+    ensures { Meets R.Error.fault
+        (Gives (λ m. members_view m.entries) (read_entries json.no_members (R.entries entries)))
+        result }
 {
     let mut members = Map::new(alloc);
     while let Some((key, value)) = R::next_entry(&mut entries) {

@@ -25,7 +25,8 @@ trait FromEntries<K, V>: Sized + Drop {
 
     /// Puts a value at its key. An equal key loses the value that it had.
     fn put(&mut self, key: K, value: V) -> Result<(), AllocError>
-        ensures { OnOk result ((k : K) → get self.new k ≡ cond (eq key k) (Some value) (get self.old k)) };
+        ensures { OnOk result
+            ((k : K) → get self.new k ≡ cond (eq key k) (Some value) (get self.old k)) };
 }
 
 impl<K: Eq + Hash + Drop, V: Drop> FromEntries<K, V> for HashMap<K, V> {
@@ -82,14 +83,17 @@ fn read_map<K: Deserialize, V: Deserialize, M: FromEntries<K, V>, R: Reader>(
     alloc: Global,
     reader: R,
 ) -> Result<M, R::Error>
-    ensures { Meets R.Error.fault (After (reading.read_entries (R.source reader)) (ReadsMap M.get M.eq K.reads V.reads)) result }
+    ensures { Meets R.Error.fault
+        (After (reading.read_entries (R.source reader)) (ReadsMap M.get M.eq K.reads V.reads))
+        result }
 {
     let entries = entries_of(alloc, reader, "a map")?;
     from_entries::<K, V, M, R>(alloc, entries)
 }
 
 impl<K: Deserialize + Eq + Hash, V: Deserialize> Deserialize for HashMap<K, V> {
-    ghost reads = { λ s. After (reading.read_entries s) (ReadsMap (hashed.get K.eq) K.eq K.reads V.reads) };
+    ghost reads = { λ s. After (reading.read_entries s)
+        (ReadsMap (hashed.get K.eq) K.eq K.reads V.reads) };
 
     fn deserialize<D: Deserializer>(
         alloc: Global,
@@ -100,7 +104,8 @@ impl<K: Deserialize + Eq + Hash, V: Deserialize> Deserialize for HashMap<K, V> {
 }
 
 impl<K: Deserialize + Ord, V: Deserialize> Deserialize for BTreeMap<K, V> {
-    ghost reads = { λ s. After (reading.read_entries s) (ReadsMap (sorted.get K.cmp) (eq_by_cmp K.cmp) K.reads V.reads) };
+    ghost reads = { λ s. After (reading.read_entries s)
+        (ReadsMap (sorted.get K.cmp) (eq_by_cmp K.cmp) K.reads V.reads) };
 
     fn deserialize<D: Deserializer>(
         alloc: Global,

@@ -31,7 +31,9 @@ pub(super) fn read_sequence<T: FromElements, R: Reader>(
     request: Request,
     reader: R,
 ) -> Result<T, R::Error>
-    ensures { Meets R.Error.fault (After (taken_from claims_seq take_elements request (R.source reader)) T.of_elements) result }
+    ensures { Meets R.Error.fault
+        (After (taken_from claims_seq take_elements request (R.source reader)) T.of_elements)
+        result }
 {
     let elements = elements_of(alloc, request, reader, T::expected())?;
     T::from_elements(alloc, ReaderSeqAccess::<R>::new(elements))

@@ -111,7 +111,8 @@ impl<T: Deserialize + Ord> FromElements for BTreeSet<T> {
 }
 
 impl<T: Deserialize + Ord> Deserialize for BTreeSet<T> {
-    ghost reads = { λ s. After (read_elements s) (ReadsSet (sorted.contains T.cmp) (eq_by_cmp T.cmp) T.reads) };
+    ghost reads = { λ s. After (read_elements s)
+        (ReadsSet (sorted.contains T.cmp) (eq_by_cmp T.cmp) T.reads) };
 
     fn deserialize<D: Deserializer>(
         alloc: Global,

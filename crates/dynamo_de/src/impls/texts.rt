@@ -14,7 +14,8 @@ use std::alloc::Global;
 
 // A character as a string.
 pub(crate) fn char_text<E: Error>(alloc: Global, v: char) -> Result<String, E>
-    ensures { MatchResult result (λ t. string_bytes t ≡ encode_utf8 v) (λ e. E.fault e ≡ out_of_memory) }
+    ensures { MatchResult result (λ t. string_bytes t ≡ encode_utf8 v)
+        (λ e. E.fault e ≡ out_of_memory) }
 {
     match v.to_string(alloc) {
         Ok(text) => Ok(text),
@@ -54,7 +55,9 @@ impl Deserialize for char {
 // The string of bytes that are UTF-8, or an error.
 #[tactic(auto, using(crate::proofs::Chars::utf8_told, crate::proofs::Chars::utf8_denied))]
 fn utf8_text<E: Error>(alloc: Global, v: Vec<u8>) -> Result<String, E>
-    ensures { Meets E.fault (Gives string_bytes (if is_utf8 v.items then answer.value v.items else answer.refused)) result }
+    ensures { Meets E.fault
+        (Gives string_bytes (if is_utf8 v.items then answer.value v.items else answer.refused))
+        result }
 {
     match String::from_utf8(v) {
         Ok(text) => Ok(text),

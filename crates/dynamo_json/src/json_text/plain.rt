@@ -1,13 +1,15 @@
 //! Writes attribute values as plain JSON text, without a JSON value in between.
 
-ghost use Rattle.std.specs.Prelude.{◌≡◌, map, None, Ok, false, is_ok, IfOk, IfSome, option_map, pos, string_bytes};
+ghost use Rattle.std.specs.Prelude.{◌≡◌, map, None, Ok, false, is_ok, IfOk, IfSome, option_map};
+ghost use Rattle.std.specs.Prelude.{pos, string_bytes};
 ghost use Rattle.serde_json.specs.Data.{Data};
 ghost use Rattle.serde_json.specs.Written.{compact_text};
 ghost use Rattle.dynamo_value.specs.View.{view, elements_view, members_view};
 ghost use Rattle.dynamo_value.specs.Integer.{i64, u64};
 ghost use Rattle.dynamo_de.specs.Number.{parse};
 ghost use Rattle.dynamo_de.specs.ReadJson.{read_value};
-ghost use Rattle.dynamo_json.specs.StoredText.{Prints, plain, plain_elements, plain_members, plain_number, plain_numbers, plain_blobs};
+ghost use Rattle.dynamo_json.specs.StoredText.{Prints, plain, plain_elements, plain_members};
+ghost use Rattle.dynamo_json.specs.StoredText.{plain_number, plain_numbers, plain_blobs};
 
 use super::{Printer, by_key};
 use crate::from_text::Stop;
@@ -42,7 +44,8 @@ use std::collections::HashMap;
 pub fn plain_text(alloc: Global, value: &AttributeValue) -> Result<Option<String>, AllocError>
     ensures text { IfOk result (λ found. IfSome found (λ text. (json : Data)
         × (read_value (view value.now) ≡ Ok json) × (string_bytes text ≡ compact_text json))) }
-    ensures none { IfOk result (λ found. found ≡ None → is_ok (read_value (view value.now)) ≡ false) }
+    ensures none { IfOk result
+        (λ found. found ≡ None → is_ok (read_value (view value.now)) ≡ false) }
 {
     let mut text = String::new(alloc);
     let mut printer = Printer::after(&mut text);
@@ -57,7 +60,8 @@ impl Printer {
     // The JSON value of an attribute value.
     #[cycle(plain)]
     fn plain(&mut self, value: &AttributeValue) -> Result<(), Stop>
-        ensures tokens { Prints result (plain self.old.out.tokens (view value.now)) self.new.out.tokens }
+        ensures tokens { Prints result (plain self.old.out.tokens (view value.now))
+            self.new.out.tokens }
         ensures before { self.new.out.before ≡ self.old.out.before }
     {
         match value {
@@ -78,7 +82,8 @@ impl Printer {
     // The object of the members of a map, in the order of their keys.
     #[cycle(plain)]
     fn plain_members(&mut self, map: &HashMap<String, AttributeValue>) -> Result<(), Stop>
-        ensures tokens { Prints result (plain_members self.old.out.tokens (members_view map.now.entries)) self.new.out.tokens }
+        ensures tokens { Prints result
+            (plain_members self.old.out.tokens (members_view map.now.entries)) self.new.out.tokens }
         ensures before { self.new.out.before ≡ self.old.out.before }
     {
         let members = by_key(*self.room.allocator(), map)?;
@@ -93,7 +98,9 @@ impl Printer {
     // The array of the values of a list, in order.
     #[cycle(plain)]
     fn plain_elements(&mut self, list: &Vec<AttributeValue>) -> Result<(), Stop>
-        ensures tokens { Prints result (plain_elements self.old.out.tokens (elements_view list.now.items)) self.new.out.tokens }
+        ensures tokens { Prints result
+            (plain_elements self.old.out.tokens (elements_view list.now.items))
+            self.new.out.tokens }
         ensures before { self.new.out.before ≡ self.old.out.before }
     {
         self.out.begin_array()?;
@@ -106,7 +113,9 @@ impl Printer {
     // The array of the numbers of a set, in order.
     #[inline(never)]
     fn plain_numbers(&mut self, set: &Vec<String>) -> Result<(), Stop>
-        ensures tokens { Prints result (plain_numbers self.old.out.tokens (map string_bytes set.now.items)) self.new.out.tokens }
+        ensures tokens { Prints result
+            (plain_numbers self.old.out.tokens (map string_bytes set.now.items))
+            self.new.out.tokens }
         ensures before { self.new.out.before ≡ self.old.out.before }
     {
         self.out.begin_array()?;
@@ -119,7 +128,9 @@ impl Printer {
     // The array of a set of byte strings, which is read only if there are none.
     #[inline(never)]
     fn plain_blobs(&mut self, set: &Vec<Vec<u8>>) -> Result<(), Stop>
-        ensures tokens { Prints result (plain_blobs self.old.out.tokens (map (λ b. b.items) set.now.items)) self.new.out.tokens }
+        ensures tokens { Prints result
+            (plain_blobs self.old.out.tokens (map (λ b. b.items) set.now.items))
+            self.new.out.tokens }
         ensures before { self.new.out.before ≡ self.old.out.before }
     {
         if !set.is_empty() {
@@ -133,7 +144,8 @@ impl Printer {
     #[inline(never)]
     #[tactic(auto, using(crate::proofs::Unstored::signed_read, crate::proofs::Unstored::unsigned_read, crate::proofs::Unstored::no_number))]
     fn plain_number(&mut self, text: &str) -> Result<(), Stop>
-        ensures tokens { Prints result (plain_number self.old.out.tokens text.now) self.new.out.tokens }
+        ensures tokens { Prints result (plain_number self.old.out.tokens text.now)
+            self.new.out.tokens }
         ensures before { self.new.out.before ≡ self.old.out.before }
     {
         if let Some(n) = signed(text) {

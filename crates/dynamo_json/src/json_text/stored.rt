@@ -7,7 +7,8 @@ ghost use Rattle.dynamo_ser.specs.JsonValue.{json_datum};
 ghost use Rattle.dynamo_value.specs.Av.{Av};
 ghost use Rattle.dynamo_write.specs.Written.{written};
 ghost use Rattle.dynamo_json.specs.Json.{json_of};
-ghost use Rattle.dynamo_json.specs.StoredText.{Prints, stored, stored_items, stored_members, stored_number};
+ghost use Rattle.dynamo_json.specs.StoredText.{Prints, stored, stored_items, stored_members};
+ghost use Rattle.dynamo_json.specs.StoredText.{stored_number};
 
 use super::Printer;
 use crate::from_text::Stop;
@@ -38,9 +39,12 @@ use std::alloc::{AllocError, Global};
 /// assert_eq!(rt; text.as_str(), r#"{"L":[{"N":"1"},{"S":"a"}]}"#);
 /// ```
 pub fn stored_text(alloc: Global, json: &Value) -> Result<Option<String>, AllocError>
-    ensures text { IfOk result (λ found. IfSome found (λ text. (a : Av)
-        × (written (json_datum (view json.now)) ≡ Ok a) × (string_bytes text ≡ compact_text (json_of a)))) }
-    ensures none { IfOk result (λ found. found ≡ None → is_ok (written (json_datum (view json.now))) ≡ false) }
+    ensures text { IfOk result
+        (λ found. IfSome found
+        (λ text. (a : Av) × (written (json_datum (view json.now)) ≡ Ok a)
+        × (string_bytes text ≡ compact_text (json_of a)))) }
+    ensures none { IfOk result
+        (λ found. found ≡ None → is_ok (written (json_datum (view json.now))) ≡ false) }
 {
     let mut text = String::new(alloc);
     let mut printer = Printer::after(&mut text);
@@ -56,7 +60,8 @@ impl Printer {
     // written as.
     #[cycle(stored)]
     fn stored(&mut self, json: &Value) -> Result<(), Stop>
-        ensures tokens { Prints result (stored self.old.out.tokens (view json.now)) self.new.out.tokens }
+        ensures tokens { Prints result (stored self.old.out.tokens (view json.now))
+            self.new.out.tokens }
         ensures before { self.new.out.before ≡ self.old.out.before }
     {
         match json {
@@ -82,7 +87,8 @@ impl Printer {
     // The values of an array, in order, and its end.
     #[cycle(stored)]
     fn stored_items(&mut self, items: &Vec<Value>) -> Result<(), Stop>
-        ensures tokens { Prints result (stored_items self.old.out.tokens (items_view items.now.items)) self.new.out.tokens }
+        ensures tokens { Prints result
+            (stored_items self.old.out.tokens (items_view items.now.items)) self.new.out.tokens }
         ensures before { self.new.out.before ≡ self.old.out.before }
     {
         for json in items {
@@ -94,7 +100,9 @@ impl Printer {
     // The members of an object, which are in the order of their keys, and its end.
     #[cycle(stored)]
     fn stored_members(&mut self, members: &Map<String, Value>) -> Result<(), Stop>
-        ensures tokens { Prints result (stored_members self.old.out.tokens (members_view members.now.entries)) self.new.out.tokens }
+        ensures tokens { Prints result
+            (stored_members self.old.out.tokens (members_view members.now.entries))
+            self.new.out.tokens }
         ensures before { self.new.out.before ≡ self.old.out.before }
     {
         for (key, json) in members.iter() {
@@ -107,7 +115,8 @@ impl Printer {
     // A whole number of 64 bits: its decimal string.
     #[inline(never)]
     fn stored_number(&mut self, number: &Number) -> Result<(), Stop>
-        ensures tokens { Prints result (stored_number self.old.out.tokens (number_view number.now)) self.new.out.tokens }
+        ensures tokens { Prints result (stored_number self.old.out.tokens (number_view number.now))
+            self.new.out.tokens }
         ensures before { self.new.out.before ≡ self.old.out.before }
     {
         if let Some(n) = number.as_u64() {

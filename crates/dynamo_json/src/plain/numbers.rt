@@ -58,7 +58,8 @@ pub fn wide_unsigned(alloc: Global, v: u128) -> Result<Value>
 
 /// JSON has no number for it.
 fn out_of_range(alloc: Global) -> Error
-    ensures { (fault_of result ≡ message (codes "number out of range")) ⊎ (fault_of result ≡ out_of_memory) }
+    ensures { (fault_of result ≡ message (codes "number out of range"))
+        ⊎ (fault_of result ≡ out_of_memory) }
 {
     <Error as dynamo_ser::Error>::custom(alloc, "number out of range")
 }

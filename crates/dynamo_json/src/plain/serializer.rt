@@ -31,14 +31,17 @@ impl Serializer {
     }
 
     fn string(self, text: &str) -> Result<Value>
-        ensures { MatchResult result (λ v. view v ≡ json.string text.now) (λ e. fault_of e ≡ out_of_memory) }
+        ensures { MatchResult result (λ v. view v ≡ json.string text.now)
+            (λ e. fault_of e ≡ out_of_memory) }
     {
         Ok(Value::String(String::from_str(self.alloc, text)?))
     }
 
     // The array of the bytes' numbers.
     fn numbers(self, bytes: &[u8]) -> Result<Value>
-        ensures { MatchResult result (λ v. view v ≡ json.array (items_of (map byte_number bytes.now))) (λ e. fault_of e ≡ out_of_memory) }
+        ensures { MatchResult result
+            (λ v. view v ≡ json.array (items_of (map byte_number bytes.now)))
+            (λ e. fault_of e ≡ out_of_memory) }
     {
         let mut numbers = Vec::with_capacity(self.alloc, bytes.len())?;
         for byte in bytes {

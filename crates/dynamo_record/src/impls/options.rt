@@ -12,7 +12,8 @@ impl<T: Shaped> Shaped for Option<T> {
 
     ghost as_told = { ap option_tells T.as_told };
 
-    ghost reads_by_shape = { option_permitted T.about.shape T.about.tells T.reads T.reads_by_shape };
+    ghost reads_by_shape = { option_permitted T.about.shape T.about.tells T.reads
+        T.reads_by_shape };
 
     fn absent<E: Error>(_alloc: Global) -> Result<Option<Option<T>>, E> {
         Ok(Some(None))
@@ -31,7 +32,8 @@ impl<T: Shaped> Shaped for Box<T> {
 
     ghost as_told = { λ i b. T.as_told i b.value };
 
-    ghost reads_by_shape = { through_permitted T.about.shape T.about.tells T.reads (λ b. b.value) T.reads_by_shape };
+    ghost reads_by_shape = { through_permitted T.about.shape T.about.tells T.reads (λ b. b.value)
+        T.reads_by_shape };
 
     fn absent<E: Error>(alloc: Global) -> Result<Option<Box<T>>, E> {
         match T::absent(alloc)? {

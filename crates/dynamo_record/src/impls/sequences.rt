@@ -4,7 +4,8 @@ ghost use Rattle.dynamo_ser.specs.Datum as datum;
 ghost use Rattle.dynamo_shape.proofs.Lists.{list_permitted};
 ghost use Rattle.dynamo_record.specs.About.{list_tells, about_list};
 ghost use Rattle.dynamo_record.specs.Tuples.{about_tuple, two_parts, three_parts, four_parts};
-ghost use Rattle.dynamo_record.specs.TuplesRead.{part, read_two, read_three, read_four, tuple_by_shape};
+ghost use Rattle.dynamo_record.specs.TuplesRead.{part, read_two, read_three, read_four};
+ghost use Rattle.dynamo_record.specs.TuplesRead.{tuple_by_shape};
 
 use crate::Shaped;
 use dynamo_de::Error;
@@ -31,7 +32,8 @@ impl<T: Shaped> Shaped for Vec<T> {
 impl<A: Shaped, B: Shaped> Shaped for (A, B) {
     ghost about = { about_tuple (two_parts A.about B.about) };
 
-    ghost as_told = { λ i t. datum.tuple (datum.elements_of (A.as_told i t.0 ∷ B.as_told i t.1 ∷ [])) };
+    ghost as_told = { λ i t. datum.tuple
+        (datum.elements_of (A.as_told i t.0 ∷ B.as_told i t.1 ∷ [])) };
 
     ghost reads_by_shape = { tuple_by_shape (read_two (part A.about A.reads A.reads_by_shape)
         (part B.about B.reads B.reads_by_shape)) };
@@ -49,7 +51,8 @@ impl<A: Shaped, B: Shaped> Shaped for (A, B) {
 impl<A: Shaped, B: Shaped, C: Shaped> Shaped for (A, B, C) {
     ghost about = { about_tuple (three_parts A.about B.about C.about) };
 
-    ghost as_told = { λ i t. datum.tuple (datum.elements_of (A.as_told i t.0 ∷ B.as_told i t.1 ∷ C.as_told i t.2 ∷ [])) };
+    ghost as_told = { λ i t. datum.tuple
+        (datum.elements_of (A.as_told i t.0 ∷ B.as_told i t.1 ∷ C.as_told i t.2 ∷ [])) };
 
     ghost reads_by_shape = { tuple_by_shape (read_three (part A.about A.reads A.reads_by_shape)
         (part B.about B.reads B.reads_by_shape)
@@ -69,7 +72,9 @@ impl<A: Shaped, B: Shaped, C: Shaped> Shaped for (A, B, C) {
 impl<A: Shaped, B: Shaped, C: Shaped, D: Shaped> Shaped for (A, B, C, D) {
     ghost about = { about_tuple (four_parts A.about B.about C.about D.about) };
 
-    ghost as_told = { λ i t. datum.tuple (datum.elements_of (A.as_told i t.0 ∷ B.as_told i t.1 ∷ C.as_told i t.2 ∷ D.as_told i t.3 ∷ [])) };
+    ghost as_told = { λ i t. datum.tuple
+        (datum.elements_of
+        (A.as_told i t.0 ∷ B.as_told i t.1 ∷ C.as_told i t.2 ∷ D.as_told i t.3 ∷ [])) };
 
     ghost reads_by_shape = { tuple_by_shape (read_four (part A.about A.reads A.reads_by_shape)
         (part B.about B.reads B.reads_by_shape)

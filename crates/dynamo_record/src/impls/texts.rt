@@ -1,7 +1,8 @@
 ghost use Rattle.std.specs.Prelude.{string_bytes};
 ghost use Rattle.std.proofs.Common.{refl};
 ghost use Rattle.dynamo_value.specs.Bytes.{octets_of};
-ghost use Rattle.dynamo_shape.proofs.Scalars.{char_permitted, text_permitted, bytes_permitted, unit_permitted};
+ghost use Rattle.dynamo_shape.proofs.Scalars.{char_permitted, text_permitted, bytes_permitted};
+ghost use Rattle.dynamo_shape.proofs.Scalars.{unit_permitted};
 ghost use Rattle.dynamo_record.specs.About.{about_char, about_text, about_bytes, about_unit};
 ghost use Rattle.dynamo_record.specs.Keys.{own_key, key_bytes, key_char, key_text};
 

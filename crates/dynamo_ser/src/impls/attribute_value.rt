@@ -44,7 +44,8 @@ fn under<T: Serialize, S: Serializer>(
     content: &T,
     serializer: S,
 ) -> Result<S::Ok, S::Error>
-    ensures { Writes S.Error.fault ⊥ (S.outcome serializer) (attribute.under (prefix_view prefix) (T.tells content.now)) result }
+    ensures { Writes S.Error.fault ⊥ (S.outcome serializer)
+        (attribute.under (prefix_view prefix) (T.tells content.now)) result }
 {
     let mut pair = serializer.serialize_map(Some(1))?;
     pair.serialize_entry(&Text::new(prefix.as_str()), content)?;

@@ -24,7 +24,8 @@ impl Serialize for Value {
 
 // A whole number of 64 bits. serde's data model has floats, this one doesn't.
 fn serialize_number<S: Serializer>(number: &Number, serializer: S) -> Result<S::Ok, S::Error>
-    ensures { Writes S.Error.fault (float_wants (number_view number.now)) (S.outcome serializer) (number_datum (number_view number.now)) result }
+    ensures { Writes S.Error.fault (float_wants (number_view number.now)) (S.outcome serializer)
+        (number_datum (number_view number.now)) result }
 {
     if let Some(n) = number.as_u64() {
         return serializer.serialize_u64(n);

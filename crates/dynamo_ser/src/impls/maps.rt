@@ -6,7 +6,8 @@ use std::collections::{BTreeMap, HashMap};
 use std::hash::Hash;
 
 impl<K: Serialize + Eq + Hash, V: Serialize> Serialize for HashMap<K, V> {
-    ghost tells = { λ m. datum.map (datum.pairs_of (map (λ e. (K.tells e.0, V.tells e.1)) m.entries)) };
+    ghost tells = { λ m. datum.map
+        (datum.pairs_of (map (λ e. (K.tells e.0, V.tells e.1)) m.entries)) };
 
     fn serialize<S: Serializer>(&self, serializer: S) -> Result<S::Ok, S::Error> {
         let mut entries = serializer.serialize_map(Some(self.len()))?;
@@ -18,7 +19,8 @@ impl<K: Serialize + Eq + Hash, V: Serialize> Serialize for HashMap<K, V> {
 }
 
 impl<K: Serialize + Ord, V: Serialize> Serialize for BTreeMap<K, V> {
-    ghost tells = { λ m. datum.map (datum.pairs_of (map (λ e. (K.tells e.0, V.tells e.1)) m.entries)) };
+    ghost tells = { λ m. datum.map
+        (datum.pairs_of (map (λ e. (K.tells e.0, V.tells e.1)) m.entries)) };
 
     fn serialize<S: Serializer>(&self, serializer: S) -> Result<S::Ok, S::Error> {
         let mut sorted = serializer.serialize_map(Some(self.len()))?;

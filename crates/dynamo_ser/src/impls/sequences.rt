@@ -27,7 +27,8 @@ impl<A: Serialize, B: Serialize> Serialize for (A, B) {
 }
 
 impl<A: Serialize, B: Serialize, C: Serialize> Serialize for (A, B, C) {
-    ghost tells = { λ t. datum.tuple (datum.elements_of (A.tells t.0 ∷ B.tells t.1 ∷ C.tells t.2 ∷ [])) };
+    ghost tells = { λ t. datum.tuple
+        (datum.elements_of (A.tells t.0 ∷ B.tells t.1 ∷ C.tells t.2 ∷ [])) };
 
     fn serialize<S: Serializer>(&self, serializer: S) -> Result<S::Ok, S::Error> {
         let mut triple = serializer.serialize_tuple(3)?;
@@ -39,7 +40,8 @@ impl<A: Serialize, B: Serialize, C: Serialize> Serialize for (A, B, C) {
 }
 
 impl<A: Serialize, B: Serialize, C: Serialize, D: Serialize> Serialize for (A, B, C, D) {
-    ghost tells = { λ t. datum.tuple (datum.elements_of (A.tells t.0 ∷ B.tells t.1 ∷ C.tells t.2 ∷ D.tells t.3 ∷ [])) };
+    ghost tells = { λ t. datum.tuple
+        (datum.elements_of (A.tells t.0 ∷ B.tells t.1 ∷ C.tells t.2 ∷ D.tells t.3 ∷ [])) };
 
     fn serialize<S: Serializer>(&self, serializer: S) -> Result<S::Ok, S::Error> {
         let mut quadruple = serializer.serialize_tuple(4)?;

@@ -21,7 +21,8 @@ impl<T: Serialize + Ord> Serialize for BTreeSet<T> {
 
 /// Writes the members in ascending order. For that it makes an ordered set of references to them.
 impl<T: Serialize + Ord + Hash> Serialize for HashSet<T> {
-    ghost tells = { λ s. datum.seq (datum.elements_of (map T.tells (members_in_order T.cmp s.keys))) };
+    ghost tells = { λ s. datum.seq
+        (datum.elements_of (map T.tells (members_in_order T.cmp s.keys))) };
 
     // the ordered set
     ghost wants = { λ _. Unit {0} };
@@ -37,7 +38,8 @@ impl<T: Serialize + Ord + Hash> Serialize for HashSet<T> {
 // References to the members, in their order.
 #[tactic(auto, using(crate::proofs::MembersInOrder::insert_now))]
 fn in_order<T: Ord + Hash>(alloc: Global, set: &HashSet<T>) -> Result<BTreeSet<&T>, AllocError>
-    ensures { IfOk result (λ ordered. map (λ r. r.now) ordered.keys ≡ members_in_order T.cmp set.now.keys) }
+    ensures { IfOk result
+        (λ ordered. map (λ r. r.now) ordered.keys ≡ members_in_order T.cmp set.now.keys) }
 {
     let mut ordered = BTreeSet::new(alloc);
     for member in set {

@@ -63,7 +63,9 @@ fn send<S: Serializer>(value: &AttributeValue, out: &mut S) -> Result<(), S::Err
 
 #[cycle(send)]
 fn send_list<S: Serializer>(items: &Vec<AttributeValue>, out: &mut S) -> Result<(), S::Error>
-    ensures { OnOk result (SendsValue (av.L (elements_view items.now.items)) (S.written out.old) (S.written out.new)) }
+    ensures { OnOk result
+        (SendsValue (av.L (elements_view items.now.items)) (S.written out.old)
+        (S.written out.new)) }
 {
     out.begin_seq(Some(items.len()))?;
     for item in items {
@@ -77,7 +79,8 @@ pub(crate) fn send_map<S: Serializer>(
     map: &HashMap<String, AttributeValue>,
     out: &mut S,
 ) -> Result<(), S::Error>
-    ensures { OnOk result (SendsValue (av.M (members_view map.now.entries)) (S.written out.old) (S.written out.new)) }
+    ensures { OnOk result
+        (SendsValue (av.M (members_view map.now.entries)) (S.written out.old) (S.written out.new)) }
 {
     out.begin_map(Some(map.len()))?;
     for (key, value) in map.iter() {
@@ -88,7 +91,8 @@ pub(crate) fn send_map<S: Serializer>(
 }
 
 fn send_number<S: Serializer>(text: &str, out: &mut S) -> Result<(), S::Error>
-    ensures { OnOk result (Logged (value_events (av.N text.now)) (S.written out.old) (S.written out.new)) }
+    ensures { OnOk result
+        (Logged (value_events (av.N text.now)) (S.written out.old) (S.written out.new)) }
 {
     out.begin_map(Some(1))?;
     out.variant_key(NUMBER, Case::AsIs)?;
@@ -97,7 +101,8 @@ fn send_number<S: Serializer>(text: &str, out: &mut S) -> Result<(), S::Error>
 }
 
 fn send_null<S: Serializer>(b: bool, out: &mut S) -> Result<(), S::Error>
-    ensures { OnOk result (Logged (value_events (av.Null b)) (S.written out.old) (S.written out.new)) }
+    ensures { OnOk result
+        (Logged (value_events (av.Null b)) (S.written out.old) (S.written out.new)) }
 {
     out.begin_map(Some(1))?;
     out.variant_key(NULL, Case::AsIs)?;
@@ -106,7 +111,9 @@ fn send_null<S: Serializer>(b: bool, out: &mut S) -> Result<(), S::Error>
 }
 
 fn send_texts<S: Serializer>(texts: &Vec<String>, out: &mut S) -> Result<(), S::Error>
-    ensures { OnOk result (Logged (value_events (av.Ss (map string_bytes texts.now.items))) (S.written out.old) (S.written out.new)) }
+    ensures { OnOk result
+        (Logged (value_events (av.Ss (map string_bytes texts.now.items))) (S.written out.old)
+        (S.written out.new)) }
 {
     out.begin_map(Some(1))?;
     out.variant_key(STRING_SET, Case::AsIs)?;
@@ -119,7 +126,9 @@ fn send_texts<S: Serializer>(texts: &Vec<String>, out: &mut S) -> Result<(), S::
 }
 
 fn send_numbers<S: Serializer>(texts: &Vec<String>, out: &mut S) -> Result<(), S::Error>
-    ensures { OnOk result (Logged (value_events (av.Ns (map string_bytes texts.now.items))) (S.written out.old) (S.written out.new)) }
+    ensures { OnOk result
+        (Logged (value_events (av.Ns (map string_bytes texts.now.items))) (S.written out.old)
+        (S.written out.new)) }
 {
     out.begin_map(Some(1))?;
     out.variant_key(NUMBER_SET, Case::AsIs)?;
@@ -161,7 +170,9 @@ fn fetch_list<F: Format>(
     from: &mut Deserializer<'_, '_, F>,
     levels: usize,
 ) -> Result<Vec<AttributeValue>, F::Error>
-    ensures { IfOk result (λ items. FetchesList F.gives F.stays F.picks (elements_view items.items) from.old from.new) }
+    ensures { IfOk result
+        (λ items. FetchesList F.gives F.stays F.picks (elements_view items.items) from.old
+        from.new) }
 {
     let Some(levels) = levels.checked_sub(1) else {
         return Err(from.invalid());
@@ -185,7 +196,8 @@ pub(crate) fn fetch_map<F: Format>(
     from: &mut Deserializer<'_, '_, F>,
     levels: usize,
 ) -> Result<HashMap<String, AttributeValue>, F::Error>
-    ensures { IfOk result (λ map. FetchesMap F.gives F.stays F.picks (members_view map.entries) from.old from.new) }
+    ensures { IfOk result
+        (λ map. FetchesMap F.gives F.stays F.picks (members_view map.entries) from.old from.new) }
 {
     let Some(levels) = levels.checked_sub(1) else {
         return Err(from.invalid());
@@ -211,7 +223,9 @@ fn fetch_texts<F: Format>(
     from: &mut Deserializer<'_, '_, F>,
     kind: usize,
 ) -> Result<Vec<String>, F::Error>
-    ensures { IfOk result (λ texts. FetchesTexts F.gives F.stays F.picks kind (map string_bytes texts.items) from.old from.new) }
+    ensures { IfOk result
+        (λ texts. FetchesTexts F.gives F.stays F.picks kind (map string_bytes texts.items) from.old
+        from.new) }
 {
     from.begin_seq()?;
     let mut texts = Vec::new(alloc);

@@ -14,7 +14,9 @@ use std::alloc::Global;
 ///
 /// Returns the serializer's error, as that for out of memory.
 pub fn serialize<S: Serializer>(blobs: &Vec<Vec<u8>>, out: &mut S) -> Result<(), S::Error>
-    ensures { OnOk result (Logged (value_events (av.Bs (map (λ b. b.items) blobs.now.items))) (S.written out.old) (S.written out.new)) }
+    ensures { OnOk result
+        (Logged (value_events (av.Bs (map (λ b. b.items) blobs.now.items))) (S.written out.old)
+        (S.written out.new)) }
 {
     out.begin_map(Some(1))?;
     out.variant_key(BINARY_SET, Case::AsIs)?;
@@ -36,7 +38,8 @@ pub fn deserialize<F: Format>(
     alloc: Global,
     from: &mut Deserializer<'_, '_, F>,
 ) -> Result<Vec<Vec<u8>>, F::Error>
-    ensures { IfOk result (λ blobs. ReadsBlobs F.gives F.stays (map (λ b. b.items) blobs.items) from.old from.new) }
+    ensures { IfOk result
+        (λ blobs. ReadsBlobs F.gives F.stays (map (λ b. b.items) blobs.items) from.old from.new) }
 {
     from.begin_seq()?;
     let mut blobs = Vec::new(alloc);

@@ -15,7 +15,8 @@ use std::alloc::Global;
 ///
 /// Returns the serializer's error, as that for out of memory.
 pub fn serialize<S: Serializer>(bytes: &ByteBuf, out: &mut S) -> Result<(), S::Error>
-    ensures { OnOk result (Logs (S.written out.old) (S.written out.new) (octets (octets_of bytes.now))) }
+    ensures { OnOk result
+        (Logs (S.written out.old) (S.written out.new) (octets (octets_of bytes.now))) }
 {
     out.bytes(bytes.as_slice())
 }

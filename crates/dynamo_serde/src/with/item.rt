@@ -19,7 +19,8 @@ use std::alloc::Global;
 ///
 /// Returns an error if the item has more than 127 levels of lists and maps, or if memory runs out.
 pub fn serialize<S: Serializer>(item: &Item, out: &mut S) -> Result<(), S::Error>
-    ensures { OnOk result (SendsValue (av.M (item_view item.now)) (S.written out.old) (S.written out.new)) }
+    ensures { OnOk result
+        (SendsValue (av.M (item_view item.now)) (S.written out.old) (S.written out.new)) }
 {
     send_map(item.inner(), out)
 }
@@ -34,7 +35,8 @@ pub fn deserialize<F: Format>(
     alloc: Global,
     from: &mut Deserializer<'_, '_, F>,
 ) -> Result<Item, F::Error>
-    ensures { IfOk result (λ item. FetchesMap F.gives F.stays F.picks (item_view item) from.old from.new) }
+    ensures { IfOk result
+        (λ item. FetchesMap F.gives F.stays F.picks (item_view item) from.old from.new) }
 {
     match fetch_map(alloc, from, LEVELS) {
         Ok(map) => Ok(Item::from(map)),

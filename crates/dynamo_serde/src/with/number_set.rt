@@ -17,7 +17,9 @@ use serde::{Case, Serialize, Serializer};
 /// list, `NumberSetExpectedType` if an element isn't a number, and `OutOfMemory` if memory runs
 /// out.
 pub fn serialize<T: Serialize, S: Serializer>(numbers: &T, out: &mut S) -> Result<(), S::Error>
-    ensures { OnOk result (SendsUnder (word (a_set number_kind)) (T.writes numbers.now) (S.written out.old) (S.written out.new)) }
+    ensures { OnOk result
+        (SendsUnder (word (a_set number_kind)) (T.writes numbers.now) (S.written out.old)
+        (S.written out.new)) }
 {
     out.begin_map(Some(1))?;
     out.variant_key(NUMBER_SET, Case::AsIs)?;

@@ -17,7 +17,9 @@ use serde::{Case, Serialize, Serializer};
 /// list, `StringSetExpectedType` if an element isn't a string, and `OutOfMemory` if memory runs
 /// out.
 pub fn serialize<T: Serialize, S: Serializer>(texts: &T, out: &mut S) -> Result<(), S::Error>
-    ensures { OnOk result (SendsUnder (word (a_set strings)) (T.writes texts.now) (S.written out.old) (S.written out.new)) }
+    ensures { OnOk result
+        (SendsUnder (word (a_set strings)) (T.writes texts.now) (S.written out.old)
+        (S.written out.new)) }
 {
     out.begin_map(Some(1))?;
     out.variant_key(STRING_SET, Case::AsIs)?;

@@ -8,7 +8,8 @@ ghost use Rattle.dynamo_write.specs.Written.{written};
 ghost use Rattle.dynamo_de.specs.Source.{attribute};
 ghost use Rattle.dynamo_json.specs.Json.{json_of};
 ghost use Rattle.dynamo_shape.specs.ReadsBack.{Permitted};
-ghost use Rattle.serde_dynamo.specs.SampleShapes.{user_shape, same_user, event_shape, sets_shape, same_sets};
+ghost use Rattle.serde_dynamo.specs.SampleShapes.{user_shape, same_user, event_shape, sets_shape};
+ghost use Rattle.serde_dynamo.specs.SampleShapes.{same_sets};
 ghost use Rattle.serde_dynamo.specs.Samples.{user_told, event_told, sets_told};
 
 use crate::reread;
@@ -25,8 +26,10 @@ use std::alloc::Global;
 pub fn reread_user(alloc: Global, user: &User) -> Result<(AttributeValue, Value, User)>
     ensures written { IfOk result (λ parts. written (user_told user.now) ≡ Ok (view parts.0)) }
     ensures json { IfOk result (λ parts. sj.view parts.1 ≡ json_of (view parts.0)) }
-    ensures read { IfOk result (λ parts. Permitted user_shape (attribute (view parts.0)) (Ok (user_told parts.2))) }
-    ensures back { MatchResult result (λ parts. same_user user.now parts.2) (λ e. fault_of e ≡ out_of_memory) }
+    ensures read { IfOk result
+        (λ parts. Permitted user_shape (attribute (view parts.0)) (Ok (user_told parts.2))) }
+    ensures back { MatchResult result (λ parts. same_user user.now parts.2)
+        (λ e. fault_of e ≡ out_of_memory) }
 {
     reread(alloc, user)
 }
@@ -46,8 +49,10 @@ pub fn users_are_equal(user: &User, other: &User) -> bool
 pub fn reread_event(alloc: Global, event: &Event) -> Result<(AttributeValue, Value, Event)>
     ensures written { IfOk result (λ parts. written (event_told event.now) ≡ Ok (view parts.0)) }
     ensures json { IfOk result (λ parts. sj.view parts.1 ≡ json_of (view parts.0)) }
-    ensures read { IfOk result (λ parts. Permitted event_shape (attribute (view parts.0)) (Ok (event_told parts.2))) }
-    ensures back { MatchResult result (λ parts. event.now ≡ parts.2) (λ e. fault_of e ≡ out_of_memory) }
+    ensures read { IfOk result
+        (λ parts. Permitted event_shape (attribute (view parts.0)) (Ok (event_told parts.2))) }
+    ensures back { MatchResult result (λ parts. event.now ≡ parts.2)
+        (λ e. fault_of e ≡ out_of_memory) }
 {
     reread(alloc, event)
 }
@@ -68,8 +73,10 @@ pub fn events_are_equal(event: &Event, other: &Event) -> bool
 pub fn reread_sets(alloc: Global, sets: &Sets) -> Result<(AttributeValue, Value, Sets)>
     ensures written { IfOk result (λ parts. written (sets_told sets.now) ≡ Ok (view parts.0)) }
     ensures json { IfOk result (λ parts. sj.view parts.1 ≡ json_of (view parts.0)) }
-    ensures read { IfOk result (λ parts. Permitted sets_shape (attribute (view parts.0)) (Ok (sets_told parts.2))) }
-    ensures back { MatchResult result (λ parts. same_sets sets.now parts.2) (λ e. fault_of e ≡ out_of_memory) }
+    ensures read { IfOk result
+        (λ parts. Permitted sets_shape (attribute (view parts.0)) (Ok (sets_told parts.2))) }
+    ensures back { MatchResult result (λ parts. same_sets sets.now parts.2)
+        (λ e. fault_of e ≡ out_of_memory) }
 {
     reread(alloc, sets)
 }

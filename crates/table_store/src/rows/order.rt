@@ -13,8 +13,8 @@ use table_keys::{Key, KeySchema, TableError, is_behind};
 ///
 /// # Errors
 ///
-/// Returns [`StoreError::Unreadable`] if it has none, and [`StoreError::OutOfMemory`] if memory runs
-/// out.
+/// Returns [`StoreError::Unreadable`] if it has none, and [`StoreError::OutOfMemory`] if memory
+/// runs out.
 pub fn own_key(schema: &KeySchema, item: &Item) -> Result<Key, StoreError>
     ensures { ReadsOwnKey schema.now item.now result }
 {

@@ -5,7 +5,8 @@ ghost use Rattle.table_store.specs.Calls.{Pages};
 ghost use Rattle.table_store.specs.Faults.{QueryFails};
 ghost use Rattle.table_store.specs.Found.{IsFound};
 ghost use Rattle.table_store.specs.Runs.{AreRead, Finds, IsClean, WasClean, listed};
-ghost use Rattle.table_store.specs.Statements.{following_of, following_text, limit_of, rest_of, rest_text};
+ghost use Rattle.table_store.specs.Statements.{following_of, following_text, limit_of, rest_of};
+ghost use Rattle.table_store.specs.Statements.{rest_text};
 
 use crate::StoreError;
 use crate::rows::{Definition, read_item};
@@ -115,8 +116,9 @@ fn rest<S: Alter>(
     limit: usize,
 ) -> Result<Vec<Item>, StoreError>
     ensures limit { IfOk result (λ items. length items.items ≤ limit) }
-    ensures ran { IsClean S.Store conn.new →
-        Finds S.Store rest_text (rest_of id start.now limit) limit conn.old conn.new (listed result) }
+    ensures ran { IsClean S.Store conn.new
+        → Finds S.Store rest_text (rest_of id start.now limit) limit conn.old conn.new
+        (listed result) }
     ensures clean { WasClean S.Store conn.old conn.new }
 {
     let params = params![id, &start.partition, &start.sort, count_of(limit)];
@@ -132,8 +134,9 @@ fn following<S: Alter>(
     limit: usize,
 ) -> Result<Vec<Item>, StoreError>
     ensures limit { IfOk result (λ items. length items.items ≤ limit) }
-    ensures ran { IsClean S.Store conn.new →
-        Finds S.Store following_text (following_of id start.now limit) limit conn.old conn.new (listed result) }
+    ensures ran { IsClean S.Store conn.new
+        → Finds S.Store following_text (following_of id start.now limit) limit conn.old conn.new
+        (listed result) }
     ensures clean { WasClean S.Store conn.old conn.new }
 {
     let params = params![id, &start.partition, count_of(limit)];
