@@ -208,10 +208,12 @@ impl<'a, R: Reader> Reader for Located<'a, R> {
     }
 
     fn elements_left(rest: &LocatedElements<'a, R>) -> Option<usize> {
+        rest.here.mark();
         R::elements_left(&rest.rest)
     }
 
     fn entries_left(rest: &LocatedEntries<'a, R>) -> Option<usize> {
+        rest.here.mark();
         R::entries_left(&rest.rest)
     }
 }

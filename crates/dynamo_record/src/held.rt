@@ -16,12 +16,13 @@ use crate::{FieldList, Record};
 use dynamo_de::{Deserialize, Error, IgnoredAny, Reader, identifier_of};
 use std::alloc::Global;
 
-/// Returns the entries, each with an unread value, and the index of the last one with this name.
+/// Returns the entries, each with an unread value, the index of the last one with this name, and the
+/// rest: the entries after all of them, none.
 pub(crate) fn held_entries<D: Reader>(
     alloc: Global,
     mut entries: D::Entries,
     tag: &str,
-) -> Result<(Vec<(String, D)>, Option<usize>), D::Error>
+) -> Result<(Vec<(String, D)>, Option<usize>, D::Entries), D::Error>
     ensures { MatchResult result
         (λ held. Holds D.source held.0.items (D.entries entries)
         × IsLast tag.now (D.entries entries) held.1) (λ e. D.Error.fault e ≡ out_of_memory) }
@@ -38,7 +39,7 @@ pub(crate) fn held_entries<D: Reader>(
             Err(_) => return Err(D::Error::out_of_memory()),
         }
     }
-    Ok((held, last))
+    Ok((held, last, entries))
 }
 
 /// Reads a held entry as the field with its name. The value of any other name is ignored.
@@ -67,10 +68,11 @@ where
     }
 }
 
-/// Reads held entries as the fields of a struct.
+/// Reads held entries as the fields of a struct. `rest` is what [`held_entries`] left.
 pub(crate) fn read_held<R: Record, D: Reader>(
     alloc: Global,
     held: Vec<(String, D)>,
+    rest: &D::Entries,
 ) -> Result<R, D::Error>
 where
     R::Fields: FieldList,
@@ -85,6 +87,8 @@ where
             return Err(error);
         }
     }
+    // A reader that keeps the place of an error comes back from the last value to the whole map.
+    let _none = D::entries_left(rest);
     match <R::Fields as FieldList>::complete::<D::Error>(slots, R::names(), alloc) {
         Ok(completed) => Ok(R::make(completed.0)),
         Err(error) => Err(error),

@@ -61,11 +61,13 @@ fn place_named<E: Error>(
     }
 }
 
-/// Reads the variant that the entry with this index names, from the other entries.
+/// Reads the variant that the entry with this index names, from the other entries. `rest` is what
+/// [`held_entries`] left.
 fn read_variant<T: TaggedEnum, D: Reader>(
     alloc: Global,
     held: Vec<(String, D)>,
     place: usize,
+    rest: &D::Entries,
 ) -> Result<T, D::Error>
 where
     T::Variants: TaggedList,
@@ -78,7 +80,7 @@ where
     let (_tag, named) = held.remove(place);
     let name = String::deserialize(alloc, named)?;
     let variant = place_named::<D::Error>(alloc, name.as_str(), T::names())?;
-    match <T::Variants as TaggedList>::read::<D>(variant, held, alloc) {
+    match <T::Variants as TaggedList>::read::<D>(variant, held, rest, alloc) {
         Ok(variant) => Ok(T::make(variant)),
         Err(error) => Err(error),
     }
@@ -110,9 +112,9 @@ where
         (tagged_reads (of_tagged T.about T.Variants.about) (D.source deserializer)) result }
 {
     let entries = entries_of(alloc, deserializer, T::expecting())?;
-    let (held, last) = held_entries::<D>(alloc, entries, T::tag())?;
+    let (held, last, rest) = held_entries::<D>(alloc, entries, T::tag())?;
     match last {
-        Some(place) => read_variant::<T, D>(alloc, held, place),
+        Some(place) => read_variant::<T, D>(alloc, held, place, &rest),
         None => Err(missing_field(alloc, T::tag())),
     }
 }

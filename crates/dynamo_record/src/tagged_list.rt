@@ -25,7 +25,8 @@ pub trait TaggedList: Sized {
         ensures at_most { result ≤ about.count }
         ensures exact { result + 1 < 2 ^ 64 → result ≡ about.count };
 
-    /// Reads entries as the fields of the variant with this index.
+    /// Reads entries as the fields of the variant with this index. `rest` are the entries of their
+    /// map that are left: none.
     ///
     /// # Errors
     ///
@@ -33,6 +34,7 @@ pub trait TaggedList: Sized {
     fn read<D: Reader>(
         place: usize,
         entries: Vec<(String, D)>,
+        rest: &D::Entries,
         alloc: Global,
     ) -> Result<Self, D::Error>
         ensures { (tag : Text) → about.fit tag → place < about.count → place + 1 < 2 ^ 64
@@ -53,6 +55,7 @@ impl TaggedList for Nothing {
     fn read<D: Reader>(
         _place: usize,
         entries: Vec<(String, D)>,
+        _rest: &D::Entries,
         alloc: Global,
     ) -> Result<Nothing, D::Error> {
         match ignore_held::<D>(alloc, entries) {
@@ -72,9 +75,10 @@ impl<N: NamedFields> TaggedList for Named<N> {
     fn read<D: Reader>(
         _place: usize,
         entries: Vec<(String, D)>,
+        rest: &D::Entries,
         alloc: Global,
     ) -> Result<Named<N>, D::Error> {
-        read_held::<Named<N>, D>(alloc, entries)
+        read_held::<Named<N>, D>(alloc, entries, rest)
     }
 }
 
@@ -96,9 +100,10 @@ where
     fn read<D: Reader>(
         _place: usize,
         entries: Vec<(String, D)>,
+        rest: &D::Entries,
         alloc: Global,
     ) -> Result<Inner<R>, D::Error> {
-        match read_held::<R, D>(alloc, entries) {
+        match read_held::<R, D>(alloc, entries, rest) {
             Ok(fields) => Ok(Inner(fields)),
             Err(error) => Err(error),
         }
@@ -115,16 +120,17 @@ impl<L: TaggedList, R: TaggedList> TaggedList for Choice<L, R> {
     fn read<D: Reader>(
         place: usize,
         entries: Vec<(String, D)>,
+        rest: &D::Entries,
         alloc: Global,
     ) -> Result<Choice<L, R>, D::Error> {
         let first = L::count();
         if place < first {
-            match L::read::<D>(place, entries, alloc) {
+            match L::read::<D>(place, entries, rest, alloc) {
                 Ok(variant) => Ok(Choice::Left(variant)),
                 Err(error) => Err(error),
             }
         } else {
-            match R::read::<D>(place - first, entries, alloc) {
+            match R::read::<D>(place - first, entries, rest, alloc) {
                 Ok(variant) => Ok(Choice::Right(variant)),
                 Err(error) => Err(error),
             }
