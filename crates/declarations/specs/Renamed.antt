@@ -1,7 +1,9 @@
--- The names that fields and variants are stored under, by serde's `rename_all`. A name is its bytes, in UTF-8. Only ASCII
--- letters and `_` change: the bytes of other characters are kept.
-use Rattle.std.specs.Prelude.{ℕ, List, [], ◌∷◌, Bool, true, false, Option, Some, None, map, codes, string_bytes, ◌==◌, if◌then◌else◌}
-use Rattle.std.specs.Char.{is_ascii_uppercase, to_ascii_lowercase as lower, to_ascii_uppercase as upper}
+-- The names that fields and variants are stored under, by serde's `rename_all`. A name is its
+-- bytes, in UTF-8. Only ASCII letters and `_` change: the bytes of other characters are kept.
+use Rattle.std.specs.Prelude.{ℕ, List, [], ◌∷◌, Bool, true, false, Option, Some, None, map, codes}
+use Rattle.std.specs.Prelude.{string_bytes, ◌==◌, if◌then◌else◌}
+use Rattle.std.specs.Char.{is_ascii_uppercase, to_ascii_lowercase as lower}
+use Rattle.std.specs.Char.{to_ascii_uppercase as upper}
 use Rattle.std.specs.List.{flat_map}
 use Rattle.std.specs.declared.alloc.Global.{Global}
 use Rattle.std.specs.declared.string.String.{String}
@@ -77,7 +79,8 @@ renamed_variant RenameRule.ScreamingSnake name = uppercase (snake name)
 renamed_variant RenameRule.Kebab name = kebab (snake name)
 renamed_variant RenameRule.ScreamingKebab name = uppercase (kebab (snake name))
 
--- the name that a field or a variant is stored under: its own `rename`, else by the rule, else its name in Rust
+-- the name that a field or a variant is stored under: its own `rename`, else by the rule, else its
+-- name in Rust
 abbrev pub stored_name :
     (RenameRule → List ℕ → List ℕ) → Option (String Global) → Option RenameRule → List ℕ → List ℕ
 stored_name renamed (Some rename) rule name = string_bytes rename

@@ -1,4 +1,5 @@
--- Attribute values and items that are written as values of a program, by their DynamoDB JSON, and read back.
+-- Attribute values and items that are written as values of a program, by their DynamoDB JSON, and
+-- read back.
 use Rattle.std.specs.Prelude.{◌≡◌, Ok}
 use Rattle.dynamo_value.specs.Av.{Av, Members}
 use Rattle.dynamo_value.specs.HasBytes.{HasBytes, MembersHaveBytes}
@@ -20,16 +21,19 @@ use Rattle.dynamo_json.specs.Plain.{plain}
 abbrev pub TellsSome : Type 0
 TellsSome = (a : Av) → (d : Datum) × Tells a d
 
--- What a value of a program tells is among what its attribute value tells, and the maps of that are in order.
+-- What a value of a program tells is among what its attribute value tells, and the maps of that are
+-- in order.
 abbrev pub TellsItsDatum : Type 0
 TellsItsDatum = (v : AttributeValue) → KeysDiffer v → Tells (view v) (attribute_datum v)
 
 abbrev pub ViewsInOrder : Type 0
 ViewsInOrder = (v : AttributeValue) → InOrder (view v)
 
--- The datum is written as an attribute value; that is read as this one alone; its plain JSON is the DynamoDB JSON of this one.
+-- The datum is written as an attribute value; that is read as this one alone; its plain JSON is the
+-- DynamoDB JSON of this one.
 abbrev pub AttributeBack : Av → Datum → Type 0
-AttributeBack a d = (e : Av) × (written d ≡ Ok e) × (read_attribute e ≡ Ok a) × (plain d ≡ Ok (json_of a))
+AttributeBack a d = (e : Av) × (written d ≡ Ok e) × (read_attribute e ≡ Ok a)
+    × (plain d ≡ Ok (json_of a))
 
 abbrev pub EachDatumBack : Type 0
 EachDatumBack = (a : Av) (d : Datum) → HasBytes a → InOrder a → Tells a d → AttributeBack a d
@@ -46,7 +50,8 @@ abbrev pub ItemViewsInOrder : Type 0
 ItemViewsInOrder = (item : Item) → ItemInOrder (item_view item)
 
 abbrev pub ItemBack : Members → Datum → Type 0
-ItemBack members d = (e : Av) × (written d ≡ Ok e) × (read_item e ≡ Ok members) × (plain d ≡ Ok (item_json members))
+ItemBack members d = (e : Av) × (written d ≡ Ok e) × (read_item e ≡ Ok members)
+    × (plain d ≡ Ok (item_json members))
 
 abbrev pub EachItemDatumBack : Type 0
 EachItemDatumBack =

@@ -1,5 +1,6 @@
--- The texts of DynamoDB JSON that are followed to their end, a token at a time: those whose tokens are the ones that are written for an
--- attribute value or an item. Spaces and escapes are free, and the members of a map come in any order, a name twice among them.
+-- The texts of DynamoDB JSON that are followed to their end, a token at a time: those whose tokens
+-- are the ones that are written for an attribute value or an item. Spaces and escapes are free, and
+-- the members of a map come in any order, a name twice among them.
 use Rattle.std.specs.Prelude.{◌≡◌, ◌≤◌, ℕ, List, ◌++◌, map}
 use Rattle.std.specs.List.{AllByRecursion}
 use Rattle.base64.specs.GeneralPurpose.{IsBytes}
@@ -22,11 +23,13 @@ use Rattle.dynamo_json.specs.Tokens.{tokens_of}
 
 -- the JSON object that has these attributes under this name, no deeper than a text may nest
 abbrev pub IsWritable : List ℕ → Members → Type 0
-IsWritable name members = MembersHaveBytes members × (depth (one_member name (item_json members)) ≤ max_depth)
+IsWritable name members = MembersHaveBytes members
+    × (depth (one_member name (item_json members)) ≤ max_depth)
 
 -- the text spells that object
 abbrev pub SpellsItem : List ℕ → List ℕ → Members → Type 0
-SpellsItem text name members = IsWritable name members × (tokens text ≡ tokens_of (one_member name (item_json members)))
+SpellsItem text name members = IsWritable name members
+    × (tokens text ≡ tokens_of (one_member name (item_json members)))
 
 -- ---- for private clauses: what stands next in the tokens
 
@@ -57,7 +60,8 @@ content_in (av.Bs blobs) = strings (map base64_text blobs)
 
 -- an attribute value, no deeper than so many levels
 abbrev pub ValueIsNext : ℕ → List Token → Type 0
-ValueIsNext d ts = (a : Av) × (rest : List Token) × HasBytes a × (depth (json_of a) ≤ d) × (ts ≡ tokens_of (json_of a) ++ rest)
+ValueIsNext d ts = (a : Av) × (rest : List Token) × HasBytes a × (depth (json_of a) ≤ d)
+    × (ts ≡ tokens_of (json_of a) ++ rest)
 
 -- its content, under this prefix
 abbrev pub ContentIsNext : ℕ → Prefix → List Token → Type 0
@@ -77,7 +81,8 @@ MembersAreNext d ts =
 
 -- the texts of a set, and the base64 texts of one of byte strings
 abbrev pub TextsAreNext : List Token → Type 0
-TextsAreNext ts = (texts : List (List ℕ)) × (rest : List Token) × (ts ≡ tokens_in (texts_json texts) ++ rest)
+TextsAreNext ts = (texts : List (List ℕ)) × (rest : List Token)
+    × (ts ≡ tokens_in (texts_json texts) ++ rest)
 
 abbrev pub BlobsAreNext : List Token → Type 0
 BlobsAreNext ts =

@@ -1,5 +1,6 @@
--- DynamoDB JSON: the JSON value of an attribute value is an object of one member. Its key names the kind, its value is the
--- content: a number is its text, so that no digit is lost, a byte string its base64 text, a set an array.
+-- DynamoDB JSON: the JSON value of an attribute value is an object of one member. Its key names the
+-- kind, its value is the content: a number is its text, so that no digit is lost, a byte string its
+-- base64 text, a set an array.
 use Rattle.std.specs.Prelude.{ℕ, List, map}
 use Rattle.serde_json.specs.Data as json
 use Rattle.serde_json.specs.Data.{Data}

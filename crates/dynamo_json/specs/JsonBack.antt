@@ -23,7 +23,8 @@ IsWhole (json.negative (pos n)) = ⊥
 IsWhole (json.negative (negsuc n)) = n < 2 ^ 63
 IsWhole (json.float x) = ⊥
 
--- without floats; the members of an object are in ascending order of the bytes of their names, each name once
+-- without floats; the members of an object are in ascending order of the bytes of their names, each
+-- name once
 abbrev mutual
   pub IsJson : Data → Type 0
   IsJson (json.number n) = IsWhole n
@@ -39,6 +40,8 @@ abbrev mutual
   MembersAreJson json.no_members = Unit {0}
   MembersAreJson (json.member name j ms) = IsJson j × MembersAreJson ms
 
--- It is written as an attribute value; that is read as the JSON value alone; its plain JSON is itself.
+-- It is written as an attribute value; that is read as the JSON value alone; its plain JSON is
+-- itself.
 abbrev pub JsonBack : Data → Type 0
-JsonBack j = (a : Av) × (written (json_datum j) ≡ Ok a) × (read_value a ≡ value j) × (plain (json_datum j) ≡ Ok j)
+JsonBack j = (a : Av) × (written (json_datum j) ≡ Ok a) × (read_value a ≡ value j)
+    × (plain (json_datum j) ≡ Ok j)

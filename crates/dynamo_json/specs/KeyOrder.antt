@@ -1,5 +1,5 @@
--- The members of each map come in ascending order of the bytes of their keys, each key once, at every depth. So it is with
--- each attribute value that a value of a program stands for.
+-- The members of each map come in ascending order of the bytes of their keys, each key once, at
+-- every depth. So it is with each attribute value that a value of a program stands for.
 use Rattle.std.specs.Prelude.{ℕ, List, [], ◌∷◌, T}
 use Rattle.std.specs.FinMap.Entries.{is_sorted}
 use Rattle.dynamo_value.specs.Av as av

@@ -1,12 +1,14 @@
--- The keys of each map differ, at every depth. So it is with each value of a program, since a hashed map has no key twice:
--- its own calls say so, and so does whatever goes over all its entries.
+-- The keys of each map differ, at every depth. So it is with each value of a program, since a
+-- hashed map has no key twice: its own calls say so, and so does whatever goes over all its
+-- entries.
 use Rattle.std.specs.Prelude.{◌≡◌, ◌&&◌, Bool, true, false, List, [], ◌∷◌, cond, map, String}
 use Rattle.std.specs.List.{list_all, list_any}
 use Rattle.std.specs.Map.{keys_of}
 use Rattle.std.specs.String.{string_eq}
 use Rattle.std.specs.declared.alloc.Global.{Global}
 use Rattle.dynamo_value.specs.Item.{map_of}
-use Rattle.dynamo_value.specs.declared.attribute_value.AttributeValue.{AttributeValue, fold-AttributeValue}
+use Rattle.dynamo_value.specs.declared.attribute_value.AttributeValue.{AttributeValue}
+use Rattle.dynamo_value.specs.declared.attribute_value.AttributeValue.{fold-AttributeValue}
 use Rattle.dynamo_value.specs.declared.attribute_value.AttributeValue.TheOpen.{AttributeValue-F}
 use Rattle.dynamo_value.specs.declared.item.Item.{Item}
 

@@ -39,10 +39,12 @@ WritesNoFloat = (a : Av) → has_float (json_of a) ≡ false
 -- ---- the same of items
 
 abbrev pub ReadsItemsExactly : Type 0
-ReadsItemsExactly = (members : Members) (j : Data) → MembersHaveBytes members → HasTexts j → (parsed_item j ≡ Ok members) ↔ (j ≡ item_json members)
+ReadsItemsExactly = (members : Members) (j : Data) → MembersHaveBytes members → HasTexts j
+    → (parsed_item j ≡ Ok members) ↔ (j ≡ item_json members)
 
 abbrev pub StandsForOneItem : Type 0
-StandsForOneItem = (ms ns : Members) → MembersHaveBytes ms → MembersHaveBytes ns → item_json ms ≡ item_json ns → ms ≡ ns
+StandsForOneItem = (ms ns : Members) → MembersHaveBytes ms → MembersHaveBytes ns
+    → item_json ms ≡ item_json ns → ms ≡ ns
 
 abbrev pub RefusesItemsByMessage : Type 0
 RefusesItemsByMessage = (j : Data) → IfErr (parsed_item j) SaysMessage

@@ -1,5 +1,6 @@
--- What is read from DynamoDB JSON, and what is promised of a refusal. At each object its keys are counted, then the prefix is
--- looked at, then the content. Arrays are read in order, objects in the order of their keys, and the first refusal is given.
+-- What is read from DynamoDB JSON, and what is promised of a refusal. At each object its keys are
+-- counted, then the prefix is looked at, then the content. Arrays are read in order, objects in the
+-- order of their keys, and the first refusal is given.
 use Rattle.std.specs.Prelude.{ℕ, List, [], ◌∷◌, Result, Ok, Err}
 use Rattle.serde_json.specs.Data as json
 use Rattle.serde_json.specs.Data.{Data}
@@ -10,7 +11,8 @@ use Rattle.dynamo_value.specs.Prefix as prefix
 use Rattle.dynamo_value.specs.Prefix.{Prefix}
 use Rattle.dynamo_value.specs.Refusal.{Refusal, any_message}
 use Rattle.dynamo_value.specs.Steps.{◌>>=◌}
-pub use Rattle.dynamo_value.specs.SingleKey.{not_an_object, no_key, several_keys, unknown_key, known}
+pub use Rattle.dynamo_value.specs.SingleKey.{not_an_object, no_key, several_keys, unknown_key}
+pub use Rattle.dynamo_value.specs.SingleKey.{known}
 
 abbrev pub string_in : Data → Result (List ℕ) Refusal
 string_in (json.string text) = Ok text
@@ -30,7 +32,8 @@ each_in f (json.item j js) = do
 abbrev mutual
   pub parsed : Data → Result Av Refusal
   parsed (json.object json.no_members) = Err no_key
-  parsed (json.object (json.member key content json.no_members)) = known key >>= λ p. parsed_content content p
+  parsed (json.object (json.member key content json.no_members)) = known key
+      >>= λ p. parsed_content content p
   parsed (json.object (json.member key content (json.member other value ms))) = Err several_keys
   parsed _ = Err not_an_object
 

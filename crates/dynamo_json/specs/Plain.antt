@@ -1,8 +1,10 @@
--- Plain JSON: the JSON value of a datum, by serde_json's own mapping of serde's data model, or its fault. A byte string is an
--- array of numbers. JSON has numbers of 64 bits: an integer that neither a u64 nor an i64 holds is refused. In a list or a
--- struct the first faulty element's or field's fault is the fault; in a map the first faulty pair's, its key's before its
--- value's. Of equal keys the last value stays.
-use Rattle.std.specs.Prelude.{ℕ, ℤ, pos, negsuc, ◌^◌, nat_lt, Bool, List, [], ◌∷◌, map, Result, Ok, Err, if◌then◌else◌, codes, encode_utf8}
+-- Plain JSON: the JSON value of a datum, by serde_json's own mapping of serde's data model, or its
+-- fault. A byte string is an array of numbers. JSON has numbers of 64 bits: an integer that neither
+-- a u64 nor an i64 holds is refused. In a list or a struct the first faulty element's or field's
+-- fault is the fault; in a map the first faulty pair's, its key's before its value's. Of equal keys
+-- the last value stays.
+use Rattle.std.specs.Prelude.{ℕ, ℤ, pos, negsuc, ◌^◌, nat_lt, Bool, List, [], ◌∷◌, map, Result, Ok}
+use Rattle.std.specs.Prelude.{Err, if◌then◌else◌, codes, encode_utf8}
 use Rattle.serde_json.specs.Data as json
 use Rattle.serde_json.specs.Data.{Data}
 use Rattle.serde_json.specs.Find.{of_integer}
@@ -20,7 +22,8 @@ in_64_bits (pos n) = nat_lt n (2 ^ 64)
 in_64_bits (negsuc n) = nat_lt n (2 ^ 63)
 
 abbrev pub number : ℤ → Result Data Fault
-number z = if in_64_bits z then Ok (json.number (of_integer z)) else Err (message (codes "number out of range"))
+number z = if in_64_bits z then Ok (json.number (of_integer z)) else Err
+    (message (codes "number out of range"))
 
 abbrev pub byte_number : ℕ → Data
 byte_number b = json.number (json.unsigned b)
@@ -50,14 +53,17 @@ abbrev mutual
   plain (datum.some content) = plain content
   plain (datum.unit_variant variant) = Ok (json.string variant.name)
   plain (datum.newtype_struct name content) = plain content
-  plain (datum.newtype_variant variant content) = plain content >>= λ j. Ok (one_member variant.name j)
+  plain (datum.newtype_variant variant content) = plain content
+      >>= λ j. Ok (one_member variant.name j)
   plain (datum.seq ds) = plain_elements ds >>= λ js. Ok (json.array js)
   plain (datum.tuple ds) = plain_elements ds >>= λ js. Ok (json.array js)
   plain (datum.tuple_struct name ds) = plain_elements ds >>= λ js. Ok (json.array js)
-  plain (datum.tuple_variant variant ds) = plain_elements ds >>= λ js. Ok (one_member variant.name (json.array js))
+  plain (datum.tuple_variant variant ds) = plain_elements ds
+      >>= λ js. Ok (one_member variant.name (json.array js))
   plain (datum.map ps) = plain_pairs ps >>= λ es. Ok (object_of_entries es)
   plain (datum.struct name fs) = plain_fields fs >>= λ es. Ok (object_of_entries es)
-  plain (datum.struct_variant variant fs) = plain_fields fs >>= λ es. Ok (one_member variant.name (object_of_entries es))
+  plain (datum.struct_variant variant fs) = plain_fields fs
+      >>= λ es. Ok (one_member variant.name (object_of_entries es))
   plain (datum.refuse text) = Err (message text)
 
   pub plain_elements : datum.Elements → Result json.Items Fault

@@ -22,10 +22,13 @@ abbrev pub AnswersPlain : Datum → Result Value Error → Type 0
 AnswersPlain d r = Answers view (TakesMemory d) (plain d) r
 
 -- an implementation's own refusal is handed on
-pub refused : (text : List ℕ) (e : Error) → fault_of e ≡ message text → AnswersPlain (datum.refuse text) (Err e)
+pub refused : (text : List ℕ) (e : Error) → fault_of e ≡ message text
+    → AnswersPlain (datum.refuse text) (Err e)
 refused text e is = inl (ap Err (sym is))
 
--- What is written by way of plain JSON, or its fault. Want of memory comes where the value wants memory of its own, or where
--- one of the two steps takes it.
+-- What is written by way of plain JSON, or its fault. Memory may run out where the value allocates
+-- memory of its own, or where one of the two steps does.
 abbrev pub AnswersViaJson : Type 0 → Datum → Result AttributeValue Error → Type 0
-AnswersViaJson wants d r = Answers av.view (wants ⊎ TakesMemory d ⊎ MatchResult (plain d) (λ j. MayTakeMemory (json_datum j)) (λ _. ⊥)) (via_json d) r
+AnswersViaJson wants d r = Answers av.view
+    (wants ⊎ TakesMemory d ⊎ MatchResult (plain d) (λ j. MayTakeMemory (json_datum j)) (λ _. ⊥))
+    (via_json d) r

@@ -1,5 +1,6 @@
--- The data whose plain JSON may take memory. A boolean, an integer, none, unit and a unit struct take none, nor does `Some` or
--- a newtype struct around what takes none; but an integer without a JSON number takes memory for the message that says so.
+-- The data whose plain JSON may take memory. A boolean, an integer, none, unit and a unit struct
+-- take none, nor does `Some` or a newtype struct around what takes none; but an integer without a
+-- JSON number takes memory for the message that says so.
 use Rattle.std.specs.Prelude.{◌≡◌, false}
 use Rattle.dynamo_ser.specs.Datum as datum
 use Rattle.dynamo_ser.specs.Datum.{Datum}

@@ -38,5 +38,6 @@ plain_values = record {
 pub answers : (d : Datum) (v : Value) → AnswersPlain d (Ok v) → plain d ≡ Ok (view v)
 answers d v is = is
 
-pub refuses : (d : Datum) (e : Error) → AnswersPlain d (Err e) → (plain d ≡ Err (fault_of e)) ⊎ (fault_of e ≡ out_of_memory)
+pub refuses : (d : Datum) (e : Error) → AnswersPlain d (Err e)
+    → (plain d ≡ Err (fault_of e)) ⊎ (fault_of e ≡ out_of_memory)
 refuses d e is = elim is [ inl x ↦ inl x | inr y ↦ inr y.1 ]

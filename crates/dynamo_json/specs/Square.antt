@@ -18,8 +18,9 @@ SquareInteger i128 z = in_64_bits z ≡ true
 SquareInteger u128 z = in_64_bits z ≡ true
 SquareInteger kind z = fits kind z ≡ true
 
--- The data of the square: without byte strings, without newtype structs named by the symbol of a kind of sets, and without
--- integers of 128 bits, outside of map keys, that neither a u64 nor an i64 holds.
+-- The data of the square: without byte strings, without newtype structs named by the symbol of a
+-- kind of sets, and without integers of 128 bits, outside of map keys, that neither a u64 nor an
+-- i64 holds.
 abbrev mutual
   pub InSquare : Datum → Type 0
   InSquare (datum.integer kind z) = SquareInteger kind z
@@ -58,8 +59,8 @@ AgreeBy R _ _ = ⊥
 abbrev pub WritesAs : Data → Av → Type 0
 WritesAs j a = written (json_datum j) ≡ Ok a
 
--- Plain JSON and the attribute value are both values or the same fault; where they are values, the plain JSON value is
--- written as the attribute value.
+-- Plain JSON and the attribute value are both values or the same fault; where they are values, the
+-- plain JSON value is written as the attribute value.
 abbrev pub IsSquare : Datum → Type 0
 IsSquare d = AgreeBy WritesAs (plain d) (written d)
 

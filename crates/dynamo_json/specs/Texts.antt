@@ -1,8 +1,9 @@
--- The strings of a JSON value hold bytes, numbers below 256, at every depth. Those of each value of a program do, since a text
--- is UTF-8.
+-- The strings of a JSON value hold bytes, numbers below 256, at every depth. Those of each value of
+-- a program do, since a text is UTF-8.
 use Rattle.std.specs.Prelude.{⊤}
 use Rattle.base64.specs.GeneralPurpose.{IsBytes}
-use Rattle.serde_json.specs.Data.{Data, string, array, object, Items, no_items, item, Members, no_members, member}
+use Rattle.serde_json.specs.Data.{Data, string, array, object, Items, no_items, item, Members}
+use Rattle.serde_json.specs.Data.{no_members, member}
 
 abbrev mutual
   pub HasTexts : Data → Type 0

@@ -1,4 +1,5 @@
--- What is written by way of plain JSON: the attribute value of what the plain JSON value tells, or the fault of plain JSON.
+-- What is written by way of plain JSON: the attribute value of what the plain JSON value tells, or
+-- the fault of plain JSON.
 use Rattle.std.specs.Prelude.{Result}
 use Rattle.dynamo_value.specs.Av.{Av}
 use Rattle.dynamo_value.specs.Fault.{Fault}

@@ -1,5 +1,6 @@
 -- The part of a value at a place.
-use Rattle.std.specs.Prelude.{◌≡◌, ◌⊎◌, ℕ, List, [], ◌∷◌, Option, Some, None, MatchOption, slice_get, string_bytes}
+use Rattle.std.specs.Prelude.{◌≡◌, ◌⊎◌, ℕ, List, [], ◌∷◌, Option, Some, None, MatchOption}
+use Rattle.std.specs.Prelude.{slice_get, string_bytes}
 use Rattle.std.specs.HashMap.{get_by_text}
 use Rattle.std.specs.declared.alloc.Global.{Global}
 use Rattle.std.specs.declared.string.String.{String}
@@ -27,7 +28,8 @@ IsUnderName name inner outer =
     ((text : String Global) × (string_bytes text ≡ name) × (steps_of outer ≡ Step.Attribute text ∷ steps_of inner))
     ⊎ (steps_of outer ≡ [])
 
--- one step: into the attribute of this name of an `M`, or into the element with this index of an `L`; no other value has such a part
+-- one step: into the attribute of this name of an `M`, or into the element with this index of an
+-- `L`; no other value has such a part
 abbrev pub IsPart : Step → AttributeValue → Option AttributeValue → Type 0
 IsPart (Step.Attribute name) value part =
     ((map : Table) × (value ≡ of.M map) × (part ≡ get_by_text map (string_bytes name)))

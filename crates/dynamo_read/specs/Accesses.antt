@@ -20,7 +20,8 @@ seq_left a = values_of (elements_view (into_iter_items a.values))
 
 -- the entries of an item that are left, and the source of a value whose key was read
 abbrev pub map_left : DeserializerMap → MapLeft
-map_left a = record { entries = entries_left a.access.entries; pending = content_of source_of a.access.pending }
+map_left a = record
+    { entries = entries_left a.access.entries; pending = content_of source_of a.access.pending }
 
 -- the variant's name and the source of its content, or the fault of asking for it
 abbrev pub enum_chosen : DeserializerEnum → Result (List ℕ × Option Source) Fault

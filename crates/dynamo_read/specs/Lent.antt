@@ -1,5 +1,6 @@
 -- What a reader of lent attribute values reads from, what it has not read yet, and what it shows.
-use Rattle.std.specs.Prelude.{ℕ, Bool, true, false, List, map, ◌≡◌, Option, Some, None, Result, Ok, Err, String, string_bytes}
+use Rattle.std.specs.Prelude.{ℕ, Bool, true, false, List, map, ◌≡◌, Option, Some, None, Result, Ok}
+use Rattle.std.specs.Prelude.{Err, String, string_bytes}
 use Rattle.std.specs.Borrow.{Bor}
 use Rattle.std.specs.Slice.Iter.{iter_rest}
 use Rattle.std.specs.Vec.Iter.{into_iter_items}
@@ -15,7 +16,8 @@ use Rattle.dynamo_de.specs.Shown.{Shown}
 use Rattle.dynamo_de.specs.Shows.{Shows}
 use Rattle.dynamo_de.specs.Showing.{only_entry}
 use Rattle.dynamo_de.specs.Source as of
-use Rattle.dynamo_de.specs.Source.{Entry, attribute, values_of, each, plain_text, number_text, byte_string}
+use Rattle.dynamo_de.specs.Source.{Entry, attribute, values_of, each, plain_text, number_text}
+use Rattle.dynamo_de.specs.Source.{byte_string}
 use Rattle.dynamo_de.specs.declared.showing.Showing.{Showing as ShowingOf}
 use Rattle.dynamo_read.specs.Entries.{seen_entries}
 use Rattle.dynamo_read.specs.Reader.{IsCounted}
@@ -80,7 +82,9 @@ abbrev pub lent_chosen : LentChoice → Result (List ℕ × Option of.Source) Fa
 lent_chosen c = form_lent c.form
 
 -- it shows exactly this, or refuses by exactly this fault, unless memory runs out
-abbrev pub IsLentShown : Shown → Result (ShowingOf LentDeserializer LentElements LentEntries LentChoice) ErrorImpl → Type 0
+abbrev pub IsLentShown : Shown
+    → Result (ShowingOf LentDeserializer LentElements LentEntries LentChoice) ErrorImpl
+    → Type 0
 IsLentShown shown r = Shows fault_of lent_source lent_elements lent_entries lent_chosen shown r
 
 -- the elements of a list are counted, those of a set are not

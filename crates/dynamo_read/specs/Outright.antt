@@ -1,5 +1,5 @@
--- What the reader of an owned attribute value answers without a request for memory: all but the entries of a map, which it lists
--- in the order of their keys.
+-- What the reader of an owned attribute value answers without a request for memory: all but the
+-- entries of a map, which it lists in the order of their keys.
 use Rattle.std.specs.Prelude.{◌≡◌, ◌⊎◌, Result, Ok, Err}
 use Rattle.dynamo_value.specs.Kind.{fault_of}
 use Rattle.dynamo_value.specs.declared.error.ErrorImpl.{ErrorImpl}

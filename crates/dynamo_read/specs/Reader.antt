@@ -31,7 +31,8 @@ abbrev pub source_of : Deserializer → of.Source
 source_of d = seen_source d.source
 
 -- it shows exactly this, or refuses by exactly this fault, unless memory runs out
-abbrev pub IsShown : Shown → Result (ShowingOf Deserializer Elements Entries Choice) ErrorImpl → Type 0
+abbrev pub IsShown : Shown → Result (ShowingOf Deserializer Elements Entries Choice) ErrorImpl
+    → Type 0
 IsShown shown r = Shows fault_of source_of elements_left entries_left chosen_of shown r
 
 -- the requests at which elements are shown

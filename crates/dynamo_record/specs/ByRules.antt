@@ -1,5 +1,7 @@
--- Described structs that take the entries of a map by rules: other names of fields, and unknown fields that are refused.
-use Rattle.std.specs.Prelude.{◌≡◌, Bool, true, false, List, [], ◌∷◌, ◌++◌, None, Result, Ok, Err, codes}
+-- Described structs that take the entries of a map by rules: other names of fields, and unknown
+-- fields that are refused.
+use Rattle.std.specs.Prelude.{◌≡◌, Bool, true, false, List, [], ◌∷◌, ◌++◌, None, Result, Ok, Err}
+use Rattle.std.specs.Prelude.{codes}
 use Rattle.dynamo_value.specs.Fault.{Fault}
 use Rattle.dynamo_ser.specs.Datum as datum
 use Rattle.dynamo_ser.specs.Datum.{Datum}
@@ -10,13 +12,15 @@ use Rattle.dynamo_de.specs.Source.{Source, Text, Entry}
 use Rattle.dynamo_de.specs.Visitors.{Parts}
 use Rattle.dynamo_shape.specs.NameRules.{NameRules}
 use Rattle.dynamo_shape.specs.Permits.{IsMessageFault}
-use Rattle.dynamo_shape.specs.Read.{read, into, read_field, fields_in_order, fields_among, fields_by_rules, entry_by_rules, read_by_rules, last_of}
+use Rattle.dynamo_shape.specs.Read.{read, into, read_field, fields_in_order, fields_among}
+use Rattle.dynamo_shape.specs.Read.{fields_by_rules, entry_by_rules, read_by_rules, last_of}
 use Rattle.dynamo_shape.specs.Shape as shape
 use Rattle.dynamo_shape.specs.Shape.{Shape, FieldShapes, no_field_shapes, field_shape}
 use Rattle.dynamo_shape.proofs.FieldsByName.{Slots, first_slot, other_slots}
 use Rattle.dynamo_record.specs.About.{About}
 use Rattle.dynamo_record.specs.Listed.{Holds, IfRead}
-use Rattle.dynamo_record.specs.Records.{AboutRecord, record_fields, RecordAnswers, IsAlike, AreNamed, about_record}
+use Rattle.dynamo_record.specs.Records.{AboutRecord, record_fields, RecordAnswers, IsAlike}
+use Rattle.dynamo_record.specs.Records.{AreNamed, about_record}
 
 -- the refusal of a second entry for the field of this name
 abbrev pub duplicate_text : Text → Text
@@ -32,7 +36,10 @@ module _ {V L : Type 0} (rules : NameRules) (a : AboutRecord V L) where
 
   -- what may be answered on the parts of a struct
   abbrev pub FromPartsByRules : Parts → Result V Fault → Type 0
-  FromPartsByRules p r = RecordAnswers a (into (datum.struct a.name) (fields_by_rules rules (record_fields a) (fields_in_order (record_fields a)) (read_field (record_fields a)) p)) r
+  FromPartsByRules p r = RecordAnswers a
+      (into (datum.struct a.name)
+      (fields_by_rules rules (record_fields a) (fields_in_order (record_fields a))
+      (read_field (record_fields a)) p)) r
 
   -- as what is known of the struct, but for its shape
   abbrev pub about_by_rules : AreNamed a → About V
@@ -70,13 +77,21 @@ abbrev pub Held : {X : Type 0} → FieldShapes → Holds X → X → Before → 
 Held fs holds x before = (os : Slots) × holds x os [] × (pad fs os ≡ slots_of fs before)
 
 -- The entry is read behind what was read before, and then held too.
-abbrev pub EntersByRules : {X : Type 0} → NameRules → FieldShapes → Holds X → Before → X → Entry → Result (Unit {0}) Fault → Type 0
-EntersByRules rules fs holds before new e r = After (entry_by_rules rules fs (read_field fs) before e) (λ x. IfRead (λ _. Held fs holds new (before ++ x ∷ []))) r
+abbrev pub EntersByRules : {X : Type 0} → NameRules → FieldShapes → Holds X → Before → X → Entry
+    → Result (Unit {0}) Fault → Type 0
+EntersByRules rules fs holds before new e r = After
+    (entry_by_rules rules fs (read_field fs) before e)
+    (λ x. IfRead (λ _. Held fs holds new (before ++ x ∷ []))) r
 
 -- the struct of what was read before, and of the entries that are left
-abbrev pub struct_left : {V L : Type 0} → NameRules → AboutRecord V L → Before → List Entry → Answer Datum
-struct_left rules a before es = into (datum.struct a.name) (read_by_rules rules (record_fields a) (read_field (record_fields a)) before es >>= fields_among (record_fields a) [])
+abbrev pub struct_left : {V L : Type 0} → NameRules → AboutRecord V L → Before → List Entry
+    → Answer Datum
+struct_left rules a before es = into (datum.struct a.name)
+    (read_by_rules rules (record_fields a) (read_field (record_fields a)) before es
+    >>= fields_among (record_fields a) [])
 
 -- what is held tells what was read, and what is answered on what is left is answered on the whole
-abbrev pub RulesSoFar : {V L X : Type 0} → NameRules → AboutRecord V L → Holds X → X → List Entry → List Entry → Type 0
-RulesSoFar rules a holds x left es = (before : Before) × Held (record_fields a) holds x before × LeadsTo (IsAlike a) (struct_left rules a before left) (struct_left rules a [] es)
+abbrev pub RulesSoFar : {V L X : Type 0} → NameRules → AboutRecord V L → Holds X → X → List Entry
+    → List Entry → Type 0
+RulesSoFar rules a holds x left es = (before : Before) × Held (record_fields a) holds x before
+    × LeadsTo (IsAlike a) (struct_left rules a before left) (struct_left rules a [] es)

@@ -37,14 +37,27 @@ module _ {C T : Type 0} (value : C → T) (a : About T) where
   abbrev pub one_told : Variant → C → Datum
   one_told v x = datum.newtype_variant v (a.tells (value x))
 
-  value_conforms : (v : Variant) (x : C) → conforms_content (shape.one a.shape) v (one_told v x) → conforms a.shape (a.tells (value x))
+  value_conforms : (v : Variant) (x : C) → conforms_content (shape.one a.shape) v (one_told v x)
+      → conforms a.shape (a.tells (value x))
   value_conforms v x c = subst (conforms a.shape) (sym (ap content_in c.1)) c.2
 
-  pub one_by_value : (v : Variant) (x y : C) → conforms_content (shape.one a.shape) v (one_told v x) → conforms_content (shape.one a.shape) v (one_told v y) → Same (one_told v x) (one_told v y) → a.same (value x) (value y)
-  one_by_value v x y c d h = a.told_by_value (value x) (value y) (value_conforms v x c) (value_conforms v y d) (subst (Same (a.tells (value x))) (sym (ap content_in h.1)) h.2)
+  pub one_by_value : (v : Variant) (x y : C) → conforms_content (shape.one a.shape) v (one_told v x)
+      → conforms_content (shape.one a.shape) v (one_told v y)
+      → Same (one_told v x) (one_told v y)
+      → a.same (value x) (value y)
+  one_by_value v x y c d h = a.told_by_value (value x) (value y) (value_conforms v x c)
+      (value_conforms v y d) (subst (Same (a.tells (value x))) (sym (ap content_in h.1)) h.2)
 
-  pub one_alike : (v : Variant) (x y : C) → conforms_content (shape.one a.shape) v (one_told v x) → conforms_content (shape.one a.shape) v (one_told v y) → a.same (value x) (value y) → Same (one_told v x) (one_told v y)
-  one_alike v x y c d h = (a.tells (value y), refl, a.told_alike (value x) (value y) (value_conforms v x c) (value_conforms v y d) h)
+  pub one_alike : (v : Variant) (x y : C) → conforms_content (shape.one a.shape) v (one_told v x)
+      → conforms_content (shape.one a.shape) v (one_told v y)
+      → a.same (value x) (value y)
+      → Same (one_told v x) (one_told v y)
+  one_alike v x y c d h = (
+    a.tells (value y),
+    refl,
+    a.told_alike (value x) (value y)
+        (value_conforms v x c) (value_conforms v y d) h,
+  )
 
   abbrev pub about_one : AboutContent C
   about_one = record {
@@ -63,15 +76,26 @@ module _ {C L : Type 0} (list : C → L) (a : AboutList L) where
   abbrev pub several_told : Variant → C → Datum
   several_told v x = datum.tuple_variant v (elements_of (a.told (list x) []))
 
-  values_conform : (v : Variant) (x : C) → conforms_content (shape.several (shapes_of (a.shapes []))) v (several_told v x) → ConformEach (a.shapes []) (a.told (list x) [])
-  values_conform v x c = each_element (a.shapes []) (a.told (list x) []) (subst (conform_each (shapes_of (a.shapes []))) (sym (ap elements_in c.1)) c.2)
+  values_conform : (v : Variant) (x : C)
+      → conforms_content (shape.several (shapes_of (a.shapes []))) v (several_told v x)
+      → ConformEach (a.shapes []) (a.told (list x) [])
+  values_conform v x c = each_element (a.shapes []) (a.told (list x) [])
+      (subst (conform_each (shapes_of (a.shapes []))) (sym (ap elements_in c.1)) c.2)
 
-  pub several_by_value : (v : Variant) (x y : C) → conforms_content (shape.several (shapes_of (a.shapes []))) v (several_told v x) → conforms_content (shape.several (shapes_of (a.shapes []))) v (several_told v y) → Same (several_told v x) (several_told v y) → a.same (list x) (list y)
+  pub several_by_value : (v : Variant) (x y : C)
+      → conforms_content (shape.several (shapes_of (a.shapes []))) v (several_told v x)
+      → conforms_content (shape.several (shapes_of (a.shapes []))) v (several_told v y)
+      → Same (several_told v x) (several_told v y)
+      → a.same (list x) (list y)
   several_by_value v x y c d h =
       let alike = same_each (a.told (list x) []) (a.told (list y) []) (subst (SameElements (elements_of (a.told (list x) []))) (sym (ap elements_in h.1)) h.2) in
       (a.told_by_value (list x) (list y) [] [] [] (values_conform v x c) (values_conform v y d) alike).0
 
-  pub several_alike : (v : Variant) (x y : C) → conforms_content (shape.several (shapes_of (a.shapes []))) v (several_told v x) → conforms_content (shape.several (shapes_of (a.shapes []))) v (several_told v y) → a.same (list x) (list y) → Same (several_told v x) (several_told v y)
+  pub several_alike : (v : Variant) (x y : C)
+      → conforms_content (shape.several (shapes_of (a.shapes []))) v (several_told v x)
+      → conforms_content (shape.several (shapes_of (a.shapes []))) v (several_told v y)
+      → a.same (list x) (list y)
+      → Same (several_told v x) (several_told v y)
   several_alike v x y c d h = (
     elements_of (a.told (list y) []),
     refl,
@@ -108,15 +132,26 @@ module _ {C L : Type 0} (names : Names) (list : C → L) (a : AboutList L) where
   many : (x : C) → AsMany (a.shapes []) (a.told (list x) [])
   many x = a.many (list x) [] [] tt
 
-  each_conforms : AreApart → (v : Variant) (x : C) → conforms_content (shape.named variant_fields) v (named_told v x) → ConformEach (a.shapes []) (a.told (list x) [])
-  each_conforms named v x c = each_field names (a.shapes []) (a.defaults []) (a.told (list x) []) (apart named) (many x) (subst (conform_fields variant_fields) (sym (ap fields_in c.1)) c.2)
+  each_conforms : AreApart → (v : Variant) (x : C)
+      → conforms_content (shape.named variant_fields) v (named_told v x)
+      → ConformEach (a.shapes []) (a.told (list x) [])
+  each_conforms named v x c = each_field names (a.shapes []) (a.defaults []) (a.told (list x) [])
+      (apart named) (many x) (subst (conform_fields variant_fields) (sym (ap fields_in c.1)) c.2)
 
-  pub named_by_value : AreApart → (v : Variant) (x y : C) → conforms_content (shape.named variant_fields) v (named_told v x) → conforms_content (shape.named variant_fields) v (named_told v y) → Same (named_told v x) (named_told v y) → a.same (list x) (list y)
+  pub named_by_value : AreApart → (v : Variant) (x y : C)
+      → conforms_content (shape.named variant_fields) v (named_told v x)
+      → conforms_content (shape.named variant_fields) v (named_told v y)
+      → Same (named_told v x) (named_told v y)
+      → a.same (list x) (list y)
   named_by_value named v x y c d h =
       let alike = data_same names (a.shapes []) (a.defaults []) (a.told (list x) []) (a.told (list y) []) (apart named) (many x) (many y) (subst (SameFields (named_fields names (a.defaults []) (a.told (list x) []))) (sym (ap fields_in h.1)) h.2) in
       (a.told_by_value (list x) (list y) [] [] [] (each_conforms named v x c) (each_conforms named v y d) alike).0
 
-  pub named_alike : AreApart → (v : Variant) (x y : C) → conforms_content (shape.named variant_fields) v (named_told v x) → conforms_content (shape.named variant_fields) v (named_told v y) → a.same (list x) (list y) → Same (named_told v x) (named_told v y)
+  pub named_alike : AreApart → (v : Variant) (x y : C)
+      → conforms_content (shape.named variant_fields) v (named_told v x)
+      → conforms_content (shape.named variant_fields) v (named_told v y)
+      → a.same (list x) (list y)
+      → Same (named_told v x) (named_told v y)
   named_alike named v x y c d h = (
     named_fields names (a.defaults []) (a.told (list y) []),
     refl,

@@ -38,8 +38,10 @@ abbrev pub fill_at : ℕ → FieldShapes → Datum → Slots → Slots
 fill_at i fs d os = fill_one (fields_from i fs) i d os
 
 -- what is held then tells what was read
-abbrev pub FillsAt : {X : Type 0} → (X → Slots → Type 0) → ℕ → FieldShapes → Slots → X → Source → Result (Unit {0}) Fault → Type 0
-FillsAt holds i fs os new source r = After (read_at i fs source) (λ d. IfRead (λ _. holds new (fill_at i fs d os))) r
+abbrev pub FillsAt : {X : Type 0} → (X → Slots → Type 0) → ℕ → FieldShapes → Slots → X → Source
+    → Result (Unit {0}) Fault → Type 0
+FillsAt holds i fs os new source r = After (read_at i fs source)
+    (λ d. IfRead (λ _. holds new (fill_at i fs d os))) r
 
 -- ---- entry by entry
 
@@ -47,8 +49,10 @@ FillsAt holds i fs os new source r = After (read_at i fs source) (λ d. IfRead (
 abbrev pub IsEntry : {D : Type 0} → (D → Source) → D × D → Entry → Type 0
 IsEntry source d e = (source d.0 ≡ key_text e.0) × (source d.1 ≡ attribute e.1)
 
--- The entry is read as the field of its name, which is then held; under any other name it is ignored.
-abbrev pub Enters : {X : Type 0} → (X → Slots → Type 0) → FieldShapes → Slots → X → Entry → Result (Unit {0}) Fault → Type 0
+-- The entry is read as the field of its name, which is then held; under any other name it is
+-- ignored.
+abbrev pub Enters : {X : Type 0} → (X → Slots → Type 0) → FieldShapes → Slots → X → Entry
+    → Result (Unit {0}) Fault → Type 0
 Enters holds fs os new e r = FillsAt holds (place_in 0 fs e.0) fs os new (attribute e.1) r
 
 abbrev pub entry_at : FieldShapes → ℕ → Slots → Av → Answer Slots
@@ -62,9 +66,14 @@ abbrev pub reads_on : (Fields → Datum) → FieldShapes → Slots → List Entr
 reads_on make fs os es = read_fields (place_in 0 fs) (entry_at fs) (finish make fs) os es
 
 -- what is held tells what was read, and what is answered on what is left is answered on the whole
-abbrev pub SoFar : {X V : Type 0} → (Fields → Datum) → FieldShapes → (Datum → Result V Fault → Type 0) → (X → Slots → Type 0) → X → List Entry → List Entry → Type 0
-SoFar make fs answers holds x left es = (os : Slots) × holds x os × LeadsTo answers (reads_on make fs os left) (reads_on make fs (empty fs) es)
+abbrev pub SoFar : {X V : Type 0} → (Fields → Datum) → FieldShapes
+    → (Datum → Result V Fault → Type 0)
+    → (X → Slots → Type 0) → X → List Entry → List Entry → Type 0
+SoFar make fs answers holds x left es = (os : Slots) × holds x os
+    × LeadsTo answers (reads_on make fs os left) (reads_on make fs (empty fs) es)
 
 -- the same of a described struct, whose slots are all that is held
-abbrev pub StructSoFar : {V L X : Type 0} → AboutRecord V L → Holds X → X → List Entry → List Entry → Type 0
-StructSoFar a holds x left es = SoFar (datum.struct a.name) (record_fields a) (IsAlike a) (λ x os. holds x os []) x left es
+abbrev pub StructSoFar : {V L X : Type 0} → AboutRecord V L → Holds X → X → List Entry → List Entry
+    → Type 0
+StructSoFar a holds x left es = SoFar (datum.struct a.name) (record_fields a) (IsAlike a)
+    (λ x os. holds x os []) x left es

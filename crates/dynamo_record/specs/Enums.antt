@@ -15,7 +15,8 @@ use Rattle.dynamo_record.specs.About.{About}
 use Rattle.dynamo_record.specs.Names.{Names, differ, place_of}
 use Rattle.dynamo_record.specs.Variants.{AboutVariants, variants_of}
 
--- The name of an enum, those of its variants in order, the variant of a value, and what is known of the variants.
+-- The name of an enum, those of its variants in order, the variant of a value, and what is known of
+-- the variants.
 pub record AboutEnum (V L : Type 0) : Type 1 where
   pub name : Text
   pub names : Names
@@ -29,7 +30,8 @@ enum_of name names parts list = record { name = name; names = names; parts = par
 abbrev pub of_variants : {V L : Type 0} → AboutEnum V L → AboutVariants L → AboutEnum V L
 of_variants a list = enum_of a.name a.names a.parts list
 
--- the name of a variant is its number among those from 0 on, and any other text is refused by a message
+-- the name of a variant is its number among those from 0 on, and any other text is refused by a
+-- message
 abbrev pub NamesVariant : Names → Text → Result ℕ Fault → Type 0
 NamesVariant ns t (Ok i) = (i ≡ place_of 0 ns t) × (i < length ns) × (i + 1 < 2 ^ 64)
 NamesVariant ns t (Err f) = (place_of 0 ns t ≡ length ns) × IsMessageFault f

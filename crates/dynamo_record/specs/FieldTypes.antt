@@ -1,4 +1,5 @@
--- How fields are stored otherwise than as their own values: lists as sets, and a missing field as its default.
+-- How fields are stored otherwise than as their own values: lists as sets, and a missing field as
+-- its default.
 use Rattle.std.specs.Prelude.{◌≡◌, Result, Ok, Err}
 use Rattle.std.proofs.Common.{refl, ap, subst}
 use Rattle.std.specs.declared.alloc.Global.{Global}
@@ -47,7 +48,11 @@ abbrev pub empty_set : SetKind → Datum
 empty_set k = datum.newtype_struct (symbol k) (datum.seq datum.no_elements)
 
 -- a set is read as a list is
-pub set_permitted : {T : Type 0} (k : SetKind) (s : Shape) (tells : T → Datum) (reads : Source → Result T Fault → Type 0) → ReadsByShape s tells reads → ReadsByShape {T = Vec T Global} (shape.set k s) (set_tells k tells) (λ source. After (read_elements source) (ReadsList reads))
+pub set_permitted : {T : Type 0} (k : SetKind) (s : Shape) (tells : T → Datum)
+    (reads : Source → Result T Fault → Type 0)
+    → ReadsByShape s tells reads
+    → ReadsByShape {T = Vec T Global} (shape.set k s) (set_tells k tells)
+    (λ source. After (read_elements source) (ReadsList reads))
 set_permitted {T} k s tells reads h source r a =
     subst (λ x. AnswersByShape (conforms (shape.set k s)) Same (set_tells {T = T} k tells) x r) (into_into datum.seq (datum.newtype_struct (symbol k)) (read_elements source >>= read_list (read s)))
     (made (conforms (shape.list s)) Same (conforms (shape.set k s)) Same (list_tells tells) (datum.newtype_struct (symbol k))

@@ -1,4 +1,5 @@
--- Fields in order: their shapes, what a missing one reads as, and the data that are told; and the same under names.
+-- Fields in order: their shapes, what a missing one reads as, and the data that are told; and the
+-- same under names.
 use Rattle.std.specs.Prelude.{ℕ, suc, List, [], ◌∷◌, Option, Some, None, ⊤}
 use Rattle.std.proofs.Common.{zero, Ok, Err}
 use Rattle.dynamo_ser.specs.Datum.{Datum, Fields, no_fields}
@@ -10,7 +11,8 @@ use Rattle.dynamo_shape.specs.Conforms.{conforms}
 use Rattle.dynamo_shape.specs.Read.{read, missing}
 use Rattle.dynamo_shape.specs.Same.{Same}
 use Rattle.dynamo_shape.specs.Shape as shape
-use Rattle.dynamo_shape.specs.Shape.{Shape, Shapes, no_shapes, FieldShapes, no_field_shapes, field_shape}
+use Rattle.dynamo_shape.specs.Shape.{Shape, Shapes, no_shapes, FieldShapes, no_field_shapes}
+use Rattle.dynamo_shape.specs.Shape.{field_shape}
 use Rattle.dynamo_shape.proofs.FieldsByName.{Slots, first_slot, other_slots}
 use Rattle.dynamo_record.specs.Names.{Names, first_name, other_names}
 
@@ -59,26 +61,32 @@ abbrev pub unless_read : Text → Answer Datum → Option Text → Option Text
 unless_read n (Ok d) later = later
 unless_read n (Err r) later = Some n
 
--- where nothing was read of a field, its default is read; without one an option is none, and any other field is missed
+-- where nothing was read of a field, its default is read; without one an option is none, and any
+-- other field is missed
 abbrev pub complete : List Shape → Defaults → Slots → Answer (List Datum)
 complete [] gs os = value []
-complete (s ∷ ss) gs os = value_or (first_slot os) (missing s (first_default gs)) >>= λ d. complete ss (other_defaults gs) (other_slots os) >>= λ ds. value (d ∷ ds)
+complete (s ∷ ss) gs os = value_or (first_slot os) (missing s (first_default gs))
+    >>= λ d. complete ss (other_defaults gs) (other_slots os) >>= λ ds. value (d ∷ ds)
 
 -- the name of the first field that is missed, where the names are these
 abbrev pub missed_name : Names → List Shape → Defaults → Slots → Option Text
 missed_name ns [] gs os = None
-missed_name ns (s ∷ ss) gs os = unless_read (first_name ns) (value_or (first_slot os) (missing s (first_default gs))) (missed_name (other_names ns) ss (other_defaults gs) (other_slots os))
+missed_name ns (s ∷ ss) gs os = unless_read (first_name ns)
+    (value_or (first_slot os) (missing s (first_default gs)))
+    (missed_name (other_names ns) ss (other_defaults gs) (other_slots os))
 
 -- ---- under names, and as elements
 
 abbrev pub field_shapes : Names → List Shape → Defaults → FieldShapes
 field_shapes ns [] gs = no_field_shapes
-field_shapes ns (s ∷ ss) gs = field_shape (first_name ns) s (first_default gs) (field_shapes (other_names ns) ss (other_defaults gs))
+field_shapes ns (s ∷ ss) gs = field_shape (first_name ns) s (first_default gs)
+    (field_shapes (other_names ns) ss (other_defaults gs))
 
 -- each field that is not left out
 abbrev pub named_fields : Names → Defaults → List Datum → Fields
 named_fields ns gs [] = no_fields
-named_fields ns gs (d ∷ ds) = put_field (first_name ns) (first_default gs) d (named_fields (other_names ns) (other_defaults gs) ds)
+named_fields ns gs (d ∷ ds) = put_field (first_name ns) (first_default gs) d
+    (named_fields (other_names ns) (other_defaults gs) ds)
 
 -- as many data as shapes
 abbrev pub AsMany : List Shape → List Datum → Type 0

@@ -14,8 +14,13 @@ about_as as' l = record {
   many = λ w. l.many (as' w);
 }
 
-abbrev pub about_four : {A B C D : Type 0} → AboutList A → AboutList B → AboutList C → AboutList D → AboutList (A × B × C × D)
-about_four a b c d = about_as (λ w. ((w.0, w.1), (w.2, w.3))) (about_both (about_both a b) (about_both c d))
+abbrev pub about_four : {A B C D : Type 0} → AboutList A → AboutList B → AboutList C → AboutList D
+    → AboutList (A × B × C × D)
+about_four a b c d = about_as (λ w. ((w.0, w.1), (w.2, w.3)))
+    (about_both (about_both a b) (about_both c d))
 
-abbrev pub about_eight : {A B C D E F G H : Type 0} → AboutList A → AboutList B → AboutList C → AboutList D → AboutList E → AboutList F → AboutList G → AboutList H → AboutList (A × B × C × D × E × F × G × H)
-about_eight a b c d e f g h = about_as (λ w. ((w.0, w.1, w.2, w.3), (w.4, w.5, w.6, w.7))) (about_both (about_four a b c d) (about_four e f g h))
+abbrev pub about_eight : {A B C D E F G H : Type 0} → AboutList A → AboutList B → AboutList C
+    → AboutList D → AboutList E → AboutList F → AboutList G → AboutList H
+    → AboutList (A × B × C × D × E × F × G × H)
+about_eight a b c d e f g h = about_as (λ w. ((w.0, w.1, w.2, w.3), (w.4, w.5, w.6, w.7)))
+    (about_both (about_four a b c d) (about_four e f g h))

@@ -24,25 +24,40 @@ at_others i n h = omega arith
 not_both : (i n : ℕ) → n ≡ i → suc i ≤ n → ⊥
 not_both i n h k = omega arith
 
-pub content_index : (c : Content) (v : Variant) (d : Datum) → conforms_content c v d → index_of d ≡ v.index
+pub content_index : (c : Content) (v : Variant) (d : Datum) → conforms_content c v d
+    → index_of d ≡ v.index
 content_index shape.nothing v d h = ap index_of h
 content_index (shape.one s) v d h = ap index_of h.1
 content_index (shape.several ss) v d h = ap index_of h.1
 content_index (shape.named fs) v d h = ap index_of h.1
 
-variant_index : (vs : Variants) (name : Text) (i : ℕ) (d : Datum) → conforms_variant name i vs d → i ≤ index_of d
+variant_index : (vs : Variants) (name : Text) (i : ℕ) (d : Datum) → conforms_variant name i vs d
+    → i ≤ index_of d
 variant_index no_variants name i d h = absurd h
 variant_index (variant own c vs) name i d h = elim h [
   | inl here ↦ at_first i (index_of d) (content_index c (datum.variant name i own) d here)
   | inr others ↦ at_others i (index_of d) (variant_index vs name (suc i) d others)
 ]
 
--- a datum of the first variant's number conforms to the first, and one of a number behind it to the others
-pub in_first : (name own : Text) (i : ℕ) (c : Content) (vs : Variants) (d : Datum) → index_of d ≡ i → conforms_variant name i (variant own c vs) d → conforms_content c (datum.variant name i own) d
-in_first name own i c vs d at h = elim h [ inl here ↦ here | inr others ↦ absurd (not_both i (index_of d) at (variant_index vs name (suc i) d others)) ]
+-- a datum of the first variant's number conforms to the first, and one of a number behind it to the
+-- others
+pub in_first : (name own : Text) (i : ℕ) (c : Content) (vs : Variants) (d : Datum) → index_of d ≡ i
+    → conforms_variant name i (variant own c vs) d
+    → conforms_content c (datum.variant name i own) d
+in_first name own i c vs d at h = elim h [
+  | inl here ↦ here
+  | inr others ↦ absurd (not_both i (index_of d) at (variant_index vs name (suc i) d others))
+]
 
-pub in_others : (name own : Text) (i : ℕ) (c : Content) (vs : Variants) (d : Datum) → suc i ≤ index_of d → conforms_variant name i (variant own c vs) d → conforms_variant name (suc i) vs d
-in_others name own i c vs d behind h = elim h [ inl here ↦ absurd (not_both i (index_of d) (content_index c (datum.variant name i own) d here) behind) | inr others ↦ others ]
+pub in_others : (name own : Text) (i : ℕ) (c : Content) (vs : Variants) (d : Datum)
+    → suc i ≤ index_of d
+    → conforms_variant name i (variant own c vs) d
+    → conforms_variant name (suc i) vs d
+in_others name own i c vs d behind h = elim h [
+  | inl here
+      ↦ absurd (not_both i (index_of d) (content_index c (datum.variant name i own) d here) behind)
+  | inr others ↦ others
+]
 
 -- the same data are of one variant
 pub same_index : (d e : Datum) → Same d e → index_of d ≡ index_of e

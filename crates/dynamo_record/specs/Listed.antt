@@ -1,6 +1,7 @@
--- Lists of fields by their types, each put in front of whatever follows, so that two lists are one list by going on with the
--- second behind the first.
-use Rattle.std.specs.Prelude.{◌≡◌, ◌⊎◌, ◌+◌, ℕ, suc, Bool, true, false, List, ◌∷◌, Option, Some, None, Result, Ok, Err, length, ⊤}
+-- Lists of fields by their types, each put in front of whatever follows, so that two lists are one
+-- list by going on with the second behind the first.
+use Rattle.std.specs.Prelude.{◌≡◌, ◌⊎◌, ◌+◌, ℕ, suc, Bool, true, false, List, ◌∷◌, Option, Some}
+use Rattle.std.specs.Prelude.{None, Result, Ok, Err, length, ⊤}
 use Rattle.std.proofs.Common.{zero}
 use Rattle.dynamo_value.specs.Fault.{Fault, message, out_of_memory}
 use Rattle.dynamo_ser.specs.Datum.{Datum}
@@ -23,22 +24,34 @@ Shapes = List Shape
 abbrev pub Data : Type 0
 Data = List Datum
 
--- values whose data are the same, in front of others, are the same by value, and what follows is the same
-abbrev pub FrontTold : {L : Type 0} → (Shapes → Shapes) → (L → Data → Data) → (L → L → Type 0) → Type 0
-FrontTold {L} shapes told same = (v w : L) (ss : Shapes) (ds es : Data) → ConformEach (shapes ss) (told v ds) → ConformEach (shapes ss) (told w es) → SameData (told v ds) (told w es)
+-- values whose data are the same, in front of others, are the same by value, and what follows is
+-- the same
+abbrev pub FrontTold : {L : Type 0} → (Shapes → Shapes) → (L → Data → Data) → (L → L → Type 0)
+    → Type 0
+FrontTold {L} shapes told same = (v w : L) (ss : Shapes) (ds es : Data)
+    → ConformEach (shapes ss) (told v ds)
+    → ConformEach (shapes ss) (told w es)
+    → SameData (told v ds) (told w es)
     → same v w × ConformEach ss ds × ConformEach ss es × SameData ds es
 
 -- values that are the same by value tell the same data, where what follows is the same
-abbrev pub FrontAlike : {L : Type 0} → (Shapes → Shapes) → (L → Data → Data) → (L → L → Type 0) → Type 0
-FrontAlike {L} shapes told same = (v w : L) (ss : Shapes) (ds es : Data) → ConformEach (shapes ss) (told v ds) → ConformEach (shapes ss) (told w es) → same v w
-    → (ConformEach ss ds → ConformEach ss es → SameData ds es) → SameData (told v ds) (told w es)
+abbrev pub FrontAlike : {L : Type 0} → (Shapes → Shapes) → (L → Data → Data) → (L → L → Type 0)
+    → Type 0
+FrontAlike {L} shapes told same = (v w : L) (ss : Shapes) (ds es : Data)
+    → ConformEach (shapes ss) (told v ds)
+    → ConformEach (shapes ss) (told w es)
+    → same v w
+    → (ConformEach ss ds → ConformEach ss es → SameData ds es)
+    → SameData (told v ds) (told w es)
 
 -- as many data are told as there are shapes, where so many follow
 abbrev pub FrontMany : {L : Type 0} → (Shapes → Shapes) → (L → Data → Data) → Type 0
-FrontMany {L} shapes told = (v : L) (ss : Shapes) (ds : Data) → AsMany ss ds → AsMany (shapes ss) (told v ds)
+FrontMany {L} shapes told = (v : L) (ss : Shapes) (ds : Data) → AsMany ss ds
+    → AsMany (shapes ss) (told v ds)
 
--- What is known of a list of fields: how many they are; their shapes, defaults and data in front of others; when two values are
--- the same, field by field; and that they are so exactly where they tell the same data.
+-- What is known of a list of fields: how many they are; their shapes, defaults and data in front of
+-- others; when two values are the same, field by field; and that they are so exactly where they
+-- tell the same data.
 pub record AboutList (L : Type 0) : Type 1 where
   pub count : ℕ
   pub shapes : Shapes → Shapes
@@ -78,7 +91,8 @@ module _ {L R : Type 0} (l : AboutList L) (r : AboutList R) where
       ((left.0, right.0), right.1, right.2, right.3)
 
   pub both_alike : FrontAlike both_shapes both_told both_same
-  both_alike p q ss ds es c d h others = l.told_alike p.0 q.0 (r.shapes ss) (r.told p.1 ds) (r.told q.1 es) c d h.0 (λ x y. r.told_alike p.1 q.1 ss ds es x y h.1 others)
+  both_alike p q ss ds es c d h others = l.told_alike p.0 q.0 (r.shapes ss) (r.told p.1 ds)
+      (r.told q.1 es) c d h.0 (λ x y. r.told_alike p.1 q.1 ss ds es x y h.1 others)
 
   abbrev pub about_both : AboutList (L × R)
   about_both = record {
@@ -112,7 +126,8 @@ HoldsBoth left right x os more = (rest : Slots) × left x.0 os rest × right x.1
 
 -- a slot behind these may be filled
 abbrev pub HoldsBehind : {X : Type 0} → ℕ → Holds X → Type 0
-HoldsBehind {X} count holds = (x : X) (os more : Slots) (i : ℕ) (d : Datum) → holds x os more → holds x (fill_slot (count + i) d os) (fill_slot i d more)
+HoldsBehind {X} count holds = (x : X) (os more : Slots) (i : ℕ) (d : Datum) → holds x os more
+    → holds x (fill_slot (count + i) d os) (fill_slot i d more)
 
 abbrev pub is_there : Option Datum → Bool
 is_there None = false
@@ -125,11 +140,13 @@ is_filled (suc i) os = is_filled i (other_slots os)
 
 -- a slot behind these is filled where it is among those that follow
 abbrev pub FilledBehind : {X : Type 0} → ℕ → Holds X → Type 0
-FilledBehind {X} count holds = (x : X) (os more : Slots) (i : ℕ) → holds x os more → is_filled (count + i) os ≡ is_filled i more
+FilledBehind {X} count holds = (x : X) (os more : Slots) (i : ℕ) → holds x os more
+    → is_filled (count + i) os ≡ is_filled i more
 
 -- the fields behind these are those that follow
 abbrev pub ReadBehind : ℕ → (Shapes → Shapes) → Type 0
-ReadBehind count shapes = (ss : Shapes) (i : ℕ) (source : Source) → read_nth (count + i) (shapes ss) source ≡ read_nth i ss source
+ReadBehind count shapes = (ss : Shapes) (i : ℕ) (source : Source)
+    → read_nth (count + i) (shapes ss) source ≡ read_nth i ss source
 
 abbrev pub Counts : ℕ → (Shapes → Shapes) → Type 0
 Counts count shapes = (ss : Shapes) → length (shapes ss) ≡ count + length ss
@@ -140,29 +157,44 @@ IfRead P (Ok x) = P x
 IfRead P (Err f) = ⊥
 
 -- a source is read by the field of a number, which is then held
-abbrev pub Fills : {X : Type 0} → Holds X → Shapes → ℕ → Slots → Slots → X → Source → Result (Unit {0}) Fault → Type 0
-Fills holds ss i os more new source r = After (read_nth i ss source) (λ d. IfRead (λ _. holds new (fill_slot i d os) more)) r
+abbrev pub Fills : {X : Type 0} → Holds X → Shapes → ℕ → Slots → Slots → X → Source
+    → Result (Unit {0}) Fault → Type 0
+Fills holds ss i os more new source r = After (read_nth i ss source)
+    (λ d. IfRead (λ _. holds new (fill_slot i d os) more)) r
 
 -- what is told is the data in front, so far as it conforms
-abbrev pub AlikeFront : {L : Type 0} → (Shapes → Shapes) → (L → Data → Data) → (Data → Data) → L → Type 0
-AlikeFront shapes told front v = (ss : Shapes) (ds es : Data) → ConformEach (shapes ss) (told v es) → (ConformEach ss es → SameData ds es) → SameData (front ds) (told v es)
+abbrev pub AlikeFront : {L : Type 0} → (Shapes → Shapes) → (L → Data → Data) → (Data → Data) → L
+    → Type 0
+AlikeFront shapes told front v = (ss : Shapes) (ds es : Data) → ConformEach (shapes ss) (told v es)
+    → (ConformEach ss es → SameData ds es)
+    → SameData (front ds) (told v es)
 
 -- a field is missed, and the fault names it
 abbrev pub IsMissed : Answer Data → Option Text → Fault → Type 0
-IsMissed all missed f = (name : Text) × (all ≡ refused) × (missed ≡ Some name) × (f ≡ message (missing_text name))
+IsMissed all missed f = (name : Text) × (all ≡ refused) × (missed ≡ Some name)
+    × (f ≡ message (missing_text name))
 
--- the fields are made of what is read first, and the others are what is read then; where a field is missed all is refused
-abbrev pub Makes : {L : Type 0} → (Shapes → Shapes) → (L → Data → Data) → Answer Data → Answer Data → Option L → Type 0
+-- the fields are made of what is read first, and the others are what is read then; where a field is
+-- missed all is refused
+abbrev pub Makes : {L : Type 0} → (Shapes → Shapes) → (L → Data → Data) → Answer Data → Answer Data
+    → Option L → Type 0
 Makes shapes told all others None = all ≡ refused
-Makes shapes told all others (Some v) = (front : Data → Data) × (all ≡ into front others) × AlikeFront shapes told front v
+Makes shapes told all others (Some v) = (front : Data → Data) × (all ≡ into front others)
+    × AlikeFront shapes told front v
 
--- the same where no field of the list is missed, so that the first which is missed stands behind; one that is missed is refused by
--- its name
-abbrev pub Completes : {L N E : Type 0} → (E → Fault) → (Shapes → Shapes) → (L → Data → Data) → Answer Data → Answer Data → Option Text → (N → Option Text) → Result (L × N) E → Type 0
-Completes fault shapes told all others missed behind (Ok p) = Makes shapes told all others (Some p.0) × (missed ≡ behind p.1)
-Completes fault shapes told all others missed behind (Err e) = (fault e ≡ out_of_memory) ⊎ IsMissed all missed (fault e)
+-- the same where no field of the list is missed, so that the first which is missed stands behind;
+-- one that is missed is refused by its name
+abbrev pub Completes : {L N E : Type 0} → (E → Fault) → (Shapes → Shapes) → (L → Data → Data)
+    → Answer Data → Answer Data → Option Text → (N → Option Text) → Result (L × N) E → Type 0
+Completes fault shapes told all others missed behind (Ok p) = Makes shapes told all others
+    (Some p.0)
+    × (missed ≡ behind p.1)
+Completes fault shapes told all others missed behind (Err e) = (fault e ≡ out_of_memory)
+    ⊎ IsMissed all missed (fault e)
 
 -- the same of a call that reads, and so may meet a fault
-abbrev pub MakesOrFails : {L E : Type 0} → (E → Fault) → (Shapes → Shapes) → (L → Data → Data) → Answer Data → Answer Data → Result (Option L) E → Type 0
+abbrev pub MakesOrFails : {L E : Type 0} → (E → Fault) → (Shapes → Shapes) → (L → Data → Data)
+    → Answer Data → Answer Data → Result (Option L) E → Type 0
 MakesOrFails fault shapes told all others (Ok o) = Makes shapes told all others o
-MakesOrFails fault shapes told all others (Err e) = (fault e ≡ out_of_memory) ⊎ Permits SameData all (Err (fault e))
+MakesOrFails fault shapes told all others (Err e) = (fault e ≡ out_of_memory)
+    ⊎ Permits SameData all (Err (fault e))

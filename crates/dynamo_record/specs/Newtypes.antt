@@ -43,21 +43,29 @@ abbrev pub about_newtype : {B V : Type 0} → Text → (B → V) → About V →
 about_newtype name field a = about_part field (named_newtype name a)
 
 -- what may be answered on a source: a newtype round what is read of the field
-abbrev pub newtype_reads : {B V : Type 0} → Text → (B → V) → About V → Source → Result B Fault → Type 0
+abbrev pub newtype_reads : {B V : Type 0} → Text → (B → V) → About V → Source → Result B Fault
+    → Type 0
 newtype_reads name field a source r = Through field (ReadsAs (named_newtype name a) source) r
 
-pub newtype_by_shape : {B V : Type 0} (name : Text) (field : B → V) (a : About V) → ReadsByShape (shape.newtype name a.shape) (λ b. datum.newtype_struct name (a.tells (field b))) (newtype_reads name field a)
-newtype_by_shape name field a = through_permitted (shape.newtype name a.shape) (λ v. datum.newtype_struct name (a.tells v)) (ReadsAs (named_newtype name a)) field (as_shape (named_newtype name a))
+pub newtype_by_shape : {B V : Type 0} (name : Text) (field : B → V) (a : About V)
+    → ReadsByShape (shape.newtype name a.shape) (λ b. datum.newtype_struct name (a.tells (field b)))
+    (newtype_reads name field a)
+newtype_by_shape name field a = through_permitted (shape.newtype name a.shape)
+    (λ v. datum.newtype_struct name (a.tells v)) (ReadsAs (named_newtype name a)) field
+    (as_shape (named_newtype name a))
 
 module _ {B V : Type 0} (name : Text) (field : B → V) (key : AboutKey V) where
   abbrev told : B → Datum
   told b = datum.newtype_struct name (key.about.tells (field b))
 
-  pub newtype_equal : (eq : V → V → Bool) → EqualAsTold key.about.tells eq → EqualAsTold told (λ b c. eq (field b) (field c))
+  pub newtype_equal : (eq : V → V → Bool) → EqualAsTold key.about.tells eq
+      → EqualAsTold told (λ b c. eq (field b) (field c))
   newtype_equal eq equal b c = let inner = equal (field b) (field c) in (λ t. ap (datum.newtype_struct name) (inner.0 t), λ e. inner.1 (ap content_in e))
 
   pub newtype_apart : ToldApart told
-  newtype_apart b c same = ap (datum.newtype_struct name) (key.told_apart (field b) (field c) (subst (Same (key.about.tells (field b))) (sym (ap content_in same.1)) same.2))
+  newtype_apart b c same = ap (datum.newtype_struct name)
+      (key.told_apart (field b) (field c)
+      (subst (Same (key.about.tells (field b))) (sym (ap content_in same.1)) same.2))
 
   -- equal, and in order, as the fields are
   abbrev pub key_newtype : AboutKey B
@@ -72,8 +80,12 @@ module _ {B V : Type 0} (name : Text) (field : B → V) (key : AboutKey V) where
   }
 
   -- where the fields are keys, so are the newtypes
-  pub newtype_is_key : (own : Shape) (tells : V → Datum) (equal : V → V → Bool) (order : V → V → Ordering) → IsKeyOf key own tells equal order
-      → IsKeyOf key_newtype (shape.newtype name own) (λ b. datum.newtype_struct name (tells (field b))) (λ b c. equal (field b) (field c)) (λ b c. order (field b) (field c))
+  pub newtype_is_key : (own : Shape) (tells : V → Datum) (equal : V → V → Bool)
+      (order : V → V → Ordering)
+      → IsKeyOf key own tells equal order
+      → IsKeyOf key_newtype (shape.newtype name own)
+      (λ b. datum.newtype_struct name (tells (field b))) (λ b c. equal (field b) (field c))
+      (λ b c. order (field b) (field c))
   newtype_is_key own tells equal order is = record {
     shape = ap (shape.newtype name) is.shape;
     tells = λ i b. datum.newtype_struct name (is.tells i (field b));
@@ -94,14 +106,19 @@ about_unit_struct name one = record {
 
 -- what may be answered on a source: the one value, where reading at the shape gives it
 unfoldable pub ReadsUnitStruct : Text → Source → Result ⊤ Fault → Type 0
-ReadsUnitStruct name source r = AnswersByShape (conforms (shape.unit_struct name)) Same (λ _. datum.unit_struct name) (read (shape.unit_struct name) source) r
+ReadsUnitStruct name source r = AnswersByShape (conforms (shape.unit_struct name)) Same
+    (λ _. datum.unit_struct name) (read (shape.unit_struct name) source) r
 
 abbrev pub unit_struct_reads : {T : Type 0} → Text → Source → Result T Fault → Type 0
 unit_struct_reads name source r = Through (λ _. tt) (ReadsUnitStruct name source) r
 
-unit_as_shape : (name : Text) → ReadsByShape (shape.unit_struct name) (λ _. datum.unit_struct name) (ReadsUnitStruct name)
+unit_as_shape : (name : Text)
+    → ReadsByShape (shape.unit_struct name) (λ _. datum.unit_struct name) (ReadsUnitStruct name)
 unfolding ReadsUnitStruct
 unit_as_shape name source r h = h
 
-pub unit_struct_by_shape : {T : Type 0} (name : Text) → ReadsByShape {T = T} (shape.unit_struct name) (λ _. datum.unit_struct name) (unit_struct_reads name)
-unit_struct_by_shape name = through_permitted (shape.unit_struct name) (λ _. datum.unit_struct name) (ReadsUnitStruct name) (λ _. tt) (unit_as_shape name)
+pub unit_struct_by_shape : {T : Type 0} (name : Text)
+    → ReadsByShape {T = T} (shape.unit_struct name) (λ _. datum.unit_struct name)
+    (unit_struct_reads name)
+unit_struct_by_shape name = through_permitted (shape.unit_struct name) (λ _. datum.unit_struct name)
+    (ReadsUnitStruct name) (λ _. tt) (unit_as_shape name)

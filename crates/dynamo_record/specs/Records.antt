@@ -66,7 +66,9 @@ module _ {V L : Type 0} (a : AboutRecord V L) where
 
   -- what may be answered on the parts of a struct
   abbrev pub FromParts : Parts → Result V Fault → Type 0
-  FromParts p r = RecordAnswers (into (datum.struct a.name) (fields_of record_fields (fields_in_order record_fields) (read_field record_fields) p)) r
+  FromParts p r = RecordAnswers
+      (into (datum.struct a.name)
+      (fields_of record_fields (fields_in_order record_fields) (read_field record_fields) p)) r
 
   -- No two fields have one name, and each has one.
   abbrev pub AreNamed : Type 0
@@ -91,7 +93,8 @@ module _ {V L : Type 0} (a : AboutRecord V L) where
 abbrev pub AsLong : {V L : Type 0} → AboutRecord V L → AboutList L → Type 0
 AsLong a list = length (a.list.shapes []) ≡ length (list.shapes [])
 
--- the place of the first field of this name, where the first has place i; of another name the place behind the last
+-- the place of the first field of this name, where the first has place i; of another name the place
+-- behind the last
 abbrev pub place_in : ℕ → FieldShapes → Text → ℕ
 place_in i shape.no_field_shapes t = i
 place_in i (shape.field_shape own s d fs) t = if bytes_eq t own then i else place_in (suc i) fs t

@@ -1,5 +1,5 @@
--- The variants of an internally tagged enum by the fields behind the tag, each put in front of whatever follows, so that two
--- lists are one list by going on with the second behind the first.
+-- The variants of an internally tagged enum by the fields behind the tag, each put in front of
+-- whatever follows, so that two lists are one list by going on with the second behind the first.
 use Rattle.std.specs.Prelude.{◌≡◌, ◌<◌, ◌+◌, ℕ, suc, true, false, List, [], ◌∷◌, length, ⊤}
 use Rattle.std.proofs.Common.{zero, refl, sym, ap, subst, ◌∙◌, arith}
 use Rattle.dynamo_ser.specs.Datum.{Fields, no_fields}
@@ -40,8 +40,9 @@ AllBehind tag (s ∷ ss) = AreBehind tag s.1 × AllBehind tag ss
 
 -- ---- one variant
 
--- What is known of a variant: the name of its struct, by that of the enum; the shapes of its fields; the fields of a value; and
--- when two values are the same, which is exactly if their fields are. The latter if it fits the tag.
+-- What is known of a variant: the name of its struct, by that of the enum; the shapes of its
+-- fields; the fields of a value; and when two values are the same, which is exactly if their fields
+-- are. The latter if it fits the tag.
 pub record AboutStruct (C : Type 0) : Type 1 where
   pub name : Text → Text
   pub fields : FieldShapes
@@ -49,8 +50,10 @@ pub record AboutStruct (C : Type 0) : Type 1 where
   pub same : C → C → Type 0
   pub fit : Text → Type 0
   pub are_behind : (tag : Text) → fit tag → AreBehind tag fields
-  pub told_by_value : (tag : Text) → fit tag → (x y : C) → conform_fields fields (told x) → conform_fields fields (told y) → SameFields (told x) (told y) → same x y
-  pub told_alike : (tag : Text) → fit tag → (x y : C) → conform_fields fields (told x) → conform_fields fields (told y) → same x y → SameFields (told x) (told y)
+  pub told_by_value : (tag : Text) → fit tag → (x y : C) → conform_fields fields (told x)
+      → conform_fields fields (told y) → SameFields (told x) (told y) → same x y
+  pub told_alike : (tag : Text) → fit tag → (x y : C) → conform_fields fields (told x)
+      → conform_fields fields (told y) → same x y → SameFields (told x) (told y)
 
 -- a unit variant: no field, under the name of the enum
 abbrev pub about_bare : {C : Type 0} → AboutStruct C
@@ -77,21 +80,32 @@ module _ {C L : Type 0} (own : Text → Text) (names : Names) (list : C → L) (
   behind_told x = named_fields names (a.defaults []) (a.told (list x) [])
 
   pub fields_behind : (tag : Text) → FitsTag tag → AreBehind tag behind_fields
-  fields_behind tag fit = names_differ (tag ∷ names) (shape.string ∷ a.shapes []) (required ∷ a.defaults []) fit.0 (ap suc fit.1)
+  fields_behind tag fit = names_differ (tag ∷ names) (shape.string ∷ a.shapes [])
+      (required ∷ a.defaults []) fit.0 (ap suc fit.1)
 
   many : (x : C) → AsMany (a.shapes []) (a.told (list x) [])
   many x = a.many (list x) [] [] tt
 
-  each : NamesDiffer behind_fields → (x : C) → conform_fields behind_fields (behind_told x) → ConformEach (a.shapes []) (a.told (list x) [])
-  each apart x c = each_field names (a.shapes []) (a.defaults []) (a.told (list x) []) apart (many x) c
+  each : NamesDiffer behind_fields → (x : C) → conform_fields behind_fields (behind_told x)
+      → ConformEach (a.shapes []) (a.told (list x) [])
+  each apart x c = each_field names (a.shapes []) (a.defaults []) (a.told (list x) []) apart
+      (many x) c
 
-  pub behind_by_value : (tag : Text) → FitsTag tag → (x y : C) → conform_fields behind_fields (behind_told x) → conform_fields behind_fields (behind_told y) → SameFields (behind_told x) (behind_told y) → a.same (list x) (list y)
+  pub behind_by_value : (tag : Text) → FitsTag tag → (x y : C)
+      → conform_fields behind_fields (behind_told x)
+      → conform_fields behind_fields (behind_told y)
+      → SameFields (behind_told x) (behind_told y)
+      → a.same (list x) (list y)
   behind_by_value tag fit x y c d h =
       let apart = (fields_behind tag fit).1 in
       let alike = data_same names (a.shapes []) (a.defaults []) (a.told (list x) []) (a.told (list y) []) apart (many x) (many y) h in
       (a.told_by_value (list x) (list y) [] [] [] (each apart x c) (each apart y d) alike).0
 
-  pub behind_alike : (tag : Text) → FitsTag tag → (x y : C) → conform_fields behind_fields (behind_told x) → conform_fields behind_fields (behind_told y) → a.same (list x) (list y) → SameFields (behind_told x) (behind_told y)
+  pub behind_alike : (tag : Text) → FitsTag tag → (x y : C)
+      → conform_fields behind_fields (behind_told x)
+      → conform_fields behind_fields (behind_told y)
+      → a.same (list x) (list y)
+      → SameFields (behind_told x) (behind_told y)
   behind_alike tag fit x y c d h =
       let apart = (fields_behind tag fit).1 in
       fields_same names (a.defaults []) (a.told (list x) []) (a.told (list y) []) (a.told_alike (list x) (list y) [] [] [] (each apart x c) (each apart y d) h (λ _ _. tt))
@@ -120,18 +134,26 @@ about_inner value a list = about_behind (λ _. a.name) a.names (λ x. a.parts (v
 -- ---- all variants
 
 -- values of the same variant whose fields are the same are the same
-abbrev pub StructTold : {L : Type 0} → (Text → Structs → Structs) → (L → ℕ) → (L → Fields) → (L → L → Type 0) → Type 0
-StructTold {L} structs place told same = (name : Text) (ss : Structs) (v w : L) → conform_fields (struct_at (place v) (structs name ss)).1 (told v) → conform_fields (struct_at (place w) (structs name ss)).1 (told w)
+abbrev pub StructTold : {L : Type 0} → (Text → Structs → Structs) → (L → ℕ) → (L → Fields)
+    → (L → L → Type 0) → Type 0
+StructTold {L} structs place told same = (name : Text) (ss : Structs) (v w : L)
+    → conform_fields (struct_at (place v) (structs name ss)).1 (told v)
+    → conform_fields (struct_at (place w) (structs name ss)).1 (told w)
     → place v ≡ place w → SameFields (told v) (told w) → same v w
 
 -- and the other way round
-abbrev pub StructAlike : {L : Type 0} → (Text → Structs → Structs) → (L → ℕ) → (L → Fields) → (L → L → Type 0) → Type 0
-StructAlike {L} structs place told same = (name : Text) (ss : Structs) (v w : L) → conform_fields (struct_at (place v) (structs name ss)).1 (told v) → conform_fields (struct_at (place w) (structs name ss)).1 (told w)
-    → same v w → (place v ≡ place w) × SameFields (told v) (told w)
+abbrev pub StructAlike : {L : Type 0} → (Text → Structs → Structs) → (L → ℕ) → (L → Fields)
+    → (L → L → Type 0) → Type 0
+StructAlike {L} structs place told same = (name : Text) (ss : Structs) (v w : L)
+    → conform_fields (struct_at (place v) (structs name ss)).1 (told v)
+    → conform_fields (struct_at (place w) (structs name ss)).1 (told w)
+    → same v w
+    → (place v ≡ place w) × SameFields (told v) (told w)
 
--- What is known of a list of variants: how many they are; their structs in front of others, by the name of the enum; the number of
--- a value's variant, and its fields; and when two values are the same, which is exactly if they are the same variant and
--- their fields are. The latter if the variants fit the tag.
+-- What is known of a list of variants: how many they are; their structs in front of others, by the
+-- name of the enum; the number of a value's variant, and its fields; and when two values are the
+-- same, which is exactly if they are the same variant and their fields are. The latter if the
+-- variants fit the tag.
 pub record AboutTaggedList (L : Type 0) : Type 1 where
   pub count : ℕ
   pub structs : Text → Structs → Structs
@@ -139,11 +161,13 @@ pub record AboutTaggedList (L : Type 0) : Type 1 where
   pub told : L → Fields
   pub same : L → L → Type 0
   pub fit : Text → Type 0
-  pub are_behind : (tag : Text) → fit tag → (name : Text) (ss : Structs) → AllBehind tag ss → AllBehind tag (structs name ss)
+  pub are_behind : (tag : Text) → fit tag → (name : Text) (ss : Structs) → AllBehind tag ss
+      → AllBehind tag (structs name ss)
   pub told_by_value : (tag : Text) → fit tag → StructTold structs place told same
   pub told_alike : (tag : Text) → fit tag → StructAlike structs place told same
   pub within : (v : L) → place v < count
-  pub behind : (name : Text) (ss : Structs) (i : ℕ) → struct_at (count + i) (structs name ss) ≡ struct_at i ss
+  pub behind : (name : Text) (ss : Structs) (i : ℕ)
+      → struct_at (count + i) (structs name ss) ≡ struct_at i ss
   pub counted : (name : Text) (ss : Structs) → length (structs name ss) ≡ count + length ss
 
 module _ {C : Type 0} (a : AboutStruct C) where
@@ -153,8 +177,10 @@ module _ {C : Type 0} (a : AboutStruct C) where
   next : (i : ℕ) → suc i ≡ 1 + i
   next i = omega arith
 
-  pub one_behind : (name : Text) (ss : Structs) (i : ℕ) → struct_at (1 + i) (one_structs name ss) ≡ struct_at i ss
-  one_behind name ss i = subst (λ n. struct_at n (one_structs name ss) ≡ struct_at i ss) (next i) refl
+  pub one_behind : (name : Text) (ss : Structs) (i : ℕ)
+      → struct_at (1 + i) (one_structs name ss) ≡ struct_at i ss
+  one_behind name ss i = subst (λ n. struct_at n (one_structs name ss) ≡ struct_at i ss) (next i)
+      refl
 
   pub one_counted : (name : Text) (ss : Structs) → length (one_structs name ss) ≡ 1 + length ss
   one_counted name ss = omega arith
@@ -209,18 +235,27 @@ module _ {L R : Type 0} (l : AboutTaggedList L) (r : AboutTaggedList R) where
   either_same (Right v) (Right w) = r.same v w
   either_same _ _ = ⊥
 
-  pub right_conforms : (name : Text) (ss : Structs) (w : R) → conform_fields (struct_at (l.count + r.place w) (either_structs name ss)).1 (r.told w) → conform_fields (struct_at (r.place w) (r.structs name ss)).1 (r.told w)
-  right_conforms name ss w c = subst (λ s. conform_fields s.1 (r.told w)) (l.behind name (r.structs name ss) (r.place w)) c
+  pub right_conforms : (name : Text) (ss : Structs) (w : R)
+      → conform_fields (struct_at (l.count + r.place w) (either_structs name ss)).1 (r.told w)
+      → conform_fields (struct_at (r.place w) (r.structs name ss)).1 (r.told w)
+  right_conforms name ss w c = subst (λ s. conform_fields s.1 (r.told w))
+      (l.behind name (r.structs name ss) (r.place w)) c
 
-  pub either_by_value : (tag : Text) → l.fit tag × r.fit tag → StructTold either_structs either_place either_told either_same
-  either_by_value tag fit name ss (Left v) (Left w) c d p h = l.told_by_value tag fit.0 name (r.structs name ss) v w c d p h
-  either_by_value tag fit name ss (Left v) (Right w) c d p h = absurd (apart l.count (l.place v) (r.place w) (l.within v) p)
-  either_by_value tag fit name ss (Right v) (Left w) c d p h = absurd (apart l.count (l.place w) (r.place v) (l.within w) (sym p))
+  pub either_by_value : (tag : Text) → l.fit tag × r.fit tag
+      → StructTold either_structs either_place either_told either_same
+  either_by_value tag fit name ss (Left v) (Left w) c d p h = l.told_by_value tag fit.0 name
+      (r.structs name ss) v w c d p h
+  either_by_value tag fit name ss (Left v) (Right w) c d p h = absurd
+      (apart l.count (l.place v) (r.place w) (l.within v) p)
+  either_by_value tag fit name ss (Right v) (Left w) c d p h = absurd
+      (apart l.count (l.place w) (r.place v) (l.within w) (sym p))
   either_by_value tag fit name ss (Right v) (Right w) c d p h =
       r.told_by_value tag fit.1 name ss v w (right_conforms name ss v c) (right_conforms name ss w d) (cut l.count (r.place v) (r.place w) p) h
 
-  pub either_alike : (tag : Text) → l.fit tag × r.fit tag → StructAlike either_structs either_place either_told either_same
-  either_alike tag fit name ss (Left v) (Left w) c d h = l.told_alike tag fit.0 name (r.structs name ss) v w c d h
+  pub either_alike : (tag : Text) → l.fit tag × r.fit tag
+      → StructAlike either_structs either_place either_told either_same
+  either_alike tag fit name ss (Left v) (Left w) c d h = l.told_alike tag fit.0 name
+      (r.structs name ss) v w c d h
   either_alike tag fit name ss (Left v) (Right w) c d h = absurd h
   either_alike tag fit name ss (Right v) (Left w) c d h = absurd h
   either_alike tag fit name ss (Right v) (Right w) c d h =
@@ -231,11 +266,16 @@ module _ {L R : Type 0} (l : AboutTaggedList L) (r : AboutTaggedList R) where
   either_within (Left v) = left_within l.count r.count (l.place v) (l.within v)
   either_within (Right w) = right_within l.count r.count (r.place w) (r.within w)
 
-  pub either_behind : (name : Text) (ss : Structs) (i : ℕ) → struct_at ((l.count + r.count) + i) (either_structs name ss) ≡ struct_at i ss
-  either_behind name ss i = ap (λ n. struct_at n (either_structs name ss)) (sym (grouped l.count r.count i)) ∙ (l.behind name (r.structs name ss) (r.count + i) ∙ r.behind name ss i)
+  pub either_behind : (name : Text) (ss : Structs) (i : ℕ)
+      → struct_at ((l.count + r.count) + i) (either_structs name ss) ≡ struct_at i ss
+  either_behind name ss i = ap (λ n. struct_at n (either_structs name ss))
+      (sym (grouped l.count r.count i))
+      ∙ (l.behind name (r.structs name ss) (r.count + i) ∙ r.behind name ss i)
 
-  pub either_counted : (name : Text) (ss : Structs) → length (either_structs name ss) ≡ (l.count + r.count) + length ss
-  either_counted name ss = l.counted name (r.structs name ss) ∙ (ap (λ n. l.count + n) (r.counted name ss) ∙ grouped l.count r.count (length ss))
+  pub either_counted : (name : Text) (ss : Structs)
+      → length (either_structs name ss) ≡ (l.count + r.count) + length ss
+  either_counted name ss = l.counted name (r.structs name ss)
+      ∙ (ap (λ n. l.count + n) (r.counted name ss) ∙ grouped l.count r.count (length ss))
 
   abbrev pub about_tagged_choice : AboutTaggedList (Choice L R)
   about_tagged_choice = record {

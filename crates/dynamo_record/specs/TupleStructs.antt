@@ -39,5 +39,7 @@ module _ {V L : Type 0} (a : AboutTupleStruct V L) where
   abbrev pub tuple_struct_reads : Source → Result V Fault → Type 0
   tuple_struct_reads source r = Through a.parts (ReadsAs of_fields source) r
 
-  pub tuple_struct_by_shape : ReadsByShape about_tuple_struct.shape tuple_struct_tells tuple_struct_reads
-  tuple_struct_by_shape = through_permitted of_fields.shape of_fields.tells (ReadsAs of_fields) a.parts (as_shape of_fields)
+  pub tuple_struct_by_shape : ReadsByShape about_tuple_struct.shape tuple_struct_tells
+      tuple_struct_reads
+  tuple_struct_by_shape = through_permitted of_fields.shape of_fields.tells (ReadsAs of_fields)
+      a.parts (as_shape of_fields)

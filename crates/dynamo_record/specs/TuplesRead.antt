@@ -20,18 +20,23 @@ use Rattle.dynamo_record.specs.About.{About}
 use Rattle.dynamo_record.specs.Fields.{ConformEach, SameData, read_fields}
 use Rattle.dynamo_record.specs.InOrder.{ReadsInOrder}
 use Rattle.dynamo_record.specs.Listed.{AboutList, Data}
-use Rattle.dynamo_record.specs.Tuples.{about_tuple, one_part, more_parts, tuple_of_elements, read_in_order}
+use Rattle.dynamo_record.specs.Tuples.{about_tuple, one_part, more_parts, tuple_of_elements}
+use Rattle.dynamo_record.specs.Tuples.{read_in_order}
 
 -- what follows the parts reads no more, and gives a value that has them
 abbrev pub Ends : {L V : Type 0} → (V → L) → (L → List Source → Result V Fault → Type 0) → Type 0
-Ends {L} {V} parts next = (l : L) (more : List Source) (r : Result V Fault) → next l more r → (v : V) × (r ≡ Ok v) × (parts v ≡ l)
+Ends {L} {V} parts next = (l : L) (more : List Source) (r : Result V Fault) → next l more r
+    → (v : V) × (r ≡ Ok v) × (parts v ≡ l)
 
 abbrev value_or : {A : Type 0} → Result A Fault → A → A
 value_or (Ok x) y = x
 value_or (Err f) y = y
 
 -- the parts of a value that was read
-pub parts_of : {L V : Type 0} (parts : V → L) (next : L → List Source → Result V Fault → Type 0) → Ends parts next → (l : L) (more : List Source) (v : V) → next l more (Ok v) → parts v ≡ l
+pub parts_of : {L V : Type 0} (parts : V → L) (next : L → List Source → Result V Fault → Type 0)
+    → Ends parts next
+    → (l : L) (more : List Source) (v : V)
+    → next l more (Ok v) → parts v ≡ l
 parts_of parts next ends l more v h = let e = ends l more (Ok v) h in subst (λ w. parts w ≡ l) (sym (ap (λ r. value_or r v) e.1)) e.2
 
 -- What is known of a part: of its values, and what may be answered on its source.
@@ -40,19 +45,33 @@ pub record Part (A : Type 0) : Type 1 where
   pub reads : Source → Result A Fault → Type 0
   pub by_shape : ReadsByShape about.shape about.tells reads
 
-abbrev pub part : {A : Type 0} (a : About A) (reads : Source → Result A Fault → Type 0) → ReadsByShape a.shape a.tells reads → Part A
+abbrev pub part : {A : Type 0} (a : About A) (reads : Source → Result A Fault → Type 0)
+    → ReadsByShape a.shape a.tells reads
+    → Part A
 part a reads by_shape = record { about = a; reads = reads; by_shape = by_shape }
 
 module _ {A : Type 0} (a : Part A) where
   -- what holds of whatever the rest answers holds of the whole
-  pub first_reaches : {V : Type 0} (next : A → List Source → Result V Fault → Type 0) (P : V → Type 0) → ((x : A) (more : List Source) (v : V) → next x more (Ok v) → P v) → (xs : List Source) (v : V) → ReadsFirst a.reads next xs (Ok v) → P v
+  pub first_reaches : {V : Type 0} (next : A → List Source → Result V Fault → Type 0)
+      (P : V → Type 0)
+      → ((x : A) (more : List Source) (v : V) → next x more (Ok v) → P v)
+      → (xs : List Source) (v : V)
+      → ReadsFirst a.reads next xs (Ok v)
+      → P v
   unfolding ReadsFirst
   first_reaches next P f [] v h = absurd h
   first_reaches next P f (x ∷ xs) v (w, h, n) = f w xs v n
 
   -- the first is read, and then the others
-  pub first_read : {V : Type 0} (ss : List Shape) (head : V → A) (tail : V → Data) (next : A → List Source → Result V Fault → Type 0) → ((x : A) (more : List Source) (v : V) → next x more (Ok v) → head v ≡ x) → ((x : A) (more : List Source) (r : Result V Fault) → next x more r → AnswersByShape (ConformEach ss) SameData tail (read_fields ss more) r) → (xs : List Source) (r : Result V Fault) → ReadsFirst a.reads next xs r
-      → AnswersByShape (ConformEach (a.about.shape ∷ ss)) SameData (λ v. a.about.tells (head v) ∷ tail v) (read_fields (a.about.shape ∷ ss) xs) r
+  pub first_read : {V : Type 0} (ss : List Shape) (head : V → A) (tail : V → Data)
+      (next : A → List Source → Result V Fault → Type 0)
+      → ((x : A) (more : List Source) (v : V) → next x more (Ok v) → head v ≡ x)
+      → ((x : A) (more : List Source) (r : Result V Fault) → next x more r
+      → AnswersByShape (ConformEach ss) SameData tail (read_fields ss more) r)
+      → (xs : List Source) (r : Result V Fault)
+      → ReadsFirst a.reads next xs r
+      → AnswersByShape (ConformEach (a.about.shape ∷ ss)) SameData
+      (λ v. a.about.tells (head v) ∷ tail v) (read_fields (a.about.shape ∷ ss) xs) r
   unfolding ReadsFirst
   first_read ss head tail next is_head others [] (Ok v) h = absurd h
   first_read ss head tail next is_head others [] (Err f) h = h
@@ -64,7 +83,8 @@ module _ {A : Type 0} (a : Part A) where
         rw (p.1, q.1) refl,
         λ c. (subst (λ z. Same p.0 (a.about.tells z)) (sym here) (p.2 (subst (λ z. conforms a.about.shape (a.about.tells z)) here c.0)), q.2 c.1),
       )
-  first_read ss head tail next is_head others (x ∷ xs) (Err f) (inl h) = stops Same SameData (read a.about.shape x) _ f (a.by_shape x (Err f) h)
+  first_read ss head tail next is_head others (x ∷ xs) (Err f) (inl h) = stops Same SameData
+      (read a.about.shape x) _ f (a.by_shape x (Err f) h)
   first_read ss head tail next is_head others (x ∷ xs) (Err f) (inr (y, h, n)) =
       let p = a.by_shape x (Ok y) h in
       rw p.1 (stops SameData SameData (read_fields ss xs) (λ ds. answer.value (p.0 ∷ ds)) f (others y xs (Err f) n))
@@ -72,12 +92,22 @@ module _ {A : Type 0} (a : Part A) where
 -- The parts of a tuple, and what may be answered on its sources before something that follows.
 pub record ReadParts (L : Type 0) : Type 1 where
   pub list : AboutList L
-  pub reads : {V : Type 0} → (L → List Source → Result V Fault → Type 0) → List Source → Result V Fault → Type 0
-  pub reaches : {V : Type 0} (next : L → List Source → Result V Fault → Type 0) (P : V → Type 0) → ((l : L) (more : List Source) (v : V) → next l more (Ok v) → P v) → (xs : List Source) (v : V) → reads next xs (Ok v) → P v
-  pub each_read : {V : Type 0} (parts : V → L) (next : L → List Source → Result V Fault → Type 0) → Ends parts next → (xs : List Source) (r : Result V Fault) → reads next xs r → AnswersByShape (ConformEach (list.shapes [])) SameData (λ v. list.told (parts v) []) (read_fields (list.shapes []) xs) r
+  pub reads : {V : Type 0} → (L → List Source → Result V Fault → Type 0) → List Source
+      → Result V Fault → Type 0
+  pub reaches : {V : Type 0} (next : L → List Source → Result V Fault → Type 0) (P : V → Type 0)
+      → ((l : L) (more : List Source) (v : V) → next l more (Ok v) → P v)
+      → (xs : List Source) (v : V) → reads next xs (Ok v) → P v
+  pub each_read : {V : Type 0} (parts : V → L) (next : L → List Source → Result V Fault → Type 0)
+      → Ends parts next
+      → (xs : List Source) (r : Result V Fault)
+      → reads next xs r
+      → AnswersByShape (ConformEach (list.shapes [])) SameData (λ v. list.told (parts v) [])
+      (read_fields (list.shapes []) xs) r
 
 -- nothing more is read
-pub over : {L V : Type 0} (l : L) (parts : V → L) (r : Result V Fault) → (v : V) × (r ≡ Ok v) × (parts v ≡ l) → AnswersByShape {V = V} (ConformEach []) SameData (λ _. []) (answer.value []) r
+pub over : {L V : Type 0} (l : L) (parts : V → L) (r : Result V Fault)
+    → (v : V) × (r ≡ Ok v) × (parts v ≡ l)
+    → AnswersByShape {V = V} (ConformEach []) SameData (λ _. []) (answer.value []) r
 over l parts (Ok v) e = ([], refl, λ c. tt)
 over l parts (Err f) e = absurd (no_fault (sym e.1))
 
@@ -89,9 +119,11 @@ read_one a = record {
   each_read = λ parts next ends. first_read a [] parts (λ _. []) next (parts_of parts next ends) (λ x more r n. over x parts r (ends x more r n));
 }
 
-module _ {A L T : Type 0} (split : T → A × L) (joined : A × L → T) (is_split : (t : A × L) → split (joined t) ≡ t) (a : Part A) (p : ReadParts L) where
+module _ {A L T : Type 0} (split : T → A × L) (joined : A × L → T)
+    (is_split : (t : A × L) → split (joined t) ≡ t) (a : Part A) (p : ReadParts L) where
   -- the parts of what follows
-  pub split_parts : {V : Type 0} (parts : V → T) (t : A × L) (v : V) → parts v ≡ joined t → split (parts v) ≡ t
+  pub split_parts : {V : Type 0} (parts : V → T) (t : A × L) (v : V) → parts v ≡ joined t
+      → split (parts v) ≡ t
   split_parts parts t v e = ap split e ∙ is_split t
 
   abbrev pub read_more : ReadParts T
@@ -109,18 +141,26 @@ abbrev pub read_two : {A B : Type 0} → Part A → Part B → ReadParts (A × B
 read_two a b = read_more (λ t. t) (λ t. t) (λ _. refl) a (read_one b)
 
 abbrev pub read_three : {A B C : Type 0} → Part A → Part B → Part C → ReadParts (A × B × C)
-read_three a b c = read_more (λ t. (t.0, (t.1, t.2))) (λ t. (t.0, t.1.0, t.1.1)) (λ _. refl) a (read_two b c)
+read_three a b c = read_more (λ t. (t.0, (t.1, t.2))) (λ t. (t.0, t.1.0, t.1.1)) (λ _. refl) a
+    (read_two b c)
 
-abbrev pub read_four : {A B C D : Type 0} → Part A → Part B → Part C → Part D → ReadParts (A × B × C × D)
-read_four a b c d = read_more (λ t. (t.0, (t.1, t.2, t.3))) (λ t. (t.0, t.1.0, t.1.1, t.1.2)) (λ _. refl) a (read_three b c d)
+abbrev pub read_four : {A B C D : Type 0} → Part A → Part B → Part C → Part D
+    → ReadParts (A × B × C × D)
+read_four a b c d = read_more (λ t. (t.0, (t.1, t.2, t.3))) (λ t. (t.0, t.1.0, t.1.1, t.1.2))
+    (λ _. refl) a (read_three b c d)
 
 module _ {L : Type 0} (p : ReadParts L) where
-  in_turn : (xs : List Source) (r : Result L Fault) → p.reads (λ l _ r. r ≡ Ok l) xs r → ReadsInOrder p.list xs r
+  in_turn : (xs : List Source) (r : Result L Fault) → p.reads (λ l _ r. r ≡ Ok l) xs r
+      → ReadsInOrder p.list xs r
   in_turn = p.each_read (λ l. l) (λ l _ r. r ≡ Ok l) (λ l more r e. (l, e, refl))
 
-  from_elements : (a : answer.Answer (List Source)) (r : Result L Fault) → After a (p.reads (λ l _ r. r ≡ Ok l)) r → After a (ReadsInOrder p.list) r
+  from_elements : (a : answer.Answer (List Source)) (r : Result L Fault)
+      → After a (p.reads (λ l _ r. r ≡ Ok l)) r
+      → After a (ReadsInOrder p.list) r
   from_elements (Ok xs) r h = in_turn xs r h
   from_elements (Err f) r h = h
 
-  pub tuple_by_shape : ReadsByShape (about_tuple p.list).shape (about_tuple p.list).tells (λ s. After (read_elements s) (p.reads (λ l _ r. r ≡ Ok l)))
-  tuple_by_shape s r h = read_in_order shape.tuple datum.tuple tuple_of_elements p.list s r (from_elements (read_elements s) r h)
+  pub tuple_by_shape : ReadsByShape (about_tuple p.list).shape (about_tuple p.list).tells
+      (λ s. After (read_elements s) (p.reads (λ l _ r. r ≡ Ok l)))
+  tuple_by_shape s r h = read_in_order shape.tuple datum.tuple tuple_of_elements p.list s r
+      (from_elements (read_elements s) r h)

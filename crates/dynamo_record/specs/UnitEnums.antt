@@ -1,6 +1,8 @@
 -- Enums whose variants are all without content, described by their names.
-use Rattle.std.specs.Prelude.{◌≡◌, ◌↔◌, ◌<◌, ◌≤◌, ℕ, suc, Bool, true, false, ◌&&◌, List, [], ◌∷◌, Option, Some, None, Result, nat_eq, nat_lt, cond}
-use Rattle.std.proofs.Common.{zero, length, refl, sym, ap, subst, ◌∙◌, inl, inr, arith, ltb-true, lt-ltb}
+use Rattle.std.specs.Prelude.{◌≡◌, ◌↔◌, ◌<◌, ◌≤◌, ℕ, suc, Bool, true, false, ◌&&◌, List, [], ◌∷◌}
+use Rattle.std.specs.Prelude.{Option, Some, None, Result, nat_eq, nat_lt, cond}
+use Rattle.std.proofs.Common.{zero, length, refl, sym, ap, subst, ◌∙◌, inl, inr, arith, ltb-true}
+use Rattle.std.proofs.Common.{lt-ltb}
 use Rattle.std.proofs.lemmas.Bool.{true≢false}
 use Rattle.std.proofs.lemmas.Bool.Decides.{Decides-eqb}
 use Rattle.std.specs.Cmp.{nat_cmp_total}
@@ -28,8 +30,9 @@ use Rattle.dynamo_record.specs.About.{About}
 use Rattle.dynamo_record.specs.Keys.{AboutKey, key_of}
 use Rattle.dynamo_record.specs.Names.{Names, first_name, other_names, differ}
 
--- The name of an enum, those of its variants in order, and the number of a value's variant, by which `==` and the order of a
--- derive go. A number is below that of the names, which all differ, and no two values have the same.
+-- The name of an enum, those of its variants in order, and the number of a value's variant, by
+-- which `==` and the order of a derive go. A number is below that of the names, which all differ,
+-- and no two values have the same.
 pub record AboutUnits (T : Type 0) : Type 1 where
   pub name : Text
   pub names : Names
@@ -67,7 +70,8 @@ module _ {T : Type 0} (a : AboutUnits T) where
 
   -- the unit variant of its number
   abbrev pub unit_enum_tells : T → Datum
-  unit_enum_tells v = datum.unit_variant (datum.variant a.name (a.number v) (name_at a.names (a.number v)))
+  unit_enum_tells v = datum.unit_variant
+      (datum.variant a.name (a.number v) (name_at a.names (a.number v)))
 
   pub unit_enum_told : IsToldByValue unit_enum_shape unit_enum_tells (λ v w. v ≡ w)
   unit_enum_told v w _ _ same = a.one v w (ap number_in same)
@@ -83,25 +87,32 @@ module _ {T : Type 0} (a : AboutUnits T) where
 
   -- what may be answered on a source: what reading at the shape gives
   abbrev pub unit_enum_reads : Source → Result T Fault → Type 0
-  unit_enum_reads source r = AnswersByShape (conforms unit_enum_shape) Same unit_enum_tells (read unit_enum_shape source) r
+  unit_enum_reads source r = AnswersByShape (conforms unit_enum_shape) Same unit_enum_tells
+      (read unit_enum_shape source) r
 
   -- what may be answered on the name of a variant
   abbrev pub FromName : Text → Result T Fault → Type 0
-  FromName t r = AnswersByShape (conforms unit_enum_shape) Same unit_enum_tells (read_one_of (unit_variants a.names) a.name 0 t None) r
+  FromName t r = AnswersByShape (conforms unit_enum_shape) Same unit_enum_tells
+      (read_one_of (unit_variants a.names) a.name 0 t None) r
 
   -- what may be answered on the name of a variant and its content
   abbrev pub FromVariant : Text × Option Source → Result T Fault → Type 0
-  FromVariant v r = AnswersByShape (conforms unit_enum_shape) Same unit_enum_tells (read_one_of (unit_variants a.names) a.name 0 v.0 v.1) r
+  FromVariant v r = AnswersByShape (conforms unit_enum_shape) Same unit_enum_tells
+      (read_one_of (unit_variants a.names) a.name 0 v.0 v.1) r
 
   pub unit_enum_equal : EqualAsTold unit_enum_tells a.eq
-  unit_enum_equal v w = (λ t. ap unit_enum_tells (a.one v w ((a.equal v w).0 t)), λ e. (a.equal v w).1 (ap number_in e))
+  unit_enum_equal v w = (
+    λ t. ap unit_enum_tells (a.one v w ((a.equal v w).0 t)),
+    λ e. (a.equal v w).1 (ap number_in e),
+  )
 
   pub unit_enum_apart : ToldApart unit_enum_tells
   unit_enum_apart v w same = same
 
   -- what a derive makes of `==` and the order, as keys
   abbrev pub key_units : AboutKey T
-  key_units = key_of about_units a.eq a.cmp unit_enum_equal a.tied (λ v w. ap is_lt (a.ordered v w)) unit_enum_apart
+  key_units = key_of about_units a.eq a.cmp unit_enum_equal a.tied (λ v w. ap is_lt (a.ordered v w))
+      unit_enum_apart
 
 -- ---- of an enum that is written out
 
@@ -113,7 +124,8 @@ are_units ((F ∷ Fs) ∷ Fss) = false
 
 -- the variants are without content, and each has a name of its own
 abbrev pub is_named_enum : Record → Names → Bool
-is_named_enum N names = are_units N.parts && (nat_eq (length N.parts) (length names) && differ names)
+is_named_enum N names = are_units N.parts
+    && (nat_eq (length N.parts) (length names) && differ names)
 
 both : (s t : Bool) → (s && t) ≡ true → (s ≡ true) × (t ≡ true)
 both true t h = (refl, h)
@@ -141,28 +153,37 @@ next_place m n =
     λ i. cond (less i) Less (cond (equal i) Equal Greater)
 
 -- a derived order goes by the places of the variants
-pub by_place : (Fss : List (List Field)) (c d : Choice Fss) → by Less Greater Fss (points Equal Fss) c d ≡ nat_cmp (tag (rowss Fss) (intoss Fss c)) (tag (rowss Fss) (intoss Fss d))
+pub by_place : (Fss : List (List Field)) (c d : Choice Fss)
+    → by Less Greater Fss (points Equal Fss) c d
+    ≡ nat_cmp (tag (rowss Fss) (intoss Fss c)) (tag (rowss Fss) (intoss Fss d))
 by_place [] c d = absurd c
 by_place (Fs ∷ Fss) (inl x) (inl y) = refl
 by_place (Fs ∷ Fss) (inl x) (inr y) = first_below (tag (rowss Fss) (intoss Fss y))
 by_place (Fs ∷ Fss) (inr x) (inl y) = first_above (tag (rowss Fss) (intoss Fss x))
-by_place (Fs ∷ Fss) (inr x) (inr y) = by_place Fss x y ∙ next_place (tag (rowss Fss) (intoss Fss x)) (tag (rowss Fss) (intoss Fss y))
+by_place (Fs ∷ Fss) (inr x) (inr y) = by_place Fss x y
+    ∙ next_place (tag (rowss Fss) (intoss Fss x)) (tag (rowss Fss) (intoss Fss y))
 
 module _ (N : Record) (names : Names) (h : is_named_enum N names ≡ true) where
   counted : length N.parts ≡ length names
-  counted = (Decides-eqb (length N.parts) (length names)).0 (both (nat_eq (length N.parts) (length names)) (differ names) (both (are_units N.parts) _ h).1).0
+  counted = (Decides-eqb (length N.parts) (length names)).0
+      (both (nat_eq (length N.parts) (length names)) (differ names)
+      (both (are_units N.parts) _ h).1).0
 
   pub enum_below : (v : N.D) → tag_of (declared N) v < length names
-  enum_below v = subst (λ n. tag_of (declared N) v < n) (rows_length N.parts ∙ counted) (tag_below (rowss N.parts) ((declared N).to v))
+  enum_below v = subst (λ n. tag_of (declared N) v < n) (rows_length N.parts ∙ counted)
+      (tag_below (rowss N.parts) ((declared N).to v))
 
   pub enum_one : (v w : N.D) → tag_of (declared N) v ≡ tag_of (declared N) w → v ≡ w
   enum_one v w e = tag_one (declared N) (bare N.parts (both (are_units N.parts) _ h).0) v w e
 
   pub enum_named : differ names ≡ true
-  enum_named = (both (nat_eq (length N.parts) (length names)) (differ names) (both (are_units N.parts) _ h).1).1
+  enum_named = (both (nat_eq (length N.parts) (length names)) (differ names)
+      (both (are_units N.parts) _ h).1).1
 
--- The description of an enum: by what a derive knows of it as its `enum`, its name and those of its variants.
-abbrev pub units_of : (N : Record) → Text → (names : Names) → is_named_enum N names ≡ true → AboutUnits N.D
+-- The description of an enum: by what a derive knows of it as its `enum`, its name and those of its
+-- variants.
+abbrev pub units_of : (N : Record) → Text → (names : Names) → is_named_enum N names ≡ true
+    → AboutUnits N.D
 units_of N name names h = record {
   name = name;
   names = names;

@@ -1,6 +1,7 @@
--- The variants of an enum by what they hold, each put in front of whatever follows, so that two lists are one list by going on
--- with the second behind the first.
-use Rattle.std.specs.Prelude.{◌≡◌, ◌≤◌, ◌<◌, ◌+◌, ℕ, suc, List, [], ◌∷◌, Option, Some, None, Result, length}
+-- The variants of an enum by what they hold, each put in front of whatever follows, so that two
+-- lists are one list by going on with the second behind the first.
+use Rattle.std.specs.Prelude.{◌≡◌, ◌≤◌, ◌<◌, ◌+◌, ℕ, suc, List, [], ◌∷◌, Option, Some, None, Result}
+use Rattle.std.specs.Prelude.{length}
 use Rattle.std.proofs.Common.{zero, sym, ap, subst, ◌∙◌, arith}
 use Rattle.dynamo_value.specs.Fault.{Fault}
 use Rattle.dynamo_ser.specs.Datum as datum
@@ -46,18 +47,24 @@ content_at (suc i) (c ∷ cs) = content_at i cs
 
 -- ---- what one variant holds
 
--- What is known of it: its shape, what a variant tells that holds it, and when two are the same; where it is fit.
+-- What is known of it: its shape, what a variant tells that holds it, and when two are the same;
+-- where it is fit.
 pub record AboutContent (C : Type 0) : Type 1 where
   pub shape : Content
   pub told : Variant → C → Datum
   pub same : C → C → Type 0
   pub told_index : (v : Variant) (x : C) → index_of (told v x) ≡ v.index
   pub fit : Type 0
-  pub told_by_value : fit → (v : Variant) (x y : C) → conforms_content shape v (told v x) → conforms_content shape v (told v y) → Same (told v x) (told v y) → same x y
-  pub told_alike : fit → (v : Variant) (x y : C) → conforms_content shape v (told v x) → conforms_content shape v (told v y) → same x y → Same (told v x) (told v y)
+  pub told_by_value : fit → (v : Variant) (x y : C) → conforms_content shape v (told v x)
+      → conforms_content shape v (told v y)
+      → Same (told v x) (told v y) → same x y
+  pub told_alike : fit → (v : Variant) (x y : C) → conforms_content shape v (told v x)
+      → conforms_content shape v (told v y)
+      → same x y → Same (told v x) (told v y)
 
 -- what may be answered on the content of a variant
-abbrev pub ReadsInside : {C : Type 0} → Content → (Variant → C → Datum) → Variant → Option Source → Result C Fault → Type 0
+abbrev pub ReadsInside : {C : Type 0} → Content → (Variant → C → Datum) → Variant → Option Source
+    → Result C Fault → Type 0
 ReadsInside c told v s r = AnswersByShape (conforms_content c v) Same (told v) (read_inside c v s) r
 
 -- ---- all variants
@@ -68,28 +75,41 @@ Told L = Text → Names → ℕ → L → Datum
 
 -- values that tell the same data are the same variant with the same content
 abbrev pub OneTold : {L : Type 0} → (Contents → Contents) → Told L → (L → L → Type 0) → Type 0
-OneTold {L} contents told same = (name : Text) (ns : Names) (i : ℕ) (cs : Contents) (v w : L) → ConformsToOne name ns i (contents cs) (told name ns i v) → ConformsToOne name ns i (contents cs) (told name ns i w)
-    → Same (told name ns i v) (told name ns i w) → same v w
+OneTold {L} contents told same = (name : Text) (ns : Names) (i : ℕ) (cs : Contents) (v w : L)
+    → ConformsToOne name ns i (contents cs) (told name ns i v)
+    → ConformsToOne name ns i (contents cs) (told name ns i w)
+    → Same (told name ns i v) (told name ns i w)
+    → same v w
 
 -- and the other way round
 abbrev pub OneAlike : {L : Type 0} → (Contents → Contents) → Told L → (L → L → Type 0) → Type 0
-OneAlike {L} contents told same = (name : Text) (ns : Names) (i : ℕ) (cs : Contents) (v w : L) → ConformsToOne name ns i (contents cs) (told name ns i v) → ConformsToOne name ns i (contents cs) (told name ns i w)
-    → same v w → Same (told name ns i v) (told name ns i w)
+OneAlike {L} contents told same = (name : Text) (ns : Names) (i : ℕ) (cs : Contents) (v w : L)
+    → ConformsToOne name ns i (contents cs) (told name ns i v)
+    → ConformsToOne name ns i (contents cs) (told name ns i w)
+    → same v w
+    → Same (told name ns i v) (told name ns i w)
 
 -- the number of the variant that is told is one of these
 abbrev pub IsWithin : {L : Type 0} → ℕ → Told L → Type 0
-IsWithin {L} count told = (name : Text) (ns : Names) (i : ℕ) (v : L) → (i ≤ index_of (told name ns i v)) × (index_of (told name ns i v) < i + count)
+IsWithin {L} count told = (name : Text) (ns : Names) (i : ℕ) (v : L)
+    → (i ≤ index_of (told name ns i v)) × (index_of (told name ns i v) < i + count)
 
 -- a datum of a variant behind these conforms to one of those that follow
 abbrev pub ConformsBehind : ℕ → (Contents → Contents) → Type 0
-ConformsBehind count contents = (name : Text) (ns : Names) (i : ℕ) (cs : Contents) (d : Datum) → i + count ≤ index_of d → ConformsToOne name ns i (contents cs) d → ConformsToOne name ns (i + count) cs d
+ConformsBehind count contents = (name : Text) (ns : Names) (i : ℕ) (cs : Contents) (d : Datum)
+    → i + count ≤ index_of d
+    → ConformsToOne name ns i (contents cs) d
+    → ConformsToOne name ns (i + count) cs d
 
 -- the variants behind these are those that follow
 abbrev pub ReadAtBehind : ℕ → (Contents → Contents) → Type 0
-ReadAtBehind count contents = (name : Text) (ns : Names) (i : ℕ) (cs : Contents) (j : ℕ) (s : Option Source) → read_at name ns i (contents cs) (count + j) s ≡ read_at name ns (i + count) cs j s
+ReadAtBehind count contents = (name : Text) (ns : Names) (i : ℕ) (cs : Contents) (j : ℕ)
+    (s : Option Source)
+    → read_at name ns i (contents cs) (count + j) s ≡ read_at name ns (i + count) cs j s
 
--- What is known of a list of variants: how many they are; their contents in front of others; what a value tells; when two values
--- are the same variant with the same content; and that they are so exactly where they tell the same data.
+-- What is known of a list of variants: how many they are; their contents in front of others; what a
+-- value tells; when two values are the same variant with the same content; and that they are so
+-- exactly where they tell the same data.
 pub record AboutVariants (L : Type 0) : Type 1 where
   pub count : ℕ
   pub contents : Contents → Contents
@@ -104,8 +124,11 @@ pub record AboutVariants (L : Type 0) : Type 1 where
   pub counted : (cs : Contents) → length (contents cs) ≡ count + length cs
 
 -- what may be answered on the content of the variant at a place among these
-abbrev pub ReadsAt : {L : Type 0} → (Contents → Contents) → Told L → Text → Names → ℕ → Contents → ℕ → Option Source → Result L Fault → Type 0
-ReadsAt contents told name ns i cs place s r = AnswersByShape (ConformsToOne name ns i (contents cs)) Same (told name ns i) (read_at name ns i (contents cs) place s) r
+abbrev pub ReadsAt : {L : Type 0} → (Contents → Contents) → Told L → Text → Names → ℕ → Contents → ℕ
+    → Option Source → Result L Fault → Type 0
+ReadsAt contents told name ns i cs place s r = AnswersByShape
+    (ConformsToOne name ns i (contents cs)) Same (told name ns i)
+    (read_at name ns i (contents cs) place s) r
 
 -- ---- one variant
 
@@ -119,14 +142,20 @@ module _ {C : Type 0} (a : AboutContent C) where
   abbrev pub one_told : Told C
   one_told name ns i x = a.told (tag name ns i) x
 
-  pub first_conforms : (name : Text) (ns : Names) (i : ℕ) (cs : Contents) (x : C) → ConformsToOne name ns i (one_contents cs) (one_told name ns i x) → conforms_content a.shape (tag name ns i) (one_told name ns i x)
-  first_conforms name ns i cs x h = in_first name (first_name (names_from i ns)) i a.shape (variants_of (names_from (suc i) ns) cs) (one_told name ns i x) (a.told_index (tag name ns i) x) h
+  pub first_conforms : (name : Text) (ns : Names) (i : ℕ) (cs : Contents) (x : C)
+      → ConformsToOne name ns i (one_contents cs) (one_told name ns i x)
+      → conforms_content a.shape (tag name ns i) (one_told name ns i x)
+  first_conforms name ns i cs x h = in_first name (first_name (names_from i ns)) i a.shape
+      (variants_of (names_from (suc i) ns) cs) (one_told name ns i x)
+      (a.told_index (tag name ns i) x) h
 
   pub one_by_value : a.fit → OneTold one_contents one_told a.same
-  one_by_value fit name ns i cs v w c d h = a.told_by_value fit (tag name ns i) v w (first_conforms name ns i cs v c) (first_conforms name ns i cs w d) h
+  one_by_value fit name ns i cs v w c d h = a.told_by_value fit (tag name ns i) v w
+      (first_conforms name ns i cs v c) (first_conforms name ns i cs w d) h
 
   pub one_alike : a.fit → OneAlike one_contents one_told a.same
-  one_alike fit name ns i cs v w c d h = a.told_alike fit (tag name ns i) v w (first_conforms name ns i cs v c) (first_conforms name ns i cs w d) h
+  one_alike fit name ns i cs v w c d h = a.told_alike fit (tag name ns i) v w
+      (first_conforms name ns i cs v c) (first_conforms name ns i cs w d) h
 
   pub one_within : IsWithin 1 one_told
   one_within name ns i v =
@@ -185,23 +214,37 @@ module _ {L R : Type 0} (l : AboutVariants L) (r : AboutVariants R) where
   choice_same _ _ = ⊥
 
   -- the left ones have smaller numbers
-  not_same : (name : Text) (ns : Names) (i : ℕ) (v : L) (w : R) → index_of (l.told name ns i v) ≡ index_of (r.told name ns (i + l.count) w) → ⊥
-  not_same name ns i v w h = apart (i + l.count) (index_of (l.told name ns i v)) (index_of (r.told name ns (i + l.count) w)) (l.within name ns i v).1 (r.within name ns (i + l.count) w).0 h
+  not_same : (name : Text) (ns : Names) (i : ℕ) (v : L) (w : R)
+      → index_of (l.told name ns i v) ≡ index_of (r.told name ns (i + l.count) w)
+      → ⊥
+  not_same name ns i v w h = apart (i + l.count) (index_of (l.told name ns i v))
+      (index_of (r.told name ns (i + l.count) w)) (l.within name ns i v).1
+      (r.within name ns (i + l.count) w).0 h
 
-  pub right_conforms : (name : Text) (ns : Names) (i : ℕ) (cs : Contents) (w : R) → ConformsToOne name ns i (choice_contents cs) (r.told name ns (i + l.count) w) → ConformsToOne name ns (i + l.count) (r.contents cs) (r.told name ns (i + l.count) w)
-  right_conforms name ns i cs w h = l.behind name ns i (r.contents cs) (r.told name ns (i + l.count) w) (r.within name ns (i + l.count) w).0 h
+  pub right_conforms : (name : Text) (ns : Names) (i : ℕ) (cs : Contents) (w : R)
+      → ConformsToOne name ns i (choice_contents cs) (r.told name ns (i + l.count) w)
+      → ConformsToOne name ns (i + l.count) (r.contents cs) (r.told name ns (i + l.count) w)
+  right_conforms name ns i cs w h = l.behind name ns i (r.contents cs)
+      (r.told name ns (i + l.count) w) (r.within name ns (i + l.count) w).0 h
 
   pub choice_by_value : l.fit × r.fit → OneTold choice_contents choice_told choice_same
-  choice_by_value fit name ns i cs (Left v) (Left w) c d h = l.told_by_value fit.0 name ns i (r.contents cs) v w c d h
-  choice_by_value fit name ns i cs (Left v) (Right w) c d h = absurd (not_same name ns i v w (same_index (l.told name ns i v) (r.told name ns (i + l.count) w) h))
-  choice_by_value fit name ns i cs (Right v) (Left w) c d h = absurd (not_same name ns i w v (sym (same_index (r.told name ns (i + l.count) v) (l.told name ns i w) h)))
-  choice_by_value fit name ns i cs (Right v) (Right w) c d h = r.told_by_value fit.1 name ns (i + l.count) cs v w (right_conforms name ns i cs v c) (right_conforms name ns i cs w d) h
+  choice_by_value fit name ns i cs (Left v) (Left w) c d h = l.told_by_value fit.0 name ns i
+      (r.contents cs) v w c d h
+  choice_by_value fit name ns i cs (Left v) (Right w) c d h = absurd
+      (not_same name ns i v w (same_index (l.told name ns i v) (r.told name ns (i + l.count) w) h))
+  choice_by_value fit name ns i cs (Right v) (Left w) c d h = absurd
+      (not_same name ns i w v
+      (sym (same_index (r.told name ns (i + l.count) v) (l.told name ns i w) h)))
+  choice_by_value fit name ns i cs (Right v) (Right w) c d h = r.told_by_value fit.1 name ns
+      (i + l.count) cs v w (right_conforms name ns i cs v c) (right_conforms name ns i cs w d) h
 
   pub choice_alike : l.fit × r.fit → OneAlike choice_contents choice_told choice_same
-  choice_alike fit name ns i cs (Left v) (Left w) c d h = l.told_alike fit.0 name ns i (r.contents cs) v w c d h
+  choice_alike fit name ns i cs (Left v) (Left w) c d h = l.told_alike fit.0 name ns i
+      (r.contents cs) v w c d h
   choice_alike fit name ns i cs (Left v) (Right w) c d h = absurd h
   choice_alike fit name ns i cs (Right v) (Left w) c d h = absurd h
-  choice_alike fit name ns i cs (Right v) (Right w) c d h = r.told_alike fit.1 name ns (i + l.count) cs v w (right_conforms name ns i cs v c) (right_conforms name ns i cs w d) h
+  choice_alike fit name ns i cs (Right v) (Right w) c d h = r.told_alike fit.1 name ns (i + l.count)
+      cs v w (right_conforms name ns i cs v c) (right_conforms name ns i cs w d) h
 
   pub choice_within : IsWithin (l.count + r.count) choice_told
   choice_within name ns i (Left v) =
@@ -225,8 +268,10 @@ module _ {L R : Type 0} (l : AboutVariants L) (r : AboutVariants R) where
       subst (λ n. read_at name ns i (choice_contents cs) n s ≡ read_at name ns (i + (l.count + r.count)) cs j s) (sym (grouped l.count r.count j))
       (l.read_behind name ns i (r.contents cs) (r.count + j) s ∙ (r.read_behind name ns (i + l.count) cs j s ∙ ap (λ n. read_at name ns n cs j s) (grouped i l.count r.count)))
 
-  pub choice_counted : (cs : Contents) → length (choice_contents cs) ≡ (l.count + r.count) + length cs
-  choice_counted cs = l.counted (r.contents cs) ∙ (ap (λ n. l.count + n) (r.counted cs) ∙ sym (grouped l.count r.count (length cs)))
+  pub choice_counted : (cs : Contents)
+      → length (choice_contents cs) ≡ (l.count + r.count) + length cs
+  choice_counted cs = l.counted (r.contents cs)
+      ∙ (ap (λ n. l.count + n) (r.counted cs) ∙ sym (grouped l.count r.count (length cs)))
 
   abbrev pub about_choice : AboutVariants (Choice L R)
   about_choice = record {

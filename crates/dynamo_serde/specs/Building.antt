@@ -13,4 +13,5 @@ frame (Open.Map m) = table (entries_view m.entries.entries) (option_map string_b
 frame (Open.Marked symbol a) = marked (symbol_of symbol) (option_map view a)
 
 abbrev pub state : Builder → State
-state b = record { below = map frame b.below.items; top = frame b.top; at_key = b.at_key; flattens = b.flattens }
+state b = record
+    { below = map frame b.below.items; top = frame b.top; at_key = b.at_key; flattens = b.flattens }

@@ -1,6 +1,8 @@
 -- The event of a call, and the events so far with that of one more call.
 use Rattle.std.specs.Prelude.{Option, Some, None, [], ◌∷◌, ◌++◌}
-use Rattle.serde.specs.Event.{Event, Log, boolean, signed, unsigned, single, double, character, text, octets, nothing, unit_variant, seq_begins, seq_ends, map_begins, map_ends, field_key, variant_key, key_begins, key_ends, flattens}
+use Rattle.serde.specs.Event.{Event, Log, boolean, signed, unsigned, single, double, character}
+use Rattle.serde.specs.Event.{text, octets, nothing, unit_variant, seq_begins, seq_ends, map_begins}
+use Rattle.serde.specs.Event.{map_ends, field_key, variant_key, key_begins, key_ends, flattens}
 use Rattle.dynamo_serde.specs.declared.events.Call.{Call}
 use Rattle.dynamo_serde.specs.declared.events.Call.TheVariants as call
 

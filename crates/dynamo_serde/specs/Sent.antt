@@ -1,16 +1,20 @@
 -- The attribute value that serde's events stand for, told by a machine that takes them one by one.
 --
--- A value that is sent is put into what is open: it is the whole, the next element of a list, or a map's value at the key
--- that waits. A list or a map that ends is put into what is open round it. Between `key_begins` and `key_ends` a scalar is
--- no value but a key, by its text. After `flattens` a map's members go into the map that is open. A map whose first key is
--- a symbol is no map: what stands under it becomes a set, a number or a NULL.
-use Rattle.std.specs.Prelude.{◌≡◌, ◌⊎◌, ℕ, zero, ◌+◌, List, [], ◌∷◌, ◌++◌, Bool, true, false, Option, Some, None, IfSome, decimal, encode_utf8}
+-- A value that is sent is put into what is open: it is the whole, the next element of a list, or a
+-- map's value at the key that waits. A list or a map that ends is put into what is open round it.
+-- Between `key_begins` and `key_ends` a scalar is no value but a key, by its text. After `flattens`
+-- a map's members go into the map that is open. A map whose first key is a symbol is no map: what
+-- stands under it becomes a set, a number or a NULL.
+use Rattle.std.specs.Prelude.{◌≡◌, ◌⊎◌, ℕ, zero, ◌+◌, List, [], ◌∷◌, ◌++◌, Bool, true, false}
+use Rattle.std.specs.Prelude.{Option, Some, None, IfSome, decimal, encode_utf8}
 use Rattle.std.specs.Float.{Float, Format, binary32, binary64}
 use Rattle.std.specs.Fmt.{signed_decimal}
 use Rattle.std.specs.FinMap.Entries.{put}
 use Rattle.ryu.specs.Parse.{parse_float}
 use Rattle.ryu.specs.Plain.{IsPlainNumber}
-use Rattle.serde.specs.Event.{Event, Log, boolean, signed, unsigned, single, double, character, text, octets, nothing, unit_variant, seq_begins, seq_ends, map_begins, map_ends, field_key, variant_key, key_begins, key_ends, flattens}
+use Rattle.serde.specs.Event.{Event, Log, boolean, signed, unsigned, single, double, character}
+use Rattle.serde.specs.Event.{text, octets, nothing, unit_variant, seq_begins, seq_ends, map_begins}
+use Rattle.serde.specs.Event.{map_ends, field_key, variant_key, key_begins, key_ends, flattens}
 use Rattle.serde.specs.Spelling.{spelled}
 use Rattle.serde.specs.declared.name.NameKind.TheVariants.{Field, Variant}
 use Rattle.dynamo_value.specs.Av as av
@@ -19,8 +23,9 @@ use Rattle.dynamo_value.specs.View.{text_cmp}
 use Rattle.dynamo_ser.specs.Key.{bool_text}
 use Rattle.dynamo_serde.specs.Symbol.{Symbol, named, converted}
 
--- What is open: the whole; a list with its elements; a map with its members in the order of their keys, the key that waits,
--- and how many more maps are open whose members go into it; what stands under a symbol.
+-- What is open: the whole; a list with its elements; a map with its members in the order of their
+-- keys, the key that waits, and how many more maps are open whose members go into it; what stands
+-- under a symbol.
 pub data Frame : Type 0 where
   whole : Option Av → Frame
   list : List Av → Frame
@@ -83,7 +88,8 @@ Keys old key new = Turns (λ f. key_in f key) old new
 
 -- a scalar is a key or a value, and cannot be flattened
 abbrev pub Adds : State → List ℕ → Av → State → Type 0
-Adds old key a new = (old.flattens ≡ false) × (((old.at_key ≡ true) × Keys old key new) ⊎ ((old.at_key ≡ false) × Puts old a new))
+Adds old key a new = (old.flattens ≡ false)
+    × (((old.at_key ≡ true) × Keys old key new) ⊎ ((old.at_key ≡ false) × Puts old a new))
 
 -- what is no scalar is no key; only maps and units can be flattened
 abbrev pub IsValue : State → Type 0
@@ -91,14 +97,17 @@ IsValue s = (s.at_key ≡ false) × (s.flattens ≡ false)
 
 -- a float is written as some text that reads as it, the shortest one that ryu finds
 abbrev pub AddsFloat : Format → State → Float → State → Type 0
-AddsFloat format old x new = IsValue old × (s : List ℕ) × IsPlainNumber s × (parse_float format s ≡ Some x) × Puts old (av.N s) new
+AddsFloat format old x new = IsValue old × (s : List ℕ) × IsPlainNumber s
+    × (parse_float format s ≡ Some x) × Puts old (av.N s) new
 
 abbrev pub Opens : State → Frame → State → Type 0
 Opens old inner new = new ≡ record old { below = old.below ++ old.top ∷ []; top = inner }
 
 -- the innermost is closed, and a stands in its place
 abbrev pub Closes : State → Av → State → Type 0
-Closes old a new = (rest : List Frame) × (outer inner : Frame) × (old.below ≡ rest ++ outer ∷ []) × (put_in outer a ≡ Some inner) × (new ≡ record old { below = rest; top = inner })
+Closes old a new = (rest : List Frame) × (outer inner : Frame) × (old.below ≡ rest ++ outer ∷ [])
+    × (put_in outer a ≡ Some inner)
+    × (new ≡ record old { below = rest; top = inner })
 
 -- a map of its own ends, or what stands under a symbol
 abbrev pub Ends : State → State → Type 0
@@ -114,14 +123,24 @@ Takes old (character c) new = Adds old (encode_utf8 c) (av.S (encode_utf8 c)) ne
 Takes old (text s) new = Adds old s (av.S s) new
 Takes old (octets bs) new = IsValue old × Puts old (av.B bs) new
 -- in place of a map to be flattened a unit writes nothing
-Takes old nothing new = (old.at_key ≡ false) × (((old.flattens ≡ true) × (new ≡ record old { flattens = false })) ⊎ ((old.flattens ≡ false) × Puts old (av.Null true) new))
-Takes old (unit_variant name case) new = Adds old (spelled case Variant name) (av.S (spelled case Variant name)) new
+Takes old nothing new = (old.at_key ≡ false)
+    × (((old.flattens ≡ true) × (new ≡ record old { flattens = false }))
+    ⊎ ((old.flattens ≡ false) × Puts old (av.Null true) new))
+Takes old (unit_variant name case) new = Adds old (spelled case Variant name)
+    (av.S (spelled case Variant name)) new
 Takes old (seq_begins n) new = IsValue old × Opens old (list []) new
-Takes old seq_ends new = (as' : List Av) × (old.top ≡ list as') × Closes old (av.L (elements_of as')) new
-Takes old (map_begins n) new = (old.at_key ≡ false) × (((old.flattens ≡ true) × (f : Frame) × (share_in old.top ≡ Some f) × (new ≡ record old { top = f; flattens = false })) ⊎ ((old.flattens ≡ false) × Opens old (table [] None 0) new))
-Takes old map_ends new = ((f : Frame) × (share_in f ≡ Some old.top) × (new ≡ record old { top = f })) ⊎ Ends old new
+Takes old seq_ends new = (as' : List Av) × (old.top ≡ list as')
+    × Closes old (av.L (elements_of as')) new
+Takes old (map_begins n) new = (old.at_key ≡ false)
+    × (((old.flattens ≡ true) × (f : Frame) × (share_in old.top ≡ Some f)
+    × (new ≡ record old { top = f; flattens = false }))
+    ⊎ ((old.flattens ≡ false) × Opens old (table [] None 0) new))
+Takes old map_ends new = ((f : Frame) × (share_in f ≡ Some old.top)
+    × (new ≡ record old { top = f }))
+    ⊎ Ends old new
 Takes old (field_key name case) new = Keys old (spelled case Field name) new
-Takes old (variant_key name case) new = Turns (λ f. variant_in f (named name) (spelled case Variant name)) old new
+Takes old (variant_key name case) new = Turns
+    (λ f. variant_in f (named name) (spelled case Variant name)) old new
 Takes old key_begins new = new ≡ record old { at_key = true }
 Takes old key_ends new = new ≡ record old { at_key = false }
 Takes old flattens new = new ≡ record old { flattens = true }
@@ -136,4 +155,5 @@ Follows old log new = ∥ IfSome log (λ es. TakesAll old es new) ∥₁
 
 -- where the events are known, they stand for this attribute value
 abbrev pub IsValueOf : Log → Av → Type 0
-IsValueOf log a = (last : State) × Follows start log last × (last.below ≡ []) × (last.top ≡ whole (Some a))
+IsValueOf log a = (last : State) × Follows start log last × (last.below ≡ [])
+    × (last.top ≡ whole (Some a))

@@ -1,6 +1,8 @@
--- The symbols that a map's one key may be, and what the value under one becomes: a list a set, a text a number, a boolean a
--- NULL. The sets' symbols are those of the library's writer; a number and a NULL have no event of their own.
-use Rattle.std.specs.Prelude.{ℕ, List, [], ◌∷◌, ◌++◌, codes, Option, Some, None, Result, Ok, Err, if◌then◌else◌, bytes_eq}
+-- The symbols that a map's one key may be, and what the value under one becomes: a list a set, a
+-- text a number, a boolean a NULL. The sets' symbols are those of the library's writer; a number
+-- and a NULL have no event of their own.
+use Rattle.std.specs.Prelude.{ℕ, List, [], ◌∷◌, ◌++◌, codes, Option, Some, None, Result, Ok, Err}
+use Rattle.std.specs.Prelude.{if◌then◌else◌, bytes_eq}
 use Rattle.dynamo_value.specs.Av as av
 use Rattle.dynamo_value.specs.Av.{Av}
 use Rattle.dynamo_value.specs.Fault.{Fault}

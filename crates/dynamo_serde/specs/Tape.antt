@@ -1,6 +1,7 @@
 -- The place that a tape of the program stands for; for private clauses.
 use Rattle.std.specs.Prelude.{List, Bool, true, false, map, drop}
-use Rattle.dynamo_serde.specs.Laid.{Token, Place, null, boolean, number, text, bytes, key, begin_list, begin_set, end_seq, begin_map, end_map}
+use Rattle.dynamo_serde.specs.Laid.{Token, Place, null, boolean, number, text, bytes, key}
+use Rattle.dynamo_serde.specs.Laid.{begin_list, begin_set, end_seq, begin_map, end_map}
 use Rattle.dynamo_write.specs.SetKind.{kind_of}
 use Rattle.dynamo_serde.specs.declared.tape.Token as tape
 use Rattle.dynamo_serde.specs.declared.tape.Token.TheVariants as token

@@ -1,12 +1,14 @@
--- The events of a datum of the library's own data model, as serde's impls and derives send them: so a value of either
--- library stands for one attribute value.
+-- The events of a datum of the library's own data model, as serde's impls and derives send them: so
+-- a value of either library stands for one attribute value.
 use Rattle.std.specs.Prelude.{◌≡◌, ℕ, ℤ, pos, negsuc, ◌+◌, List, [], ◌∷◌, ◌++◌, Option, Some, None}
 use Rattle.serde.specs.Event as event
-use Rattle.serde.specs.Event.{Event, Log, seq_begins, seq_ends, map_begins, map_ends, field_key, variant_key, key_begins, key_ends}
+use Rattle.serde.specs.Event.{Event, Log, seq_begins, seq_ends, map_begins, map_ends, field_key}
+use Rattle.serde.specs.Event.{variant_key, key_begins, key_ends}
 use Rattle.serde.specs.declared.name.Case.TheVariants.{AsIs}
 use Rattle.dynamo_ser.specs.Symbols.{SetKind}
 use Rattle.dynamo_ser.specs.Datum as datum
-use Rattle.dynamo_ser.specs.Datum.{Datum, Elements, Pairs, Fields, IntegerKind, i8, i16, i32, i64, i128, u8, u16, u32, u64, u128}
+use Rattle.dynamo_ser.specs.Datum.{Datum, Elements, Pairs, Fields, IntegerKind, i8, i16, i32, i64}
+use Rattle.dynamo_ser.specs.Datum.{i128, u8, u16, u32, u64, u128}
 use Rattle.dynamo_write.specs.Set.{set_kind}
 use Rattle.dynamo_serde.specs.Symbol.{named}
 
@@ -49,7 +51,8 @@ in_map n es = map_begins (Some n) ∷ (es ++ map_ends ∷ [])
 abbrev pub under : List ℕ → List Event → List Event
 under name es = in_map 1 (variant_key name AsIs ∷ es)
 
--- a set is sent as a map of one member, whose key is the set's symbol; any other newtype as its content
+-- a set is sent as a map of one member, whose key is the set's symbol; any other newtype as its
+-- content
 abbrev pub newtype : Option SetKind → List ℕ → List Event → List Event
 newtype None name es = es
 newtype (Some kind) name es = under name es
@@ -71,10 +74,12 @@ abbrev mutual
   events (datum.seq ds) = in_seq (elements_count ds) (elements_events ds)
   events (datum.tuple ds) = in_seq (elements_count ds) (elements_events ds)
   events (datum.tuple_struct name ds) = in_seq (elements_count ds) (elements_events ds)
-  events (datum.tuple_variant variant ds) = under variant.name (in_seq (elements_count ds) (elements_events ds))
+  events (datum.tuple_variant variant ds) = under variant.name
+      (in_seq (elements_count ds) (elements_events ds))
   events (datum.map ps) = in_map (pairs_count ps) (pairs_events ps)
   events (datum.struct name fs) = in_map (fields_count fs) (fields_events fs)
-  events (datum.struct_variant variant fs) = under variant.name (in_map (fields_count fs) (fields_events fs))
+  events (datum.struct_variant variant fs) = under variant.name
+      (in_map (fields_count fs) (fields_events fs))
   events (datum.refuse text) = []
 
   pub elements_events : Elements → List Event
@@ -83,14 +88,15 @@ abbrev mutual
 
   pub pairs_events : Pairs → List Event
   pairs_events datum.no_pairs = []
-  pairs_events (datum.pair k d ps) = (key_begins ∷ (events k ++ key_ends ∷ events d)) ++ pairs_events ps
+  pairs_events (datum.pair k d ps) = (key_begins ∷ (events k ++ key_ends ∷ events d))
+      ++ pairs_events ps
 
   pub fields_events : Fields → List Event
   fields_events datum.no_fields = []
   fields_events (datum.field name d fs) = (field_key name AsIs ∷ events d) ++ fields_events fs
 
--- What the events tell whole: no refusal stands inside, no variant is named as a symbol, and each key is
--- a scalar, or a newtype over one.
+-- What the events tell whole: no refusal stands inside, no variant is named as a symbol, and each
+-- key is a scalar, or a newtype over one.
 abbrev pub IsKeyTold : Datum → Type 0
 IsKeyTold (datum.boolean b) = Unit {0}
 IsKeyTold (datum.integer kind z) = Unit {0}
@@ -127,6 +133,7 @@ abbrev mutual
   FieldsTold datum.no_fields = Unit {0}
   FieldsTold (datum.field name d fs) = IsTold d × FieldsTold fs
 
--- what a value's events are, where serde says them: those of this datum, after whatever was sent before
+-- what a value's events are, where serde says them: those of this datum, after whatever was sent
+-- before
 abbrev pub Sends : (Log → Log → Type 0) → Datum → Type 0
 Sends writes d = (es : List Event) (new : Log) → writes (Some es) new → new ≡ Some (es ++ events d)

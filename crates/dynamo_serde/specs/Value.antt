@@ -1,6 +1,6 @@
--- The events of an attribute value, as the field module `attribute_value` sends them: a string, a boolean, a byte string, a list
--- and a map have their own; a number is sent as its text under a symbol, a NULL as a boolean under one, and a set as a list under
--- its kind's.
+-- The events of an attribute value, as the field module `attribute_value` sends them: a string, a
+-- boolean, a byte string, a list and a map have their own; a number is sent as its text under a
+-- symbol, a NULL as a boolean under one, and a set as a list under its kind's.
 use Rattle.std.specs.Prelude.{◌≡◌, ℕ, ◌+◌, List, [], ◌∷◌, ◌++◌, length, Some, IfSome}
 use Rattle.serde.specs.Event as event
 use Rattle.serde.specs.Event.{Event, Log, Logs, map_begins, map_ends, variant_key, field_key}
@@ -88,6 +88,7 @@ abbrev pub SendsUnder : List ℕ → (Log → Log → Type 0) → Log → Log �
 SendsUnder name inside old new =
     (first named last : Log) × Logs old first (map_begins (Some 1)) × Logs first named (variant_key name AsIs) × inside named last × Logs last new map_ends
 
--- the events of this attribute value come, its members in the order that the hashed maps happen to keep, which nobody chose
+-- the events of this attribute value come, its members in the order that the hashed maps happen to
+-- keep, which nobody chose
 abbrev pub SendsValue : Av → Log → Log → Type 0
 SendsValue a old new = (sent : Av) × (in_order sent ≡ a) × Logged (value_events sent) old new

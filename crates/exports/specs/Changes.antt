@@ -1,5 +1,6 @@
--- What a line of an export asks of a table. A line of a full export has an item under `Item`, which is put. A line of an incremental
--- export has `Keys`, and what it puts is under `NewImage`; where there is none, the item under the keys is deleted.
+-- What a line of an export asks of a table. A line of a full export has an item under `Item`, which
+-- is put. A line of an incremental export has `Keys`, and what it puts is under `NewImage`; where
+-- there is none, the item under the keys is deleted.
 use Rattle.std.specs.Prelude.{◌≡◌, Option, Some, None, Result, Ok, Err, MatchResult, codes}
 use Rattle.serde_json.specs.Data.{Data}
 use Rattle.serde_json.specs.Find.{get}
@@ -34,4 +35,5 @@ ReadsMembers None (Some keys) None r = ReadsDelete keys r
 ReadsMembers None None image r = r ≡ Err Fault.NoItem
 
 abbrev pub ReadsChange : Data → Result Request Fault → Type 0
-ReadsChange json r = ReadsMembers (get (codes "Item") json) (get (codes "Keys") json) (get (codes "NewImage") json) r
+ReadsChange json r = ReadsMembers (get (codes "Item") json) (get (codes "Keys") json)
+    (get (codes "NewImage") json) r

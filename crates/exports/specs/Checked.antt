@@ -13,7 +13,8 @@ use Rattle.exports.specs.declared.finding.Finding.{Finding}
 use Rattle.exports.specs.declared.finding.Problem.{Problem}
 
 -- the item of the line is read as the type permits
-abbrev pub ChecksLine : {T : Type 0} → (Source → Result T Fault → Type 0) → Line → Result T Finding → Type 0
+abbrev pub ChecksLine : {T : Type 0} → (Source → Result T Fault → Type 0) → Line → Result T Finding
+    → Type 0
 ChecksLine reads line (Ok value) = reads (attribute (av.M (item_view line.item))) (Ok value)
 ChecksLine reads line (Err finding) =
     (located : LocatedError Error) × (finding ≡ record { number = line.number; problem = Problem.Value located })
@@ -21,8 +22,10 @@ ChecksLine reads line (Err finding) =
     ⊎ reads (attribute (av.M (item_view line.item))) (Err (fault_of located.error)))
 
 -- what is told of a line that was given, by the fault of a broken one
-abbrev pub Checks : {T : Type 0} → (Source → Result T Fault → Type 0) → Option (Result Line LineFault) → Option (Result T Finding) → Type 0
+abbrev pub Checks : {T : Type 0} → (Source → Result T Fault → Type 0)
+    → Option (Result Line LineFault) → Option (Result T Finding) → Type 0
 Checks reads None r = r ≡ None
 Checks reads (Some given) None = ⊥
 Checks reads (Some (Ok line)) (Some r) = ChecksLine reads line r
-Checks reads (Some (Err broken)) (Some r) = r ≡ Err (record { number = broken.number; problem = Problem.Line broken.fault })
+Checks reads (Some (Err broken)) (Some r) = r
+    ≡ Err (record { number = broken.number; problem = Problem.Line broken.fault })

@@ -16,8 +16,10 @@ position_text position =
 -- what the reader says of its own fault isn't promised
 abbrev pub fault_text : Fault → Option (List ℕ)
 fault_text (Fault.Read error) = None
-fault_text (Fault.TooLong limit) = Some (codes "it is longer than " ++ (decimal limit ++ codes " bytes"))
-fault_text (Fault.NotJson position) = Some (codes "it is not JSON (" ++ (position_text position ++ codes ")"))
+fault_text (Fault.TooLong limit) = Some
+    (codes "it is longer than " ++ (decimal limit ++ codes " bytes"))
+fault_text (Fault.NotJson position) = Some
+    (codes "it is not JSON (" ++ (position_text position ++ codes ")"))
 fault_text Fault.NoItem = Some (codes "it has no Item")
 fault_text (Fault.Form located) = located_text kind_text located
 

@@ -17,7 +17,8 @@ limit_of groups = groups.limit
 abbrev pub others_of : Groups → ℕ
 others_of groups = groups.others
 
--- One line more: of the group of this name; else of a new group, if there is room for one; else of none.
+-- One line more: of the group of this name; else of a new group, if there is room for one; else of
+-- none.
 abbrev pub CountsUnder : String Global → Option ℕ → Groups → Groups → Type 0
 CountsUnder name (Some count) old new =
     Updates string_cmp (counts_of old) (counts_of new) name (Some (u64_saturate (count + 1)))
@@ -30,4 +31,5 @@ CountsUnder name None old new =
     × (others_of new ≡ u64_saturate (others_of old + 1)))
 
 abbrev pub Counts : Groups → Groups → Type 0
-Counts old new = (name : String Global) × CountsUnder name (get string_cmp (counts_of old) name) old new
+Counts old new = (name : String Global)
+    × CountsUnder name (get string_cmp (counts_of old) name) old new

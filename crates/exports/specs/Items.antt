@@ -1,5 +1,7 @@
--- What a line of an export gives: the item that stands under `Item` of its JSON object, by the definition of DynamoDB JSON.
-use Rattle.std.specs.Prelude.{◌≡◌, ◌⊎◌, ℕ, List, [], Result, Ok, Err, Some, MatchOption, MatchResult, IsUtf8, codes}
+-- What a line of an export gives: the item that stands under `Item` of its JSON object, by the
+-- definition of DynamoDB JSON.
+use Rattle.std.specs.Prelude.{◌≡◌, ◌⊎◌, ℕ, List, [], Result, Ok, Err, Some, MatchOption}
+use Rattle.std.specs.Prelude.{MatchResult, IsUtf8, codes}
 use Rattle.std.specs.declared.vec.Vec.{Vec}
 use Rattle.std.specs.declared.alloc.Global.{Global}
 use Rattle.serde_json.specs.Data.{Data}
@@ -46,7 +48,8 @@ abbrev pub ReadsJson : List ℕ → Result Value Fault → Type 0
 ReadsJson bytes (Ok json) = IsJson bytes (view json)
 ReadsJson bytes (Err fault) = IsNotJson bytes fault ⊎ IsLackOfMemory fault
 
--- the item under `Item`: the one that reading DynamoDB JSON gives of what stands there, or its refusal
+-- the item under `Item`: the one that reading DynamoDB JSON gives of what stands there, or its
+-- refusal
 abbrev pub ReadsItem : Data → Result Item Fault → Type 0
 ReadsItem json r =
     MatchOption (get (codes "Item") json) (r ≡ Err Fault.NoItem)

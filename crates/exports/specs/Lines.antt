@@ -1,6 +1,7 @@
--- The lines of a reader. A line goes up to its line feed, or to the end. What a reader that doesn't tell its bytes gives isn't
--- known, but its lines are read and counted alike.
-use Rattle.std.specs.Prelude.{◌≡◌, ◌≢◌, ◌⊎◌, ◌+◌, ◌++◌, ◌≤◌, ◌<◌, ⊤, ℕ, zero, suc, Bool, true, false}
+-- The lines of a reader. A line goes up to its line feed, or to the end. What a reader that doesn't
+-- tell its bytes gives isn't known, but its lines are read and counted alike.
+use Rattle.std.specs.Prelude.{◌≡◌, ◌≢◌, ◌⊎◌, ◌+◌, ◌++◌, ◌≤◌, ◌<◌, ⊤, ℕ, zero, suc, Bool, true}
+use Rattle.std.specs.Prelude.{false}
 use Rattle.std.specs.Prelude.{List, [], All, length, Option, Some, None, Result, Ok, Err, IfSome}
 use Rattle.std.specs.declared.vec.Vec.{Vec}
 use Rattle.std.specs.declared.alloc.Global.{Global}
@@ -59,7 +60,8 @@ ReadsWithin limit old new found =
     (line : List ℕ) × TakesLine old new line × GivesWithin (Some limit) line found
 
 -- the same of the rest of a line that has begun
-abbrev pub ReadsRest : ℕ → List ℕ → Option (List ℕ) → Option (List ℕ) → Option (Vec ℕ Global) → Type 0
+abbrev pub ReadsRest : ℕ → List ℕ → Option (List ℕ) → Option (List ℕ) → Option (Vec ℕ Global)
+    → Type 0
 ReadsRest limit begun old new found =
     (rest : List ℕ) × TakesLine old new rest × GivesWithin (Some limit) (begun ++ rest) found
 
@@ -86,7 +88,8 @@ PassesBlank limit (suc n) old new =
     × TakesLine middle new line × IsWithin limit line × (line ≢ []) × (is_blank line ≡ true)
 
 -- a read that failed ends the lines; a line that is too long is passed over
-abbrev pub FailsBy : {R : Type 0} → (R → Option (List ℕ)) → Option (List ℕ) → Lines R → Lines R → Fault → Type 0
+abbrev pub FailsBy : {R : Type 0} → (R → Option (List ℕ)) → Option (List ℕ) → Lines R → Lines R
+    → Fault → Type 0
 FailsBy left middle old new (Fault.Read error) = is_ended new ≡ true
 FailsBy left middle old new (Fault.TooLong limit) =
     (limit_of old ≡ Some limit) × (is_ended new ≡ is_ended old)
@@ -101,8 +104,9 @@ PassesTo left old n middle = PassesBlank (limit_of old) n (left (reader_of old))
 abbrev pub IsLast : {R : Type 0} → Option (List ℕ) → Lines R → Type 0
 IsLast middle new = (is_ended new ≡ true × IsAtEnd middle) ⊎ (18446744073709551615 ≤ number_of new)
 
--- The next line that isn't blank, behind some blank ones, and each of them counts. A read that failed counts as a line, and so does a
--- line that is too long. The lines end where the reader does, and with a read that failed.
+-- The next line that isn't blank, behind some blank ones, and each of them counts. A read that
+-- failed counts as a line, and so does a line that is too long. The lines end where the reader
+-- does, and with a read that failed.
 abbrev pub GivesText : {R : Type 0} → (R → Option (List ℕ)) → Lines R → Lines R
     → Option (Result (Vec ℕ Global) Fault) → Type 0
 GivesText left old new None =
@@ -128,7 +132,8 @@ item_in (Ok line) = Ok line.item
 item_in (Err broken) = Err broken.fault
 
 -- The next line that isn't blank gives its item or its fault, under its number.
-abbrev pub Gives : {R : Type 0} → (R → Option (List ℕ)) → Lines R → Lines R → Option (Result Line LineFault) → Type 0
+abbrev pub Gives : {R : Type 0} → (R → Option (List ℕ)) → Lines R → Lines R
+    → Option (Result Line LineFault) → Type 0
 Gives left old new None = GivesText left old new None
 Gives left old new (Some r) =
     (text : Result (Vec ℕ Global) Fault) × GivesText left old new (Some text)

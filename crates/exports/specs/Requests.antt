@@ -1,6 +1,8 @@
--- The requests of a file of `aws dynamodb batch-write-item`: an object of a list of requests under the name of each table. A
--- request is an object with `PutRequest`, whose `Item` is DynamoDB JSON of an item, or with `DeleteRequest`, whose `Key` is one.
-use Rattle.std.specs.Prelude.{ℕ, List, [], ◌∷◌, Option, Some, None, Result, Ok, Err, codes, map, string_bytes}
+-- The requests of a file of `aws dynamodb batch-write-item`: an object of a list of requests under
+-- the name of each table. A request is an object with `PutRequest`, whose `Item` is DynamoDB JSON
+-- of an item, or with `DeleteRequest`, whose `Key` is one.
+use Rattle.std.specs.Prelude.{ℕ, List, [], ◌∷◌, Option, Some, None, Result, Ok, Err, codes, map}
+use Rattle.std.specs.Prelude.{string_bytes}
 use Rattle.serde_json.specs.Data as json
 use Rattle.serde_json.specs.Data.{Data}
 use Rattle.serde_json.specs.Find.{get}

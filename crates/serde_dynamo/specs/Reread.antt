@@ -11,8 +11,11 @@ use Rattle.dynamo_shape.specs.Shape.{Shape}
 
 -- the fault of writing the datum, or one that reading what was written permits
 abbrev pub IsFaultOf : Shape → Datum → Fault → Type 0
-IsFaultOf s d f = (written d ≡ Err f) ⊎ ((a : Av) × (written d ≡ Ok a) × Permitted s (attribute a) (Err f))
+IsFaultOf s d f = (written d ≡ Err f)
+    ⊎ ((a : Av) × (written d ≡ Ok a) × Permitted s (attribute a) (Err f))
 
 -- of a value with an item what reading the item may return, and else the fault of writing it
-abbrev pub Stores : {T : Type 0} → (Source → Result T Fault → Type 0) → Datum → Result T Fault → Type 0
-Stores reads d r = MatchResult (item_written d) (λ members. reads (attribute (av.M members)) r) (λ fault. r ≡ Err fault)
+abbrev pub Stores : {T : Type 0} → (Source → Result T Fault → Type 0) → Datum → Result T Fault
+    → Type 0
+Stores reads d r = MatchResult (item_written d) (λ members. reads (attribute (av.M members)) r)
+    (λ fault. r ≡ Err fault)

@@ -5,7 +5,9 @@ use Rattle.dynamo_value.specs.Integer.{u8, u64}
 use Rattle.dynamo_ser.specs.Symbols.{strings, numbers, blobs}
 use Rattle.dynamo_shape.specs.Absence.{required}
 use Rattle.dynamo_shape.specs.ByValue.{SameEach}
-use Rattle.dynamo_shape.specs.Shape.{Shape, string, bytes, integer, set, struct, enum, Shapes, no_shapes, shape, FieldShapes, no_field_shapes, field_shape, nothing, one, several, named, Variants, no_variants, variant}
+use Rattle.dynamo_shape.specs.Shape.{Shape, string, bytes, integer, set, struct, enum, Shapes}
+use Rattle.dynamo_shape.specs.Shape.{no_shapes, shape, FieldShapes, no_field_shapes, field_shape}
+use Rattle.dynamo_shape.specs.Shape.{nothing, one, several, named, Variants, no_variants, variant}
 use Rattle.serde_dynamo.specs.declared.samples.sets.Sets.{Sets}
 use Rattle.serde_dynamo.specs.declared.samples.user.User.{User}
 
@@ -22,7 +24,8 @@ abbrev pub user_shape : Shape
 user_shape = struct (codes "User") user_fields
 
 abbrev pub same_user : User → User → Type 0
-same_user u v = (string_bytes u.id ≡ string_bytes v.id) × ((string_bytes u.name ≡ string_bytes v.name) × (u.age ≡ v.age))
+same_user u v = (string_bytes u.id ≡ string_bytes v.id)
+    × ((string_bytes u.name ≡ string_bytes v.name) × (u.age ≡ v.age))
 
 abbrev pub two_bytes : Shapes
 two_bytes = shape byte_shape (shape byte_shape no_shapes)

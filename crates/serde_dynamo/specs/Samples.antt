@@ -37,7 +37,8 @@ abbrev pub event_newtype : ℤ → Datum
 event_newtype n = datum.newtype_variant (event_variant 1 (codes "Newtype")) (byte n)
 
 abbrev pub event_tuple : ℤ → ℤ → Datum
-event_tuple a b = datum.tuple_variant (event_variant 2 (codes "Tuple")) (datum.element (byte a) (datum.element (byte b) datum.no_elements))
+event_tuple a b = datum.tuple_variant (event_variant 2 (codes "Tuple"))
+    (datum.element (byte a) (datum.element (byte b) datum.no_elements))
 
 abbrev pub event_structy : ℤ → ℤ → Datum
 event_structy one two =
@@ -62,4 +63,6 @@ sets_of names the_numbers the_blobs =
     (datum.field (codes "blobs") (set_told blobs the_blobs) datum.no_fields)))
 
 abbrev pub sets_told : Sets → Datum
-sets_told sets = sets_of (map (λ s. datum.string (string_bytes s)) sets.names.items) (map (λ n. datum.integer datum.u64 (pos n)) sets.numbers.items) (map (λ b. datum.bytes (octets_of b)) sets.blobs.items)
+sets_told sets = sets_of (map (λ s. datum.string (string_bytes s)) sets.names.items)
+    (map (λ n. datum.integer datum.u64 (pos n)) sets.numbers.items)
+    (map (λ b. datum.bytes (octets_of b)) sets.blobs.items)

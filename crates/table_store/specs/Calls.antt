@@ -1,5 +1,7 @@
 -- What each call runs: one statement after the other, up to the first error.
-use Rattle.std.specs.Prelude.{◌≡◌, ◌⊎◌, ⊤, ◌++◌, ◌-◌, ℕ, ℤ, List, [], ◌∷◌, Option, Some, None, Result, Ok, Err, IsErrAnd, MatchBool, MatchResult, is_some, length, ◌==◌}
+use Rattle.std.specs.Prelude.{◌≡◌, ◌⊎◌, ⊤, ◌++◌, ◌-◌, ℕ, ℤ, List, [], ◌∷◌, Option, Some, None}
+use Rattle.std.specs.Prelude.{Result, Ok, Err, IsErrAnd, MatchBool, MatchResult, is_some, length}
+use Rattle.std.specs.Prelude.{◌==◌}
 use Rattle.std.specs.Borrow.{Bor}
 use Rattle.std.specs.Option.{option_copied}
 use Rattle.std.specs.Ordering.{is_ne}
@@ -21,7 +23,8 @@ use Rattle.table_store.specs.Depth.{is_kept}
 use Rattle.table_store.specs.Errors.{of_table}
 use Rattle.table_store.specs.Order.{IfBehind}
 use Rattle.table_store.specs.Runs.{Counts, Deletes, Finds, GetsOwn, IsClean, Puts, RunsText, Stops}
-use Rattle.table_store.specs.Statements.{begin_text, commit_text, following_of, following_text, rest_of, rest_text, rollback_text}
+use Rattle.table_store.specs.Statements.{begin_text, commit_text, following_of, following_text}
+use Rattle.table_store.specs.Statements.{rest_of, rest_text, rollback_text}
 use Rattle.table_store.specs.declared.error.StoreError.{StoreError}
 use Rattle.table_store.specs.declared.rows.definition.Definition.{Definition}
 use Rattle.table_store.specs.declared.store.TableStore.{TableStore}
@@ -67,7 +70,8 @@ module _ {S : Type 0} (g : Ghosts S) where
 
   -- if DynamoDB keeps an item that nests so deep
   abbrev pub IfKept : {A : Type 0} → Item → Step A → Step A
-  IfKept item Next old new r = MatchBool (is_kept item) (Next old new r) (Stops g StoreError.TooDeep old new r)
+  IfKept item Next old new r = MatchBool (is_kept item) (Next old new r)
+      (Stops g StoreError.TooDeep old new r)
 
   -- ---- the calls on a table
 
@@ -79,7 +83,8 @@ module _ {S : Type 0} (g : Ghosts S) where
   unfoldable pub GetsAt : Key → Definition → Step (Option Item)
   GetsAt key table = WithBytes key (GetsOwn g table key)
 
-  -- The item is put under its key where the condition holds of what is there. These two are returned.
+  -- The item is put under its key where the condition holds of what is there. These two are
+  -- returned.
   unfoldable pub PutsIf : Condition → Item → Definition → Step (Key × Option Item)
   PutsIf condition item table =
       WithKey table.schema item (λ key. WithBytes key (λ bytes. After (GetsOwn g table key bytes) (λ before.
@@ -115,7 +120,8 @@ module _ {S : Type 0} (g : Ghosts S) where
 
   -- both lists one after the other, unless memory runs out for them
   abbrev pub Joins : List Item → List Item → Step (List Item)
-  Joins items more old new r = ((r ≡ Ok (items ++ more)) ⊎ (r ≡ Err StoreError.OutOfMemory)) × (new ≡ old)
+  Joins items more old new r = ((r ≡ Ok (items ++ more)) ⊎ (r ≡ Err StoreError.OutOfMemory))
+      × (new ≡ old)
 
   -- so many items behind a key: the rest of its partition, and if that has fewer, those that follow
   unfoldable pub Pages : ℤ → KeyBytes → ℕ → Step (List Item)
@@ -126,9 +132,11 @@ module _ {S : Type 0} (g : Ghosts S) where
 
   -- the items, if the first comes behind the start, and each other one behind the one before it
   abbrev pub InOrder : Option (Bor Key) → KeySchema → List Item → Step (List Item)
-  InOrder after schema items old new r = IfBehind schema (option_copied after) items items r × (new ≡ old)
+  InOrder after schema items old new r = IfBehind schema (option_copied after) items items r
+      × (new ≡ old)
 
-  -- so many items after a key, or from the first on, unless memory runs out for the bytes of the key
+  -- so many items after a key, or from the first on, unless memory runs out for the bytes of the
+  -- key
   unfoldable pub Scans : ℕ → Option (Bor Key) → Definition → Step (List Item)
   Scans limit after table old new r =
       ((start : KeyBytes) × IsStart after start × After (Pages table.id start limit) (InOrder after table.schema) old new r)
@@ -136,7 +144,8 @@ module _ {S : Type 0} (g : Ghosts S) where
 
   -- the item is put under its key, whatever is there
   abbrev pub PutsOver : Item → Definition → Step ⊤
-  PutsOver item table = WithKey table.schema item (λ key. WithBytes key (λ bytes. PutsAt bytes item table))
+  PutsOver item table = WithKey table.schema item
+      (λ key. WithBytes key (λ bytes. PutsAt bytes item table))
 
   -- each item is put under its key, up to the first error
   abbrev pub PutsEach : List Item → Definition → Step ⊤
@@ -146,7 +155,8 @@ module _ {S : Type 0} (g : Ghosts S) where
   -- the transaction is committed, or after an error rolled back, and the error is returned
   abbrev pub Ends : Result ⊤ StoreError → Step ⊤
   Ends (Ok _) old new r = RunsText g commit_text old new r
-  Ends (Err e) old new r = (r ≡ Err e) × (undone : Result ⊤ StoreError) × RunsText g rollback_text old new undone
+  Ends (Err e) old new r = (r ≡ Err e) × (undone : Result ⊤ StoreError)
+      × RunsText g rollback_text old new undone
 
   -- the items are put in one transaction
   unfoldable pub WritesAll : List Item → Definition → Step ⊤
@@ -155,10 +165,12 @@ module _ {S : Type 0} (g : Ghosts S) where
       (mid : Held S) × (done : Result ⊤ StoreError) × PutsEach items table old mid done × Ends done mid new r)
 
   -- an error of the table becomes one of the change
-  abbrev pub Fails : {E : Type 0} → (StoreError → E → Type 0) → StoreError → Held S → Held S → Result ⊤ E → Type 0
+  abbrev pub Fails : {E : Type 0} → (StoreError → E → Type 0) → StoreError → Held S → Held S
+      → Result ⊤ E → Type 0
   Fails gives error old new r = IsErrAnd r (gives error) × (new ≡ old)
 
-  module _ {E : Type 0} (gives : StoreError → E → Type 0) (Makes : Item → Result Item E → Type 0) (key : Key) (table : Definition) where
+  module _ {E : Type 0} (gives : StoreError → E → Type 0) (Makes : Item → Result Item E → Type 0)
+      (key : Key) (table : Definition) where
     -- what the change made is put, or its error is returned
     abbrev pub PutsMade : Result Item E → Held S → Held S → Result ⊤ E → Type 0
     PutsMade (Ok changed) old new r =
@@ -169,7 +181,8 @@ module _ {S : Type 0} (g : Ghosts S) where
     -- the change is given the item that is there
     abbrev pub UpdatesFound : Option Item → Held S → Held S → Result ⊤ E → Type 0
     UpdatesFound None old new r = Fails gives (StoreError.Key TableError.NoItem) old new r
-    UpdatesFound (Some item) old new r = (made : Result Item E) × Makes item made × PutsMade made old new r
+    UpdatesFound (Some item) old new r = (made : Result Item E) × Makes item made
+        × PutsMade made old new r
 
     -- the item under the key is replaced by what the change makes of it
     unfoldable pub Updates : Held S → Held S → Result ⊤ E → Type 0
@@ -178,6 +191,7 @@ module _ {S : Type 0} (g : Ghosts S) where
         × MatchResult found (λ found. UpdatesFound found mid new r) (λ e. Fails gives e mid new r)
 
 -- the call does so if its disk is clean when it returns
-abbrev pub Ran : {S A E : Type 0} (g : Ghosts S) → (Definition → Held S → Held S → Result A E → Type 0)
+abbrev pub Ran : {S A E : Type 0} (g : Ghosts S)
+    → (Definition → Held S → Held S → Result A E → Type 0)
     → TableStore S → TableStore S → Result A E → Type 0
 Ran g Does old new r = IsClean g new.conn → Does old.table old.conn new.conn r

@@ -54,10 +54,11 @@ OfKey Makes schema key before made = HasThisKey schema key before × Makes befor
 
 -- a change makes an item that has this key
 abbrev pub KeepsKey : {E : Type 0} → (Item → Result Item E → Type 0) → KeySchema → Key → Type 0
-KeepsKey Makes schema key = (before after : Item) × Makes before (Ok after) × HasThisKey schema key after
+KeepsKey Makes schema key = (before after : Item) × Makes before (Ok after)
+    × HasThisKey schema key after
 
 -- An error of a change is the change's own, or is made of one of the table.
-abbrev pub FailsToChange : {E : Type 0} → (StoreError → E → Type 0) → (Item → Result Item E → Type 0)
-    → E → Type 0
+abbrev pub FailsToChange : {E : Type 0} → (StoreError → E → Type 0)
+    → (Item → Result Item E → Type 0) → E → Type 0
 FailsToChange gives Makes e =
     ((before : Item) × Makes before (Err e)) ⊎ ((error : StoreError) × gives error e)

@@ -1,4 +1,5 @@
--- Errors of a table in memory and of SQLite as those of a table in a database, and the printed texts.
+-- Errors of a table in memory and of SQLite as those of a table in a database, and the printed
+-- texts.
 use Rattle.std.specs.Prelude.{ℕ, List, Option, Some, None, codes}
 use Rattle.sqlite.specs.declared.error.Error.{Error}
 use Rattle.sqlite.specs.declared.error.ErrorCode.{ErrorCode}

@@ -1,5 +1,6 @@
 -- That the keys of the items of a page ascend.
-use Rattle.std.specs.Prelude.{◌≡◌, ⊤, Bool, true, List, [], ◌∷◌, Option, Some, None, Result, Ok, Err, MatchBool, MatchResult}
+use Rattle.std.specs.Prelude.{◌≡◌, ⊤, Bool, true, List, [], ◌∷◌, Option, Some, None, Result, Ok}
+use Rattle.std.specs.Prelude.{Err, MatchBool, MatchResult}
 use Rattle.std.specs.Ordering.{is_lt}
 use Rattle.dynamo_value.specs.declared.item.Item.{Item}
 use Rattle.table_keys.specs.KeyOf.{ReadsKey}
@@ -26,9 +27,11 @@ abbrev pub ReadsOwnKey : KeySchema → Item → Result Key StoreError → Type 0
 ReadsOwnKey schema item r =
     (key : Result Key TableError) × ReadsKey schema item key × MatchResult key (λ key. r ≡ Ok key) (λ error. r ≡ Err (of_foreign error))
 
--- The keys of the items are read one after the other. What belongs to them is returned if each comes behind the one before it.
--- It is refused for the first item that has no key, or one that doesn't come behind.
-abbrev pub IfBehind : {A : Type 0} → KeySchema → Option Key → List Item → A → Result A StoreError → Type 0
+-- The keys of the items are read one after the other. What belongs to them is returned if each
+-- comes behind the one before it. It is refused for the first item that has no key, or one that
+-- doesn't come behind.
+abbrev pub IfBehind : {A : Type 0} → KeySchema → Option Key → List Item → A → Result A StoreError
+    → Type 0
 IfBehind schema before [] a r = r ≡ Ok a
 IfBehind schema before (item ∷ items) a r =
     (own : Result Key StoreError) × ReadsOwnKey schema item own × MatchResult own

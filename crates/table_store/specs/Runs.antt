@@ -1,5 +1,7 @@
--- That a statement is run with these parameters, on the connection before a call, and leaves the one after it.
-use Rattle.std.specs.Prelude.{◌≡◌, ◌≢◌, ◌⊎◌, ⊤, ◌<◌, ℕ, ℤ, pos, List, [], ◌∷◌, length, take, Option, Some, None, Result, Ok, Err, MatchResult, if◌then◌else◌}
+-- That a statement is run with these parameters, on the connection before a call, and leaves the
+-- one after it.
+use Rattle.std.specs.Prelude.{◌≡◌, ◌≢◌, ◌⊎◌, ⊤, ◌<◌, ℕ, ℤ, pos, List, [], ◌∷◌, length, take, Option}
+use Rattle.std.specs.Prelude.{Some, None, Result, Ok, Err, MatchResult, if◌then◌else◌}
 use Rattle.std.specs.List.{AllZip}
 use Rattle.std.specs.Ordering.{is_ne}
 use Rattle.std.specs.Result.{result_map_both}
@@ -63,11 +65,13 @@ IfOwn schema key item a r =
     (λ own. r ≡ (if is_ne (key_cmp own key) then Err StoreError.Unreadable else Ok a)) (λ error. r ≡ Err (of_foreign error))
 
 -- what was found under a key, if it is an item of this key
-abbrev pub IsOwn : KeySchema → Key → Result (Option Item) StoreError → Result (Option Item) StoreError → Type 0
+abbrev pub IsOwn : KeySchema → Key → Result (Option Item) StoreError
+    → Result (Option Item) StoreError → Type 0
 IsOwn schema key (Ok (Some item)) r = IfOwn schema key item (Some item) r
 IsOwn schema key found r = r ≡ found
 
--- The number in the first column of the row. It is refused only if there is none, or if memory runs out.
+-- The number in the first column of the row. It is refused only if there is none, or if memory runs
+-- out.
 abbrev pub IsNumberOf : Row → Result ℕ StoreError → Type 0
 IsNumberOf row (Ok n) = column row 0 ≡ Int (pos n)
 IsNumberOf row (Err e) =
@@ -108,13 +112,15 @@ module _ {S : Type 0} (g : Ghosts S) where
 
   -- the row of the item is put, unless memory runs out for its text
   unfoldable pub Puts : ℤ → KeyBytes → Item → Held S → Held S → Result ⊤ StoreError → Type 0
-  Puts id key item old new r = Changes put_text (row_of id key item) old new r ⊎ Stops StoreError.OutOfMemory old new r
+  Puts id key item old new r = Changes put_text (row_of id key item) old new r
+      ⊎ Stops StoreError.OutOfMemory old new r
 
   unfoldable pub Deletes : ℤ → KeyBytes → Held S → Held S → Result ⊤ StoreError → Type 0
   Deletes id key = Changes delete_text (place id key)
 
   -- that item, if it has this key
-  unfoldable pub GetsOwn : Definition → Key → KeyBytes → Held S → Held S → Result (Option Item) StoreError → Type 0
+  unfoldable pub GetsOwn : Definition → Key → KeyBytes → Held S → Held S
+      → Result (Option Item) StoreError → Type 0
   GetsOwn table key bytes old new r =
       (found : Result (Option Item) StoreError) × Gets table.id bytes old new found × IsOwn table.schema key found r
 

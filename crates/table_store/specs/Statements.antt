@@ -10,7 +10,8 @@ use Rattle.table_keys.specs.declared.bytes.KeyBytes.{KeyBytes}
 
 -- the item of a key
 abbrev pub get_text : List ℕ
-get_text = codes "SELECT item FROM dynamo_item WHERE table_id = ?1 AND partition_key = ?2 AND sort_key = ?3"
+get_text = codes
+    "SELECT item FROM dynamo_item WHERE table_id = ?1 AND partition_key = ?2 AND sort_key = ?3"
 
 -- an item is put under its key
 abbrev pub put_text : List ℕ
@@ -19,7 +20,8 @@ put_text =
 
 -- the item of a key is deleted
 abbrev pub delete_text : List ℕ
-delete_text = codes "DELETE FROM dynamo_item WHERE table_id = ?1 AND partition_key = ?2 AND sort_key = ?3"
+delete_text = codes
+    "DELETE FROM dynamo_item WHERE table_id = ?1 AND partition_key = ?2 AND sort_key = ?3"
 
 -- how many items there are
 abbrev pub count_text : List ℕ

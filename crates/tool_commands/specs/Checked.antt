@@ -6,8 +6,9 @@ use Rattle.dynamo_json.specs.Parsed.{parsed}
 use Rattle.tool_commands.specs.Failed.{Failed, not_json, faulty, read_failed}
 use Rattle.tool_commands.specs.JsonText.{json_line}
 
--- What is answered to a JSON value: its own line, where reading it as an attribute value refuses nothing; else a fault that the
--- refusal names. Where there is no JSON value, the reason is handed on.
+-- What is answered to a JSON value: its own line, where reading it as an attribute value refuses
+-- nothing; else a fault that the refusal names. Where there is no JSON value, the reason is handed
+-- on.
 abbrev pub ChecksJson : Result Data Failed → Result (List ℕ) Failed → Type 0
 ChecksJson (Err failed) answer = answer ≡ Err failed
 ChecksJson (Ok json) (Ok text) = (refusal_in (parsed json) ≡ None) × (text ≡ json_line json)

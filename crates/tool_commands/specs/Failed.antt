@@ -4,7 +4,8 @@ use Rattle.dynamo_value.specs.Fault.{Fault, out_of_memory, printed}
 use Rattle.dynamo_value.specs.Kind.{fault_of}
 use Rattle.tool_commands.specs.declared.failure.Failure.{Failure}
 
--- The reader failed, or its end didn't come; what was read is no JSON; it has a fault, which may be out of memory.
+-- The reader failed, or its end didn't come; what was read is no JSON; it has a fault, which may be
+-- out of memory.
 pub data Failed : Type 0 where
   read_failed not_json : Failed
   faulty : Fault → Failed

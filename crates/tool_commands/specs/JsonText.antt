@@ -19,7 +19,8 @@ ReadsJson (Ok bytes) (Err (faulty fault)) = fault ≡ out_of_memory
 ReadsJson (Ok bytes) (Err read_failed) = ⊥
 
 -- what a command answers to what was read, by what it answers to the JSON value
-abbrev pub OfJson : {A : Type 0} → (Result Data Failed → A → Type 0) → Result (List ℕ) Failed → A → Type 0
+abbrev pub OfJson : {A : Type 0} → (Result Data Failed → A → Type 0) → Result (List ℕ) Failed → A
+    → Type 0
 OfJson Step input answer = (json : Result Data Failed) × ReadsJson input json × Step json answer
 
 -- the compact text, without a space, and a line feed

@@ -19,7 +19,8 @@ line_at name (Some a) = line_of name a
 
 -- the three fields of a user, by their names
 abbrev pub user_lines : List ℕ → List ℕ → ℕ → List ℕ
-user_lines id name age = field_line (codes "age") (codes "N") (decimal age) ++ (field_line (codes "id") (codes "S") id ++ field_line (codes "name") (codes "S") name)
+user_lines id name age = field_line (codes "age") (codes "N") (decimal age)
+    ++ (field_line (codes "id") (codes "S") id ++ field_line (codes "name") (codes "S") name)
 
 abbrev pub usage_line : List ℕ
 usage_line = codes "usage: dynamo_tool user ID NAME AGE | check | dynamo | plain" ++ 10 ∷ []

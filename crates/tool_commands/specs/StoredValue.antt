@@ -7,8 +7,8 @@ use Rattle.dynamo_json.specs.Json.{json_of}
 use Rattle.dynamo_json.specs.Parsed.{parsed}
 use Rattle.tool_commands.specs.Failed.{Failed, not_json, faulty, read_failed}
 
--- It is the one that reading gives, and the JSON value is its own; or a fault that the refusal names. Where there is no JSON
--- value, the reason is handed on.
+-- It is the one that reading gives, and the JSON value is its own; or a fault that the refusal
+-- names. Where there is no JSON value, the reason is handed on.
 abbrev pub Stands : Result Data Failed → Result Av Failed → Type 0
 Stands (Err failed) answer = answer ≡ Err failed
 Stands (Ok json) (Ok a) = (parsed json ≡ Ok a) × (json ≡ json_of a)

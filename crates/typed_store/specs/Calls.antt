@@ -1,5 +1,7 @@
--- What each call on a table of values runs: a call on the table of the items, and what is made of what that returns.
-use Rattle.std.specs.Prelude.{◌≡◌, ◌⊎◌, ◌++◌, ⊤, ℕ, Bool, List, ◌∷◌, Option, Result, Ok, Err, MatchResult, is_some}
+-- What each call on a table of values runs: a call on the table of the items, and what is made of
+-- what that returns.
+use Rattle.std.specs.Prelude.{◌≡◌, ◌⊎◌, ◌++◌, ⊤, ℕ, Bool, List, ◌∷◌, Option, Result, Ok, Err}
+use Rattle.std.specs.Prelude.{MatchResult, is_some}
 use Rattle.std.specs.Borrow.{Bor}
 use Rattle.std.specs.List.{AllZip}
 use Rattle.sqlite.specs.Held.{Held}
@@ -34,8 +36,8 @@ ReadsFound {T} Reads found r =
     (read : Result (Option T) Error) × ReadsAt Reads found read
     × MatchResult read (λ value. r ≡ Ok value) (λ e. r ≡ Err (TypedStoreError.Value e))
 
--- The values that the items read as, each in its place. Reading fails by the first item that doesn't
--- read, or where memory runs out for the values.
+-- The values that the items read as, each in its place. Reading fails by the first item that
+-- doesn't read, or where memory runs out for the values.
 abbrev pub ReadsEach : {T : Type 0} → (Item → Result T Fault → Type 0) → List Item
     → Result (List T) TypedStoreError → Type 0
 ReadsEach Reads items (Ok values) = AllZip (ReadsAs Reads) items values
@@ -52,7 +54,8 @@ module _ {S : Type 0} where
       (done : Result A StoreError) × Does table old new done
       × MatchResult done (λ a. Of a r) (λ e. r ≡ Err (TypedStoreError.Store e))
 
-  -- The call runs for the item that the value is written as. If writing it has an error, nothing runs.
+  -- The call runs for the item that the value is written as. If writing it has an error, nothing
+  -- runs.
   abbrev pub WithItem : {T A : Type 0} → (T → Item → Type 0) → (T → Fault → Type 0) → T
       → (Item → Call S A TypedStoreError) → Call S A TypedStoreError
   WithItem Written Unwritten value Does table old new r =
@@ -60,8 +63,10 @@ module _ {S : Type 0} where
       ⊎ ((e : Error) × IsUnwritten Unwritten value e × (r ≡ Err (TypedStoreError.Value e)) × (new ≡ old))
 
   -- after an error of reading the items are got once more
-  abbrev pub GotAgain : {B : Type 0} → Call S B StoreError → TypedStoreError → Definition → Held S → Held S → Type 0
-  GotAgain {B} Gets (TypedStoreError.Value e) table old new = (found : Result B StoreError) × Gets table old new found
+  abbrev pub GotAgain : {B : Type 0} → Call S B StoreError → TypedStoreError → Definition → Held S
+      → Held S → Type 0
+  GotAgain {B} Gets (TypedStoreError.Value e) table old new = (found : Result B StoreError)
+      × Gets table old new found
   GotAgain Gets (TypedStoreError.Store e) table old new = new ≡ old
 
   -- as the call that doesn't say where an error was found
@@ -104,7 +109,8 @@ module _ {S : Type 0} (g : Ghosts S) where
       WithItem Written Unwritten value
       (λ item. Made (items.KeyOf g (items.PutsIf g Condition.Always item)) (Gives (λ key. key)))
 
-  module _ {T E : Type 0} (Written : T → Item → Type 0) (Unwritten : T → Fault → Type 0) (Reads : Item → Result T Fault → Type 0)
+  module _ {T E : Type 0} (Written : T → Item → Type 0) (Unwritten : T → Fault → Type 0)
+      (Reads : Item → Result T Fault → Type 0)
       (Change : T → Result T E → Type 0) (gives : TypedStoreError → E → Type 0) where
     -- the item of what the change makes of the value that an item reads as, or the error
     abbrev pub ChangesItem : Item → Result Item E → Type 0

@@ -15,7 +15,8 @@ abbrev pub StoreFails : (StoreError → Type 0) → TypedStoreError → Type 0
 StoreFails Fails e = (cause : StoreError) × (e ≡ TypedStoreError.Store cause) × Fails cause
 
 -- the query of the items failed, or reading one of the items found
-abbrev pub QueryFails : {T : Type 0} → (Item → Result T Fault → Type 0) → KeySchema → Query → TypedStoreError → Type 0
+abbrev pub QueryFails : {T : Type 0} → (Item → Result T Fault → Type 0) → KeySchema → Query
+    → TypedStoreError → Type 0
 QueryFails Reads schema query e =
     StoreFails (items.QueryFails schema) e
     ⊎ ((found : List Item) × All (IsFound schema query) found × ReadsEach Reads found (Err e))

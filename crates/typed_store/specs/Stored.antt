@@ -2,7 +2,8 @@
 --
 -- `Written`, `Unwritten` and `Reads` are what the type says of itself: which items a value may be
 -- written as, which faults that may have, and what an item may read as.
-use Rattle.std.specs.Prelude.{◌≡◌, ◌⊎◌, ◌≤◌, ⊤, false, ℕ, List, Option, Result, Ok, Err, All, length, option_map, MatchResult}
+use Rattle.std.specs.Prelude.{◌≡◌, ◌⊎◌, ◌≤◌, ⊤, false, ℕ, List, Option, Result, Ok, Err, All}
+use Rattle.std.specs.Prelude.{length, option_map, MatchResult}
 use Rattle.std.specs.Borrow.{Bor}
 use Rattle.std.specs.List.{AllZip}
 use Rattle.std.specs.Ordering.{is_ne}
@@ -43,7 +44,8 @@ abbrev pub WasRead : {T : Type 0} → (Item → Result T Fault → Type 0) → T
 WasRead Reads value = (item : Item) × ReadsAs Reads item value
 
 -- the value is what an item of this key reads as
-abbrev pub WasReadAt : {T : Type 0} → (Item → Result T Fault → Type 0) → KeySchema → Key → T → Type 0
+abbrev pub WasReadAt : {T : Type 0} → (Item → Result T Fault → Type 0) → KeySchema → Key → T
+    → Type 0
 WasReadAt Reads schema key value =
     (item : Item) × store.HasThisKey schema key item × ReadsAs Reads item value
 
@@ -58,10 +60,10 @@ WereFound Reads schema query values =
     (items : List Item) × All (IsFound schema query) items × (length items ≤ query.limit)
     × AllZip (ReadsAs Reads) items values
 
--- each value is what an item reads as whose key comes behind that of the one before it, the first behind the start,
--- and they are no more than the limit
-abbrev pub WereScanned : {T : Type 0} → (Item → Result T Fault → Type 0) → KeySchema → ℕ → Option Key
-    → List T → Type 0
+-- each value is what an item reads as whose key comes behind that of the one before it, the first
+-- behind the start, and they are no more than the limit
+abbrev pub WereScanned : {T : Type 0} → (Item → Result T Fault → Type 0) → KeySchema → ℕ
+    → Option Key → List T → Type 0
 WereScanned Reads schema limit before values =
     (items : List Item) × AreBehind schema before items × (length items ≤ limit)
     × AllZip (ReadsAs Reads) items values
@@ -86,15 +88,17 @@ RefusesKeyless Written schema value r =
     × (key : Result Key TableError) × ReadsKey schema item key
     × MatchResult key (λ _. ⊤) (λ error. r ≡ Err (of_key error))
 
--- A value that isn't written as an item is refused by that fault, and one whose item has no key of the
--- table by the first error of its key.
+-- A value that isn't written as an item is refused by that fault, and one whose item has no key of
+-- the table by the first error of its key.
 abbrev pub NeedsKey : {T A : Type 0} → (T → Item → Type 0) → (T → Fault → Type 0) → KeySchema → T
     → Result A TypedStoreError → Type 0
-NeedsKey Written Unwritten schema value (Err (TypedStoreError.Value e)) = IsUnwritten Unwritten value e
+NeedsKey Written Unwritten schema value (Err (TypedStoreError.Value e)) = IsUnwritten Unwritten
+    value e
 NeedsKey Written Unwritten schema value r = RefusesKeyless Written schema value r
 
 -- the key that words say, or the error of the first
-abbrev pub SaysKeyOf : KeySchema → List ℕ → Option (Bor (List ℕ)) → Result Key TypedStoreError → Type 0
+abbrev pub SaysKeyOf : KeySchema → List ℕ → Option (Bor (List ℕ)) → Result Key TypedStoreError
+    → Type 0
 SaysKeyOf schema partition sort r =
     (key : Result Key TableError) × SaysKey schema partition (option_map (λ w. w.now) sort) key
     × MatchResult key (λ k. r ≡ Ok k) (λ error. r ≡ Err (of_key error))
@@ -106,10 +110,10 @@ KeepsKey {T} Written Reads Makes schema key =
     (before after : T) × WasRead Reads before × Makes before (Ok after)
     × (own : Key) × IsKeyOf Written schema after own × (is_ne (key_cmp own key) ≡ false)
 
--- why an update fails: the change of a value that was read failed with an error of its own, or the error
--- is what the caller's type makes of one of the table's
-abbrev pub FailsToChange : {T E : Type 0} → (Item → Result T Fault → Type 0) → (T → Result T E → Type 0)
-    → (TypedStoreError → E → Type 0) → E → Type 0
+-- why an update fails: the change of a value that was read failed with an error of its own, or the
+-- error is what the caller's type makes of one of the table's
+abbrev pub FailsToChange : {T E : Type 0} → (Item → Result T Fault → Type 0)
+    → (T → Result T E → Type 0) → (TypedStoreError → E → Type 0) → E → Type 0
 FailsToChange {T} Reads Makes Gives e =
     ((before : T) × WasRead Reads before × Makes before (Err e))
     ⊎ ((error : TypedStoreError) × Gives error e)

@@ -51,8 +51,8 @@ ReadsAt Reads (Some item) (Err e) = IsUnread Reads item e
 abbrev pub IsUnwritten : {T : Type 0} → (T → Fault → Type 0) → T → Error → Type 0
 IsUnwritten Unwritten value e = Unwritten value (fault_of e) ⊎ (fault_of e ≡ out_of_memory)
 
--- Why a value isn't put: writing it as an item has this error, its item has this error in place of a
--- key, or memory is wanting.
+-- Why a value isn't put: writing it as an item has this error, its item has this error in place of
+-- a key, or memory is wanting.
 abbrev pub FailsToPut : {T : Type 0} → (T → Item → Type 0) → (T → Fault → Type 0) → KeySchema → T
     → TypedTableError → Type 0
 FailsToPut Written Unwritten schema value (TypedTableError.Value e) = IsUnwritten Unwritten value e

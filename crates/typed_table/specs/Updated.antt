@@ -1,7 +1,7 @@
 -- What an update of a value does, and why it fails.
 --
--- `Makes` is what the function that changes the value may return, and `Gives` what its type of errors
--- makes of an error of the table.
+-- `Makes` is what the function that changes the value may return, and `Gives` what its type of
+-- errors makes of an error of the table.
 use Rattle.std.specs.Prelude.{◌≡◌, ◌≢◌, ◌⊎◌, Option, Some, None, Result, Ok, Err}
 use Rattle.std.specs.BTreeMap.{get}
 use Rattle.std.specs.declared.cmp.Ordering.TheVariants.{Equal}
@@ -33,7 +33,8 @@ PassesOn Gives Fails e = (error : TypedTableError) × Fails error × Gives error
 abbrev pub FailsToFind : {T : Type 0} → (Item → Result T Fault → Type 0) → Option Item
     → TypedTableError → Type 0
 FailsToFind Reads None e = e ≡ TypedTableError.Table TableError.NoItem
-FailsToFind Reads (Some item) e = (x : Error) × (e ≡ TypedTableError.Value x) × IsUnread Reads item x
+FailsToFind Reads (Some item) e = (x : Error) × (e ≡ TypedTableError.Value x)
+    × IsUnread Reads item x
 
 -- why the changed value isn't put under the key: it can't be put at all, or its own key is another
 abbrev pub FailsToReplace : {T : Type 0} → (T → Item → Type 0) → (T → Fault → Type 0) → Key
@@ -43,8 +44,8 @@ FailsToReplace Written Unwritten key schema value e =
     ⊎ ((e ≡ TypedTableError.Table TableError.KeyChanged)
     × (own : Key) × IsKeyOf Written schema value own × (key_cmp own key ≢ Equal))
 
--- Why an update fails where this is under the key: there is no value to change, the change of the one that was read
--- failed with an error of its own, or the changed value isn't put under the key.
+-- Why an update fails where this is under the key: there is no value to change, the change of the
+-- one that was read failed with an error of its own, or the changed value isn't put under the key.
 abbrev pub FailsAt : {T E : Type 0} → (T → Item → Type 0) → (T → Fault → Type 0)
     → (Item → Result T Fault → Type 0) → (T → Result T E → Type 0) → (TypedTableError → E → Type 0)
     → Key → KeySchema → Option Item → E → Type 0

@@ -9,4 +9,5 @@ use Rattle.dynamo_shape.specs.Shape.{Shape}
 
 -- the item is the one that the value is written as, and what the value tells is of the type's shape
 abbrev pub IsItemOf : {T : Type 0} → Shape → (T → Datum) → T → Item → Type 0
-IsItemOf shape tells value item = conforms shape (tells value) × (item_written (tells value) ≡ Ok (item_view item))
+IsItemOf shape tells value item = conforms shape (tells value)
+    × (item_written (tells value) ≡ Ok (item_view item))
