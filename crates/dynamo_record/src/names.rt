@@ -1,6 +1,11 @@
-ghost use Rattle.std.specs.Prelude.{◌≡◌, map};
+ghost use Rattle.std.specs.Prelude.{◌≡◌, map, MatchResult};
+ghost use Rattle.dynamo_value.specs.Fault.{out_of_memory};
+ghost use Rattle.dynamo_de.specs.Source.{Text, key_text};
 ghost use Rattle.dynamo_shape.specs.NameRules.{own_name};
 ghost use Rattle.dynamo_record.specs.Names.{first_name, other_names, place_of};
+
+use dynamo_de::{Reader, identifier_of};
+use std::alloc::Global;
 
 /// The first of some names and the others. Without names it is empty.
 pub(crate) fn first_of(names: &'static [&'static str]) -> (&'static str, &'static [&'static str])
@@ -23,6 +28,24 @@ pub(crate) fn place_of(names: &'static [&'static str], key: &str) -> usize
         }
     }
     names.len()
+}
+
+/// The index of a key among some names, or their number if it isn't one of them. A key that the
+/// reader lends is compared where it lies.
+pub(crate) fn place_of_key<D: Reader>(
+    names: &'static [&'static str],
+    key: D,
+    alloc: Global,
+) -> Result<usize, D::Error>
+    ensures { (name : Text) → D.source key ≡ key_text name → MatchResult result
+        (λ place. place ≡ place_of 0 (map (λ n. n.now) names.now) name)
+        (λ e. D.Error.fault e ≡ out_of_memory) }
+{
+    if let Some(name) = key.text() {
+        return Ok(place_of(names, name));
+    }
+    let name = identifier_of(alloc, key, "field identifier")?;
+    Ok(place_of(names, name.as_str()))
 }
 
 /// The own name of the field with this other name, or the name itself.

@@ -15,11 +15,9 @@ ghost use Rattle.dynamo_record.specs.Records.{AboutRecord, listed, record_fields
 ghost use Rattle.dynamo_record.specs.Records.{FromParts, AreNamed, AsLong, place_in};
 
 use crate::content::too_few;
-use crate::names::place_of;
+use crate::names::place_of_key;
 use crate::{FieldList, RefList};
-use dynamo_de::{
-    Deserialize, Deserializer, IgnoredAny, Reader, Request, Showing, entries_of, identifier_of,
-};
+use dynamo_de::{Deserialize, Deserializer, IgnoredAny, Reader, Request, Showing, entries_of};
 use dynamo_ser::{SerializeStruct, Serializer};
 use std::alloc::Global;
 
@@ -181,9 +179,7 @@ where
         (Enters (λ x os. R.Fields.holds x os []) (record_fields (listed R.about R.Fields.about)) os
         slots.new e) result }
 {
-    let name = identifier_of(alloc, key, "field identifier")?;
-    let names = R::names();
-    let place = place_of(names, name.as_str());
+    let place = place_of_key(R::names(), key, alloc)?;
     read_place::<R, D>(slots, place, value, alloc)
 }
 
