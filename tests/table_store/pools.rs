@@ -224,6 +224,39 @@ impl Value {
         }
     }
 
+    // The bytes of a string or a byte string.
+    fn bytes(self) -> Option<&'static [u8]> {
+        match self {
+            Value::S(text) => Some(text.as_bytes()),
+            Value::N(_) => None,
+            Value::B(bytes) => Some(bytes),
+        }
+    }
+
+    /// Whether this is another string or byte string with a zero byte behind it.
+    pub fn comes_next_to(self, other: Value) -> bool {
+        let (Some(bytes), Some(other)) = (self.bytes(), other.bytes()) else {
+            return false;
+        };
+        match bytes.split_last() {
+            Some((last, start)) => *last == 0 && compare_bytes(start, other).is_eq(),
+            None => false,
+        }
+    }
+
+    /// Whether this is the least string or byte string above all that begin with a prefix, whose last byte is below 127.
+    pub fn comes_next_to_all_with(self, prefix: Value) -> bool {
+        let (Some(bytes), Some(prefix)) = (self.bytes(), prefix.bytes()) else {
+            return false;
+        };
+        match (bytes.split_last(), prefix.split_last()) {
+            (Some((last, start)), Some((before, other))) => {
+                *last > 0 && *last - 1 == *before && compare_bytes(start, other).is_eq()
+            }
+            _ => false,
+        }
+    }
+
     /// The value of an attribute.
     pub fn attribute(self, alloc: Global) -> Result<AttributeValue, AllocError> {
         Ok(match self {

@@ -2,12 +2,13 @@
 //!
 //! What is counted are the answers of the store below: the entries that its cursors give, of the index in which the keys lie,
 //! and the rows that it gets by their numbers, one for each entry whose item is looked at. A query reads the rows that it
-//! answers. It reads one more where a key of the table lies at an end that the query leaves out, which is the bound of `<`, or
-//! the key after which a query starts backward, since the database looks at that row and leaves it out. And its cursor gives
-//! one more entry at most, that behind the end.
+//! answers. It reads one more where a key of the table lies at the end that its range leaves out, since the database looks at
+//! that row and leaves it out: backward that row comes first, and forward last, unless the limit is reached before. The end is
+//! the bound of `<`, the least value above those of another condition, or the key after which a query starts backward. And its
+//! cursor gives one more entry at most, that behind the end.
 use crate::calls::{Shape, Sign};
 use crate::counting::{Counted, Reads};
-use crate::pools::{COUNT, pooled};
+use crate::pools::{COUNT, Value, pooled};
 use crate::queries::{are_at, found, item, start_of};
 use crate::question::{Pair, Question};
 use dynamo_value::Item;
@@ -116,15 +117,14 @@ impl Watched {
 
     // Whether a key of the table lies at an end that the query leaves out.
     fn is_left_out(&self, asked: &Question) -> bool {
-        let bound = Pair {
-            partition: asked.partition,
-            sort: Some(asked.low),
-        };
-        let is_bound = matches!(asked.sign, Sign::Less) && self.has(bound);
+        let is_end = self.keys.iter().any(|key| {
+            key.partition.compare(asked.partition).is_eq()
+                && key.sort.is_some_and(|sort| is_end(asked, sort))
+        });
         let is_start = asked.start.is_some_and(|start| {
             start.partition.compare(asked.partition).is_eq() && self.has(start)
         });
-        is_bound || (asked.backward && is_start)
+        is_end || (asked.backward && is_start)
     }
 
     // Asks a query: what came of it, or `None` where it answers other items than the filter.
@@ -144,15 +144,31 @@ impl Watched {
     }
 }
 
+// Whether a value is the first behind those that meet what is asked of the sort key. Where all greater ones meet it, none is.
+fn is_end(asked: &Question, sort: Value) -> bool {
+    match asked.sign {
+        Sign::Any | Sign::Greater | Sign::GreaterOrEqual => false,
+        Sign::Less => sort.compare(asked.low).is_eq(),
+        Sign::Equal | Sign::LessOrEqual => sort.comes_next_to(asked.low),
+        Sign::Between => sort.comes_next_to(asked.high),
+        Sign::BeginsWith => sort.comes_next_to_all_with(asked.low),
+    }
+}
+
 impl Outcome {
-    // Whether no more was read than may be.
-    fn is_due(self, is_left_out: bool) -> bool {
+    // Whether as much was read as has to be. Where a query has a start, the end of its range may be another one than the key
+    // that it leaves out, or there may be no range.
+    fn is_due(self, asked: &Question, is_left_out: bool) -> bool {
         let Reads { entries, rows } = self.reads;
-        let most = self.answered.saturating_add(u64::from(is_left_out));
-        rows >= self.answered
-            && rows <= most
-            && entries >= rows
-            && entries <= rows.saturating_add(1)
+        let is_full = self.answered == asked.limit as u64;
+        let more = u64::from(is_left_out && (asked.backward || !is_full));
+        let most = self.answered.saturating_add(more);
+        let least = if asked.start.is_none() {
+            most
+        } else {
+            self.answered
+        };
+        rows >= least && rows <= most && entries >= rows && entries <= rows.saturating_add(1)
     }
 }
 
@@ -167,13 +183,14 @@ fn starts(shape: Shape) -> [Option<Pair>; 5] {
     ]
 }
 
-// The places of the bounds: first the lower one has an item, and then it has none. No key of the table is a bound with a zero
-// byte behind it, or comes next to all that begin with the lower bound.
-fn bounds(kind: KeyKind) -> [(usize, usize); 2] {
+// The places of the bounds: first the lower one has an item, and then it has none. No key of the table is one of these bounds
+// with a zero byte behind it, or comes next to all that begin with the lower one. Of the last pair there are all such keys, but
+// none of numbers.
+fn bounds(kind: KeyKind) -> [(usize, usize); 3] {
     match kind {
-        KeyKind::S => [(11, 30), (16, 30)],
-        KeyKind::N => [(14, 30), (16, 30)],
-        KeyKind::B => [(35, 38), (16, 38)],
+        KeyKind::S => [(11, 30), (16, 30), (12, 26)],
+        KeyKind::N => [(14, 30), (16, 30), (25, 33)],
+        KeyKind::B => [(35, 38), (16, 38), (0, 4)],
     }
 }
 
@@ -222,7 +239,7 @@ fn run(rt: &HostRuntime, shape: Shape, kind: KeyKind) -> Result<u32, StoreError>
     for asked in questions(alloc, shape, kind)?.iter() {
         let is_left_out = watched.is_left_out(asked);
         let outcome = watched.ask(alloc, asked)?;
-        if outcome.is_some_and(|it| it.is_due(is_left_out)) {
+        if outcome.is_some_and(|it| it.is_due(asked, is_left_out)) {
             count = count.saturating_add(1);
         } else {
             let _ = println!(rt; "{shape:?} {asked:?}: {outcome:?}");
@@ -251,7 +268,7 @@ fn run_all(rt: &HostRuntime) -> Result<u32, StoreError> {
 pub fn print_reads(rt: &HostRuntime) -> io::Result<()> {
     match run_all(rt) {
         Ok(count) => println!(rt;
-            "{count} queries in a database: they read the rows that they answer"
+            "{count} queries in a database: they read the rows that they answer, and one at the end that they leave out"
         ),
         Err(error) => println!(rt; "{error}"),
     }

@@ -1,25 +1,35 @@
-//! Tables in a database in memory.
+//! Tables in both kinds of databases in memory: one of pages, and one that keeps its rows in one list.
 use crate::booking::{Booking, State};
 use crate::guest::Guest;
 use crate::texts::{bookings, guests, passes};
-use sqlite::{Connection, MemStore};
+use sqlite::{Alter, Connection, MemStore};
 use std::alloc::Global;
 use std::process::Abort;
 use std::test::Fail;
 use table_keys::{Condition, Query, TableError};
 use table_store::StoreError;
 use typed_store::{TypedStore, TypedStoreError};
+use typed_table::{AsItem, Keyed};
+
+// A table in a database that keeps its rows in one list.
+fn listed<T: AsItem + Keyed>(alloc: Global) -> anyhow::Result<TypedStore<T, MemStore>> {
+    let conn = Connection::open_in_memory(alloc)?;
+    Ok(TypedStore::create(alloc, conn, "values")?)
+}
 
 // What a service does with its guests. It has no error type of its own.
-fn serve(rt: &impl Abort, alloc: Global) -> anyhow::Result<()> {
-    let conn = Connection::open_in_memory(alloc)?;
-    let mut table: TypedStore<Guest, MemStore> = TypedStore::create(alloc, conn, "guests")?;
+fn serve<S: Alter + Drop>(
+    rt: &impl Abort,
+    alloc: Global,
+    mut table: TypedStore<Guest, S>,
+) -> anyhow::Result<()> {
     assert!(rt; table.is_empty()?);
     let arthur = Guest::new(alloc, "a1", "Arthur", 1)?;
     let (key, there) = table.put_if(Condition::NotExists, &arthur)?;
     assert!(rt; !there && key == table.key_of(&arthur)?);
     assert!(rt; key == table.key_from("a1", None)?);
     assert!(rt; matches!(table.put_if(Condition::Exists, &arthur)?, (_, true)));
+    table.put(&Guest::new(alloc, "a2", "Fort", 6)?)?;
     table.put(&Guest::new(alloc, "a2", "Ford", 7)?)?;
     table.update(&key, |mut guest| {
         guest.visits += 1;
@@ -39,16 +49,27 @@ fn serve(rt: &impl Abort, alloc: Global) -> anyhow::Result<()> {
     Ok(())
 }
 
+fn serve_in_both(rt: &impl Abort, alloc: Global) -> anyhow::Result<()> {
+    serve(
+        rt,
+        alloc,
+        TypedStore::create_in_memory_file(alloc, "guests")?,
+    )?;
+    serve(rt, alloc, listed(alloc)?)
+}
+
 #[test]
 fn a_service_of_guests(rt: HostRuntime) -> Result<(), Fail> {
-    passes(&rt, serve(&rt, rt.alloc()));
+    passes(&rt, serve_in_both(&rt, rt.alloc()));
     Ok(())
 }
 
 // What a service does with its bookings, which derive serde's traits.
-fn book(rt: &impl Abort, alloc: Global) -> anyhow::Result<()> {
-    let conn = Connection::open_in_memory(alloc)?;
-    let mut table: TypedStore<Booking, MemStore> = TypedStore::create(alloc, conn, "bookings")?;
+fn book<S: Alter + Drop>(
+    rt: &impl Abort,
+    alloc: Global,
+    mut table: TypedStore<Booking, S>,
+) -> anyhow::Result<()> {
     let mut booking = Booking::new(alloc, "blue", 10, "Arthur")?;
     booking.note = Some(String::from_str(alloc, "late")?);
     let key = table.put(&booking)?;
@@ -79,9 +100,61 @@ fn book(rt: &impl Abort, alloc: Global) -> anyhow::Result<()> {
     Ok(())
 }
 
+fn book_in_both(rt: &impl Abort, alloc: Global) -> anyhow::Result<()> {
+    book(
+        rt,
+        alloc,
+        TypedStore::create_in_memory_file(alloc, "bookings")?,
+    )?;
+    book(rt, alloc, listed(alloc)?)
+}
+
 #[test]
 fn a_service_of_bookings(rt: HostRuntime) -> Result<(), Fail> {
-    passes(&rt, book(&rt, rt.alloc()));
+    passes(&rt, book_in_both(&rt, rt.alloc()));
+    Ok(())
+}
+
+const NIGHTS: u32 = 120;
+
+// Bookings of more nights than the log has pages. Each is put, replaced by another guest's, and paid. Every fourth is deleted.
+fn book_many(rt: &impl Abort, alloc: Global) -> anyhow::Result<()> {
+    let mut table = TypedStore::create_in_memory_file(alloc, "bookings")?;
+    for guest in ["Ford", "Arthur"] {
+        for night in 0..NIGHTS {
+            table.put(&Booking::new(alloc, "blue", night, guest)?)?;
+        }
+    }
+    assert_eq!(rt; table.len()?, u64::from(NIGHTS));
+    for night in 0..NIGHTS {
+        let key = table.key_of(&Booking::new(alloc, "blue", night, "Arthur")?)?;
+        table.update::<anyhow::Error, _>(&key, move |mut booking| {
+            booking.state = State::Paid {
+                cents: u64::from(night),
+            };
+            Ok(booking)
+        })?;
+        if night % 4 == 3 {
+            assert!(rt; table.delete(&key)?);
+        }
+    }
+    let key = table.key_from("blue", Some("99"))?;
+    let mut query = Query::of(&key.partition);
+    query.backward = true;
+    query.limit = 3;
+    query.start_after = Some(&key);
+    let found = table.query(&query)?;
+    assert_eq!(rt;
+        bookings(alloc, &found)?.as_str(),
+        "blue 98 Arthur 98,blue 97 Arthur 97,blue 96 Arthur 96,"
+    );
+    assert_eq!(rt; table.scan_all()?.len(), 90);
+    Ok(())
+}
+
+#[test]
+fn many_bookings(rt: HostRuntime) -> Result<(), Fail> {
+    passes(&rt, book_many(&rt, rt.alloc()));
     Ok(())
 }
 
@@ -95,8 +168,7 @@ fn refused(done: &Result<(), TypedStoreError>) -> Option<TableError> {
 
 // The errors of an update, in their order.
 fn fail(rt: &impl Abort, alloc: Global) -> anyhow::Result<()> {
-    let conn = Connection::open_in_memory(alloc)?;
-    let mut table: TypedStore<Guest, MemStore> = TypedStore::create(alloc, conn, "guests")?;
+    let mut table: TypedStore<Guest, MemStore> = listed(alloc)?;
     let key = table.key_from("a1", None)?;
     assert!(rt; table.key_from("a1", Some("2")).is_err());
     let none = table.update(&key, |guest| Ok(guest));

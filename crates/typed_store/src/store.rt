@@ -22,11 +22,12 @@ use crate::change::{Failed, changed};
 use crate::located::place_among;
 use dynamo_place::{LocatedError, Place};
 use dynamo_value::{Error, Item};
-use sqlite::{Alter, Connection};
+use sqlite::{Alter, Connection, FileStore};
+use sqlite_disk::Memory;
 use std::alloc::Global;
 use std::marker::PhantomData;
 use table_keys::{Condition, Key, Query};
-use table_store::TableStore;
+use table_store::{TableStore, create_in_memory_file};
 use typed_table::{AsItem, Keyed, place_of_error};
 
 /// A table in a SQLite database of values of one type, each an item under its key.
@@ -39,7 +40,6 @@ use typed_table::{AsItem, Keyed, place_of_error};
 /// # use std::alloc::{AllocError, Global};
 /// # use table_keys::{KeyAttribute, KeyKind, KeySchema};
 /// # use typed_table::{AsItem, Keyed};
-/// use sqlite::Connection;
 /// use typed_store::TypedStore;
 ///
 /// #[derive(Drop, Serialize, Deserialize)]
@@ -65,7 +65,7 @@ use typed_table::{AsItem, Keyed, place_of_error};
 /// #     }
 /// # }
 /// #
-/// let mut rooms = TypedStore::create(alloc, Connection::open_in_memory(alloc)?, "rooms")?;
+/// let mut rooms = TypedStore::create_in_memory_file(alloc, "rooms")?;
 /// let key = rooms.put(&Room { number: 101, beds: 2 })?;
 /// rooms.update::<anyhow::Error, _>(&key, |mut room| {
 ///     room.beds = 3;
@@ -81,9 +81,50 @@ pub struct TypedStore<T, S: Alter + Drop> {
     values: PhantomData<T>,
 }
 
+impl<T: AsItem + Keyed> TypedStore<T, FileStore<Memory>> {
+    /// Returns an empty table in a database in memory, whose key is that of the type. The values
+    /// that it returns are allocated in `alloc`.
+    ///
+    /// The database is that of [`table_store::create_in_memory_file`]: a put, an update or a delete
+    /// visits as many rows as the logarithm of the number of values, and copies the log.
+    ///
+    /// # Errors
+    ///
+    /// Returns [`TypedStoreError::Store`] with the error of [`table_store::create_in_memory_file`].
+    ///
+    /// # Examples
+    ///
+    /// ```rust
+    /// # use user_types::station::Station;
+    /// use sqlite::FileStore;
+    /// use sqlite_disk::Memory;
+    /// use typed_store::TypedStore;
+    ///
+    /// type Stations = TypedStore<Station, FileStore<Memory>>;
+    ///
+    /// let mut stations: Stations = TypedStore::create_in_memory_file(alloc, "stations")?;
+    /// assert!(rt; stations.is_empty()?);
+    /// ```
+    pub fn create_in_memory_file(alloc: Global, name: &str) -> Result<Self, TypedStoreError>
+        ensures key { IfOk result (λ store. T.keyed_by (words_of (schema_of store))) }
+        ensures errors { IfErr result (StoreFails CreateFails) }
+    {
+        let schema = T::key_schema(alloc)?;
+        Ok(TypedStore {
+            alloc,
+            store: create_in_memory_file(alloc, name, schema)?,
+            values: PhantomData,
+        })
+    }
+}
+
 impl<T: AsItem + Keyed, S: Alter + Drop> TypedStore<T, S> {
     /// Returns the table with this name in a database, whose key is that of the type. It is created
     /// if there is none. The values that it returns are allocated in `alloc`.
+    ///
+    /// A database of [`Connection::open_in_memory`] keeps its rows in one list: a put that replaces
+    /// a value, an update and a delete visit all of them. Prefer
+    /// [`create_in_memory_file`](TypedStore::create_in_memory_file).
     ///
     /// # Errors
     ///

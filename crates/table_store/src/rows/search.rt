@@ -33,8 +33,9 @@ const FOLLOWING: &str = "SELECT item FROM dynamo_item WHERE table_id = ?1 AND pa
 ///
 /// They are read from the rows under the bytes of its partition key and within bounds of the sort
 /// key. [`Bounds::of_query`] returns bounds that hold the rows that the query finds and no others.
-/// So one statement reads these rows, and one row more if a key of the table is at an end that the
-/// query excludes: the bound of `<`, or the key after which a backward query starts.
+/// So one statement reads these rows, and at most one row more: that of the key which is the high
+/// bound, and isn't found, if the table has it. A backward query reads it first, and a forward one
+/// last, unless it reaches its limit before.
 ///
 /// # Errors
 ///
