@@ -1,4 +1,4 @@
-//! Values as texts, and what a test makes of an error.
+//! Values as texts, what a test makes of an error, and whether a text is the one that is wanted.
 use crate::booking::{Booking, State};
 use crate::guest::Guest;
 use std::alloc::{AllocError, Global};
@@ -40,5 +40,13 @@ pub fn bookings(alloc: Global, bookings: &Vec<Booking>) -> Result<String, AllocE
 pub fn passes(rt: &impl Abort, done: anyhow::Result<()>) {
     if let Err(error) = done {
         assert!(rt; false, "{error}");
+    }
+}
+
+/// Whether this is what is wanted, of which a `..` at the end stands for any text.
+pub fn fits(said: &str, wanted: &str) -> bool {
+    match wanted.strip_suffix("..") {
+        Some(start) => said.starts_with(start),
+        None => said == wanted,
     }
 }

@@ -1,6 +1,7 @@
 //! Items of derived types, each with one part that is turned into something else: the place that an error says is the place
 //! that was turned.
-use super::turning::{Done, Turned, Turning, first_wrong, none_wrong, order, page, told_place};
+use super::turned_texts::{order, page_of_orders};
+use super::turning::{Done, Told, Turned, Turning, first_wrong, none_wrong, told_place};
 use dynamo_serde::{from_item_located, from_items_located, read_item_located};
 use dynamo_value::Items;
 use serde::{Deserialize, DeserializeOwned};
@@ -25,6 +26,7 @@ struct Home {
 #[derive(Drop, Deserialize)]
 struct Page {
     items: Vec<Order>,
+    next: Option<String>,
 }
 
 #[derive(Drop, Deserialize)]
@@ -96,7 +98,7 @@ fn lots(it: &mut Turning, at: &str) -> Done {
         let turned = [r#""300""#, r#""-1""#, r#""x""#][it.draw.below(3)];
         it.push(if number == 0 { "" } else { "," })?;
         let text = format!(in it.alloc; "\"{number}\"")?;
-        it.part(place.as_str(), text.as_str(), turned)?;
+        it.in_set(place.as_str(), text.as_str(), turned)?;
     }
     it.push("]}")
 }
@@ -107,12 +109,9 @@ fn shelves(it: &mut Turning, at: &str) -> Done {
     for number in 0..it.draw.below(4) {
         let name = format!(in it.alloc; "{number}")?;
         let turned = ["256", "x"][it.draw.below(2)];
-        let comma = if number == 0 { "" } else { "," };
-        let key = format!(in it.alloc; "{comma}\"{name}\":")?;
-        let turned_key = format!(in it.alloc; "{comma}\"{turned}\":")?;
-        let turned_place = it.inside(at, turned)?;
         let place = it.inside(at, name.as_str())?;
-        it.part(turned_place.as_str(), key.as_str(), turned_key.as_str())?;
+        it.push(if number == 0 { "" } else { "," })?;
+        it.key(at, name.as_str(), turned)?;
         it.push("{\"L\":[")?;
         it.number(element(it, place.as_str(), 0)?.as_str())?;
         it.push(",")?;
@@ -165,19 +164,21 @@ fn rail(it: &mut Turning, at: &str) -> Done {
     it.push("}}")
 }
 
-// The place of the error of reading, where it is the same of the item, of the borrowed item, and of the second of two items.
-fn place_of<T: DeserializeOwned>(alloc: Global, it: Turned) -> anyhow::Result<String> {
-    let borrowed = told_place(alloc, &read_item_located::<T>(alloc, &it.turned))?;
-    let maps = vec![in alloc; it.whole.into_inner(), it.turned.clone()?.into_inner()]?;
-    let second = told_place(alloc, &from_items_located::<T>(alloc, Items::from(maps)))?;
-    let owned = told_place(alloc, &from_item_located::<T>(alloc, it.turned))?;
-    let dot = if owned.is_empty() { "" } else { "." };
-    let in_items = format!(in alloc; "[1]{dot}{owned}")?;
-    if owned == borrowed && second == in_items {
-        Ok(owned)
-    } else {
-        Ok(format!(in alloc; "{owned}, but {borrowed} of the borrowed item and {second} of the items")?)
+// The place of the error of reading, where it is the same of the item and of the borrowed item, and
+// in the second of two items.
+fn place_of<T: DeserializeOwned + Drop>(alloc: Global, it: &Turned) -> anyhow::Result<Told> {
+    let lent = told_place(read_item_located::<T>(alloc, &it.turned))?;
+    let taken = told_place(from_item_located::<T>(alloc, it.turned.clone()?))?;
+    if taken != lent {
+        return Ok(Err(format!(in alloc; "{taken}, but {lent} of the borrowed item")?));
     }
+    let maps = vec![in alloc; it.whole.clone()?.into_inner(), it.turned.clone()?.into_inner()]?;
+    let second = told_place(from_items_located::<T>(alloc, Items::from(maps)))?;
+    let wanted = taken.in_element(alloc, 1);
+    if second != wanted {
+        return Ok(Err(format!(in alloc; "{second} of the items, not {wanted}")?));
+    }
+    Ok(Ok(lent))
 }
 
 #[test]
@@ -189,7 +190,7 @@ fn derived_orders_say_what_was_turned(rt: HostRuntime) {
 #[test]
 fn derived_pages_of_orders_say_what_was_turned(rt: HostRuntime) {
     let alloc = rt.alloc();
-    none_wrong(&rt, first_wrong(alloc, page, |it| place_of::<Page>(alloc, it)));
+    none_wrong(&rt, first_wrong(alloc, page_of_orders, |it| place_of::<Page>(alloc, it)));
 }
 
 #[test]

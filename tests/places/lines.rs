@@ -2,7 +2,7 @@
 use described_types::Order;
 use exports::{Groups, Lines, next_value, requests_in_file, value_of};
 use std::alloc::{AllocError, Global};
-use std::process::Abort;
+use std::io::{self, BufRead, BufReader, Read};
 use std::test::Fail;
 
 const ORDER: &str = r#""id":{"S":"a"},"count":{"N":"1"},"tags":{"L":[{"S":"x"}]},"stock":{"M":{"l":{"N":"2"}}}"#;
@@ -100,11 +100,11 @@ fn a_request_file_says_the_table_and_the_request(rt: HostRuntime) -> Result<(), 
 }
 
 // The groups of an export's findings.
-fn groups(alloc: Global, export: &str, limit: usize) -> Result<Groups, AllocError> {
-    let mut lines = Lines::new(alloc, export.as_bytes());
+fn groups<R: BufRead + Drop>(alloc: Global, export: R, limit: usize) -> Result<Groups, AllocError> {
+    let mut lines = Lines::new(alloc, export);
     let mut groups = Groups::new(alloc, limit);
     for _ in 0..u64::MAX {
-        match next_value::<Order, &[u8]>(alloc, &mut lines) {
+        match next_value::<Order, R>(alloc, &mut lines) {
             Some(Ok(_)) => {}
             Some(Err(finding)) => groups.add(&finding)?,
             None => break,
@@ -137,23 +137,70 @@ fn findings_are_grouped_by_place_and_kind(rt: HostRuntime) -> Result<(), Fail> {
     push_lines(&mut export, 1, &[count.as_str(), other_count.as_str(), count.as_str(), count.as_str()])?;
     let wanted = "4 lines at count: Failed to parse an integer\n6 lines at tags[]: Expected string\n\
         3 lines: it has no Item\n6 lines: it is not JSON\n";
-    let told = groups(alloc, export.as_str(), 10)?;
+    let told = groups(alloc, export.as_str().as_bytes(), 10)?;
     assert_eq!(rt; told.to_string(alloc)?.as_str(), wanted);
     assert_eq!(rt; told.others(), 0);
     Ok(())
 }
 
+// An export that is written line by line as it is read, so that it is never in memory.
+#[derive(Drop)]
+struct Export {
+    alloc: Global,
+    number: usize,
+    line: String,
+    // How much of the line was read.
+    read: usize,
+}
+
+const LINES: usize = 100_000;
+
+// Of ten lines, one has a fault at a place that no other line has, one has a fault at a place that
+// one line of each ten has, four have no item, and four aren't JSON.
+fn line_at(alloc: Global, number: usize) -> Result<String, AllocError> {
+    match number % 10 {
+        0 => {
+            let name = LINES + number;
+            let entry = format!(in alloc; "{{\"n{name}\":{{\"S\":\"x\"}}}}")?;
+            format!(in alloc; "{{\"Item\":{{\"stock\":{{\"M\":{entry}}}}}}}\n")
+        }
+        5 => String::from_str(alloc, "{\"Item\":{\"tags\":{\"L\":[{\"N\":\"1\"}]}}}\n"),
+        2 | 4 | 6 | 8 => String::from_str(alloc, "{}\n"),
+        _ => String::from_str(alloc, "x\n"),
+    }
+}
+
+impl Read for Export {
+    fn read(&mut self, buf: &mut [u8]) -> io::Result<usize> {
+        if self.read == self.line.len() && self.number < LINES {
+            self.line = line_at(self.alloc, self.number)?;
+            self.number += 1;
+            self.read = 0;
+        }
+        let rest = &self.line.as_str().as_bytes()[self.read..];
+        let n = rest.len().min(buf.len());
+        buf[..n].copy_from_slice(&rest[..n]);
+        self.read += n;
+        Ok(n)
+    }
+}
+
+// The lines have faults of 10,003 kinds. The first 100 are kept, and all lines are counted.
 #[test]
 fn groups_are_bounded(rt: HostRuntime) -> Result<(), Fail> {
     let alloc = rt.alloc();
-    let mut export = String::new(alloc);
-    for number in 0..2_000 {
-        let named = format!(in alloc; "\"stock\":{{\"M\":{{\"l{number}\":{{\"S\":\"x\"}}")?;
-        let line = line(alloc, r#""stock":{"M":{"l":{"N":"2"}"#, named.as_str())?;
-        push_lines(&mut export, 1, &[line.as_str()])?;
+    let export = Export { alloc, number: 0, line: String::new(alloc), read: 0 };
+    let told = groups(alloc, BufReader::new(alloc, export)?, 100)?;
+    let mut wanted = String::new(alloc);
+    for number in 0..97 {
+        let name = LINES + 10 * number;
+        let line = format!(in alloc; "1 line at stock.n{name}: Expected num\n")?;
+        wanted.push_str(line.as_str())?;
     }
-    let told = groups(alloc, export.as_str(), 2)?;
-    let wanted = "1 line at stock.l0: Expected num\n1 line at stock.l1: Expected num\n1998 lines of other groups\n";
-    assert_eq!(rt; told.to_string(alloc)?.as_str(), wanted);
+    let others = "10000 lines at tags[]: Expected string\n40000 lines: it has no Item\n\
+        40000 lines: it is not JSON\n9903 lines of other groups\n";
+    wanted.push_str(others)?;
+    assert_eq!(rt; told.to_string(alloc)?.as_str(), wanted.as_str());
+    assert_eq!(rt; told.others(), 9_903);
     Ok(())
 }

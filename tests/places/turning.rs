@@ -1,0 +1,300 @@
+//! Texts of items, each with one part that is turned into something else, and what is said of it.
+use dynamo_json::DynamoJson;
+use dynamo_place::{LocatedError, Place};
+use dynamo_value::{AttributeValue, Error, Item};
+use std::alloc::{AllocError, Global};
+use std::process::Abort;
+
+// How many items of each type are read: of nine types, of which six are described.
+const ITEMS: u64 = 1_150;
+
+// Draws numbers by a linear congruential generator.
+#[derive(Drop)]
+pub(crate) struct Draw {
+    state: u64,
+}
+
+impl Draw {
+    pub(crate) fn below(&mut self, end: usize) -> usize {
+        let state = self.state.wrapping_mul(6_364_136_223_846_793_005);
+        self.state = state.wrapping_add(1_442_695_040_888_963_407);
+        ((self.state >> 33) as usize) % end.max(1)
+    }
+}
+
+// What is at the place of a part that was turned.
+#[derive(Drop)]
+pub(crate) enum Part {
+    // The attribute value of this text.
+    Value(String),
+    // A struct or an enum that lacks a field or a variant of this name.
+    Lacking(String),
+    // The entry of a key that wasn't there before.
+    Entry,
+    // No attribute value: an element of a set.
+    InSet,
+}
+
+// The text of an item, of which one part is turned.
+#[derive(Drop)]
+pub(crate) struct Turning {
+    pub(crate) alloc: Global,
+    pub(crate) draw: Draw,
+    text: String,
+    // How many parts there are so far, and which one is turned.
+    parts: usize,
+    turned: usize,
+    // The place of what is wrong with the part that was turned, and what is there.
+    at: Option<(String, Part)>,
+}
+
+pub(crate) type Done = Result<(), AllocError>;
+
+impl Turning {
+    fn new(alloc: Global, seed: u64, turned: usize) -> Turning {
+        Turning {
+            alloc,
+            draw: Draw { state: seed },
+            text: String::new(alloc),
+            parts: 0,
+            turned,
+            at: None,
+        }
+    }
+
+    // Whether the next part is the one that is turned.
+    fn turns(&mut self) -> bool {
+        let turns = self.parts == self.turned;
+        self.parts += 1;
+        turns
+    }
+
+    // Writes the text of the part that is turned, whose place this is.
+    fn push_turned(&mut self, place: &str, part: Part, text: &str) -> Done {
+        self.at = Some((String::from_str(self.alloc, place)?, part));
+        self.push(text)
+    }
+
+    pub(crate) fn push(&mut self, text: &str) -> Done {
+        self.text.push_str(text)
+    }
+
+    // A value with this text, or another one if it is turned.
+    pub(crate) fn part(&mut self, place: &str, text: &str, turned: &str) -> Done {
+        if self.turns() {
+            let part = Part::Value(String::from_str(self.alloc, turned)?);
+            return self.push_turned(place, part, turned);
+        }
+        self.push(text)
+    }
+
+    pub(crate) fn string(&mut self, place: &str) -> Done {
+        self.part(place, r#"{"S":"x"}"#, r#"{"N":"1"}"#)
+    }
+
+    pub(crate) fn number(&mut self, place: &str) -> Done {
+        let texts = [r#"{"S":"1"}"#, r#"{"N":"-1"}"#, r#"{"N":"x"}"#, r#"{"L":[]}"#];
+        let turned = texts[self.draw.below(4)];
+        self.part(place, r#"{"N":"7"}"#, turned)
+    }
+
+    // An element of a set with this text, or another one if it is turned.
+    pub(crate) fn in_set(&mut self, place: &str, text: &str, turned: &str) -> Done {
+        if self.turns() {
+            return self.push_turned(place, Part::InSet, turned);
+        }
+        self.push(text)
+    }
+
+    // Whether the set at a place is turned: into what is no set, or into a set of another kind,
+    // whose first element is what is wrong then.
+    pub(crate) fn set_turns(
+        &mut self,
+        place: &str,
+        no_set: &str,
+        other: &str,
+    ) -> Result<bool, AllocError> {
+        if self.turns() {
+            let part = Part::Value(String::from_str(self.alloc, no_set)?);
+            self.push_turned(place, part, no_set)?;
+            return Ok(true);
+        }
+        if self.turns() {
+            let first = format!(in self.alloc; "{place}[0]")?;
+            self.push_turned(first.as_str(), Part::InSet, other)?;
+            return Ok(true);
+        }
+        Ok(false)
+    }
+
+    // The key of an entry of the map at a place, or another key if it is turned, and then its entry
+    // is what is wrong.
+    pub(crate) fn key(&mut self, within: &str, key: &str, turned: &str) -> Done {
+        if self.turns() {
+            let place = self.inside(within, turned)?;
+            let text = format!(in self.alloc; "\"{turned}\":")?;
+            return self.push_turned(place.as_str(), Part::Entry, text.as_str());
+        }
+        let text = format!(in self.alloc; "\"{key}\":")?;
+        self.push(text.as_str())
+    }
+
+    // The name of a field of the struct, or of the variant of the enum, at a place. If it is
+    // turned, that one is missing, and the struct or the enum is what is wrong.
+    pub(crate) fn name(&mut self, within: &str, name: &str) -> Done {
+        if self.turns() {
+            let part = Part::Lacking(String::from_str(self.alloc, name)?);
+            return self.push_turned(within, part, "\"other\":");
+        }
+        let text = format!(in self.alloc; "\"{name}\":")?;
+        self.push(text.as_str())
+    }
+
+    // A list of strings.
+    pub(crate) fn strings(&mut self, place: &str) -> Done {
+        self.push(r#"{"L":["#)?;
+        for at in 0..self.draw.below(4) {
+            self.push(if at == 0 { "" } else { "," })?;
+            let place = format!(in self.alloc; "{place}[{at}]")?;
+            self.string(place.as_str())?;
+        }
+        self.push("]}")
+    }
+
+    pub(crate) fn inside(&self, place: &str, field: &str) -> Result<String, AllocError> {
+        let dot = if place.is_empty() { "" } else { "." };
+        format!(in self.alloc; "{place}{dot}{field}")
+    }
+
+    // A field, by what writes its value.
+    pub(crate) fn field(
+        &mut self,
+        within: &str,
+        field: &str,
+        value: impl FnOnce(&mut Turning, &str) -> Done,
+    ) -> Done {
+        let place = self.inside(within, field)?;
+        self.name(within, field)?;
+        value(self, place.as_str())
+    }
+
+    // A field behind others that may be left out, so that its name isn't turned.
+    pub(crate) fn optional(
+        &mut self,
+        within: &str,
+        field: &str,
+        value: impl FnOnce(&mut Turning, &str) -> Done,
+    ) -> Done {
+        if self.draw.below(2) == 0 {
+            return Ok(());
+        }
+        let place = self.inside(within, field)?;
+        let name = format!(in self.alloc; ",\"{field}\":")?;
+        self.push(name.as_str())?;
+        value(self, place.as_str())
+    }
+}
+
+// An item, the same item with one part turned, the place of that part, and what is there.
+#[derive(Drop)]
+pub(crate) struct Turned {
+    pub(crate) whole: Item,
+    pub(crate) turned: Item,
+    place: String,
+    part: Part,
+}
+
+// The item of a text, which is the object inside of its `M`.
+fn item(alloc: Global, text: &str) -> anyhow::Result<Item> {
+    let inner = text.strip_prefix("{\"M\":").and_then(|it| it.strip_suffix("}")).unwrap_or(text);
+    Ok(Item::from_json_text(alloc, inner)?)
+}
+
+fn turn(
+    alloc: Global,
+    seed: u64,
+    write: &impl Fn(&mut Turning, &str) -> Done,
+) -> anyhow::Result<Turned> {
+    let mut whole = Turning::new(alloc, seed, usize::MAX);
+    write(&mut whole, "")?;
+    let mut turning = Turning::new(alloc, seed, (seed as usize * 7_919) % whole.parts);
+    write(&mut turning, "")?;
+    let turned = item(alloc, turning.text.as_str())?;
+    let Some(at) = turning.at else {
+        anyhow::bail!("{}: nothing was turned", turning.text);
+    };
+    let (place, part) = at;
+    Ok(Turned { whole: item(alloc, whole.text.as_str())?, turned, place, part })
+}
+
+// The place that all readers say, or what else they say.
+pub(crate) type Told = Result<Place, String>;
+
+// The place of the error of reading.
+pub(crate) fn told_place<T: Drop>(read: Result<T, LocatedError<Error>>) -> anyhow::Result<Place> {
+    match read {
+        Ok(_) => anyhow::bail!("it reads"),
+        Err(error) => Ok(error.place),
+    }
+}
+
+// Whether what is found at a place is what the item was turned into there, and not what it was.
+fn is_found(alloc: Global, it: &Turned, place: &Place) -> anyhow::Result<bool> {
+    let turned = AttributeValue::M(it.turned.clone()?.into_inner());
+    let whole = AttributeValue::M(it.whole.clone()?.into_inner());
+    Ok(match (&it.part, place.find(&turned)) {
+        (Part::Value(text), Some(found)) => {
+            *found == AttributeValue::from_json_text(alloc, text.as_str())?
+                && place.find(&whole).is_some()
+        }
+        (Part::Lacking(name), Some(AttributeValue::M(map))) => map.get(name.as_str()).is_none(),
+        (Part::Entry, Some(_)) => place.find(&whole).is_none(),
+        (Part::InSet, None) => true,
+        _ => false,
+    })
+}
+
+// What is wrong with what is said of an item, if anything is.
+fn wrong_of(
+    alloc: Global,
+    it: &Turned,
+    told: anyhow::Result<Told>,
+) -> anyhow::Result<Option<String>> {
+    let place = match told {
+        Ok(Ok(place)) => place,
+        Ok(Err(said)) => return Ok(Some(said)),
+        Err(error) => return Ok(Some(format!(in alloc; "{error}")?)),
+    };
+    if place.to_string(alloc)? != it.place {
+        return Ok(Some(format!(in alloc; "{place}, not {}", it.place)?));
+    }
+    if !is_found(alloc, it, &place)? {
+        return Ok(Some(format!(in alloc; "another part is found at {place}")?));
+    }
+    Ok(None)
+}
+
+// The first item whose error has another place than that which was turned, by what reads it and
+// says the place.
+pub(crate) fn first_wrong(
+    alloc: Global,
+    write: impl Fn(&mut Turning, &str) -> Done,
+    place_of: impl Fn(&Turned) -> anyhow::Result<Told>,
+) -> anyhow::Result<Option<String>> {
+    for seed in 0..ITEMS {
+        let it = turn(alloc, seed, &write)?;
+        if let Some(wrong) = wrong_of(alloc, &it, place_of(&it))? {
+            let text = it.turned.to_json_text(alloc)?;
+            return Ok(Some(format!(in alloc; "{text}: {wrong}")?));
+        }
+    }
+    Ok(None)
+}
+
+pub(crate) fn none_wrong(rt: &impl Abort, first: anyhow::Result<Option<String>>) {
+    match first {
+        Ok(None) => {}
+        Ok(Some(wrong)) => assert!(rt; false, "{wrong}"),
+        Err(error) => assert!(rt; false, "{error}"),
+    }
+}
