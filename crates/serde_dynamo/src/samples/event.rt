@@ -45,16 +45,12 @@ type EventVariants = Choice<
 impl Enumeration for Event {
     type Variants = EventVariants;
 
-    ghost about = { enum_of (codes "Event")
-        (codes "Unit" ∷ codes "Newtype" ∷ codes "Tuple" ∷ codes "Structy" ∷ [])
-        (elim [
-          | is.Unit ↦ Left (Left _)
-          | is.Newtype n ↦ Left (Right (record { 0 = n }))
-          | is.Tuple a b ↦ Right (Left (record { 0 = (record { 0 = a }, record { 0 = b }) }))
-          | is.Structy one two
-              ↦ Right (Right (record { 0 = (record { 0 = one }, record { 0 = two }) }))
-        ])
-        ⟦<EventVariants as VariantList>⟧.about };
+    ghost about = { enum_of (codes "Event") (codes "Unit" ∷ codes "Newtype" ∷ codes "Tuple" ∷ codes "Structy" ∷ []) (elim [
+      | is.Unit ↦ Left (Left _)
+      | is.Newtype n ↦ Left (Right (record { 0 = n }))
+      | is.Tuple a b ↦ Right (Left (record { 0 = (record { 0 = a }, record { 0 = b }) }))
+      | is.Structy one two ↦ Right (Right (record { 0 = (record { 0 = one }, record { 0 = two }) }))
+    ]) ⟦<EventVariants as VariantList>⟧.about };
 
     ghost named = { (refl, refl) };
 
