@@ -45,7 +45,12 @@ impl<R: Reader> SeqAccess for ReaderSeqAccess<R> {
     {
         match R::next_element(&mut self.elements) {
             None => Ok(None),
-            Some(element) => Ok(Some(seed.deserialize(element)?)),
+            Some(element) => {
+                let value = seed.deserialize(element)?;
+                // A reader that marks places comes back to the sequence by this call.
+                R::elements_left(&self.elements);
+                Ok(Some(value))
+            }
         }
     }
 
@@ -113,7 +118,12 @@ impl<R: Reader> MapAccess for ReaderMapAccess<R> {
     fn next_value_seed<V: DeserializeSeed>(&mut self, seed: V) -> Result<V::Value, R::Error> {
         match self.pending.take() {
             None => Err(R::value_before_key()),
-            Some(value) => seed.deserialize(value),
+            Some(value) => {
+                let value = seed.deserialize(value)?;
+                // A reader that marks places comes back to the map by this call.
+                R::entries_left(&self.entries);
+                Ok(value)
+            }
         }
     }
 

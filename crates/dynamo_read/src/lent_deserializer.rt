@@ -9,6 +9,7 @@ ghost use Rattle.dynamo_de.specs.Shows.{ShowsSurface};
 ghost use Rattle.dynamo_de.specs.Source.{attribute, key_text, plain_text};
 ghost use Rattle.dynamo_read.specs.Lent.{IsLentShown, LentCounted, lent_chosen, lent_counted};
 ghost use Rattle.dynamo_read.specs.Lent.{lent_elements, lent_entries, lent_source};
+ghost use Rattle.dynamo_read.specs.Outright.{OutrightButCopies};
 ghost use Rattle.dynamo_read.specs.Reader.{asks_elements, IfElements};
 
 use crate::lent_entries::only_lent;
@@ -104,7 +105,8 @@ impl<'a> LentDeserializer<'a> {
 // What a source that isn't a string shows for a string's request, without its contents.
 #[inline(never)]
 fn other_surface(reader: LentDeserializer<'_>, request: Request) -> Result<Surface>
-    ensures { ShowsSurface fault_of (shown request (lent_source reader.entry)) result }
+    ensures shown { ShowsSurface fault_of (shown request (lent_source reader.entry)) result }
+    ensures outright { OutrightButCopies (shown request (lent_source reader.entry)) result }
 {
     Ok(reader.show(request)?.surface())
 }
@@ -143,11 +145,14 @@ impl<'a> Reader for LentDeserializer<'a> {
     }
 
     /// Returns what the source holds. The elements of a list are counted, those of a set aren't.
+    /// Memory can run out only where a string or bytes are copied, or the entries of a map are
+    /// listed.
     #[inline(always)]
     fn show(self, request: Request) -> Result<LentShown<'a>>
         ensures shown { IsLentShown (shown request (lent_source self.entry)) result }
         ensures counted { asks_elements request ≡ true
             → IfElements (LentCounted (lent_source self.entry)) result }
+        ensures outright { OutrightButCopies (shown request (lent_source self.entry)) result }
     {
         let alloc = self.alloc;
         match self.source {
@@ -162,7 +167,10 @@ impl<'a> Reader for LentDeserializer<'a> {
 
     /// Returns the same without its contents. A string is returned at once for a string's request.
     #[inline(always)]
-    fn surface(self, request: Request) -> Result<Surface> {
+    fn surface(self, request: Request) -> Result<Surface>
+        ensures shown { ShowsSurface fault_of (shown request (lent_source self.entry)) result }
+        ensures outright { OutrightButCopies (shown request (lent_source self.entry)) result }
+    {
         let LentDeserializer { alloc, source } = self;
         match (request, source) {
             (

@@ -12,6 +12,7 @@ ghost use Rattle.dynamo_de.specs.Showing as showing;
 ghost use Rattle.dynamo_de.specs.Source.{attribute};
 ghost use Rattle.dynamo_leaf.specs.Leaf.{leaf_showing};
 ghost use Rattle.dynamo_read.specs.Lent.{IsLentShown, LentCounted, lent_elements, lent_entries};
+ghost use Rattle.dynamo_read.specs.Outright.{OutrightButCopies, RefusesOutright};
 ghost use Rattle.dynamo_read.specs.Reader.{asks_elements, IfElements};
 
 use crate::lent_deserializer::LentDeserializer;
@@ -40,6 +41,7 @@ pub(crate) fn attribute_value<'a>(
     ensures shown { IsLentShown (attribute_shown request (view value.now)) result }
     ensures counted { asks_elements request ≡ true
         → IfElements (LentCounted (attribute (view value.now))) result }
+    ensures outright { OutrightButCopies (attribute_shown request (view value.now)) result }
 {
     match request {
         Request::Any | Request::IgnoredAny => any(alloc, value),
@@ -67,7 +69,10 @@ pub(crate) fn map_value<'a>(
     request: Request,
     map: &'a HashMap<String, AttributeValue>,
 ) -> Result<LentShown<'a>>
-    ensures { IsLentShown (attribute_shown request (av.M (members_view map.now.entries))) result }
+    ensures shown { IsLentShown (attribute_shown request (av.M (members_view map.now.entries)))
+        result }
+    ensures outright { OutrightButCopies
+        (attribute_shown request (av.M (members_view map.now.entries))) result }
 {
     let refusal = match request {
         Request::Any | Request::IgnoredAny | Request::Map | Request::Struct => {
@@ -94,6 +99,7 @@ pub(crate) fn map_value<'a>(
 fn any<'a>(alloc: Global, value: &'a AttributeValue) -> Result<LentShown<'a>>
     ensures shown { IsLentShown (any_shown (view value.now)) result }
     ensures counted { IfElements (LentCounted (attribute (view value.now))) result }
+    ensures outright { OutrightButCopies (any_shown (view value.now)) result }
 {
     match value {
         AttributeValue::N(number) => number_text(alloc, Request::Any, number),
@@ -137,7 +143,8 @@ pub(crate) fn inside_number<'a>(
 // An integer of the kind that is asked for.
 #[inline(always)]
 fn number<'a>(alloc: Global, kind: IntegerKind, value: &'a AttributeValue) -> Result<LentShown<'a>>
-    ensures { IsLentShown (num_shown (kind_of kind) (view value.now)) result }
+    ensures shown { IsLentShown (num_shown (kind_of kind) (view value.now)) result }
+    ensures outright { OutrightButCopies (num_shown (kind_of kind) (view value.now)) result }
 {
     match value {
         AttributeValue::N(number) => number_text(alloc, Request::Integer(kind), number),
@@ -148,7 +155,8 @@ fn number<'a>(alloc: Global, kind: IntegerKind, value: &'a AttributeValue) -> Re
 // A string.
 #[inline(always)]
 fn text<'a>(value: &'a AttributeValue) -> Result<LentShown<'a>>
-    ensures { IsLentShown (text_shown (view value.now)) result }
+    ensures shown { IsLentShown (text_shown (view value.now)) result }
+    ensures outright { OutrightButCopies (text_shown (view value.now)) result }
 {
     match value {
         AttributeValue::S(text) => Ok(Showing::Text(text.clone()?)),
@@ -159,7 +167,8 @@ fn text<'a>(value: &'a AttributeValue) -> Result<LentShown<'a>>
 // A byte string.
 #[inline(always)]
 fn bytes<'a>(alloc: Global, value: &'a AttributeValue) -> Result<LentShown<'a>>
-    ensures { IsLentShown (bytes_shown (view value.now)) result }
+    ensures shown { IsLentShown (bytes_shown (view value.now)) result }
+    ensures outright { OutrightButCopies (bytes_shown (view value.now)) result }
 {
     match value {
         AttributeValue::B(bytes) => byte_string(alloc, bytes),
@@ -171,7 +180,8 @@ fn bytes<'a>(alloc: Global, value: &'a AttributeValue) -> Result<LentShown<'a>>
 // is false.
 #[inline(always)]
 fn option<'a>(alloc: Global, value: &'a AttributeValue) -> Result<LentShown<'a>>
-    ensures { IsLentShown (option_shown (view value.now)) result }
+    ensures shown { IsLentShown (option_shown (view value.now)) result }
+    ensures outright { RefusesOutright (option_shown (view value.now)) result }
 {
     match value {
         AttributeValue::Null(true) => Ok(Showing::None),
@@ -183,6 +193,7 @@ fn option<'a>(alloc: Global, value: &'a AttributeValue) -> Result<LentShown<'a>>
 fn sequence<'a>(alloc: Global, value: &'a AttributeValue) -> Result<LentShown<'a>>
     ensures shown { IsLentShown (seq_shown (view value.now)) result }
     ensures counted { IfElements (LentCounted (attribute (view value.now))) result }
+    ensures outright { RefusesOutright (seq_shown (view value.now)) result }
 {
     match value {
         AttributeValue::L(values) => Ok(Showing::Sequence(LentElements::values(alloc, values))),
@@ -201,7 +212,8 @@ fn sequence<'a>(alloc: Global, value: &'a AttributeValue) -> Result<LentShown<'a
 // A map.
 #[inline(always)]
 fn map<'a>(alloc: Global, value: &'a AttributeValue) -> Result<LentShown<'a>>
-    ensures { IsLentShown (map_shown (view value.now)) result }
+    ensures shown { IsLentShown (map_shown (view value.now)) result }
+    ensures outright { OutrightButCopies (map_shown (view value.now)) result }
 {
     match value {
         AttributeValue::M(map) => Ok(Showing::Map(LentEntries::of_map(alloc, map)?)),
@@ -214,6 +226,7 @@ fn map<'a>(alloc: Global, value: &'a AttributeValue) -> Result<LentShown<'a>>
 fn structure<'a>(alloc: Global, value: &'a AttributeValue) -> Result<LentShown<'a>>
     ensures shown { IsLentShown (struct_shown (view value.now)) result }
     ensures counted { IfElements (LentCounted (attribute (view value.now))) result }
+    ensures outright { OutrightButCopies (struct_shown (view value.now)) result }
 {
     match value {
         AttributeValue::L(values) => Ok(Showing::Sequence(LentElements::values(alloc, values))),
@@ -224,7 +237,8 @@ fn structure<'a>(alloc: Global, value: &'a AttributeValue) -> Result<LentShown<'
 // A variant, by its name alone or by a map of its name to its content.
 #[inline(always)]
 fn enumeration<'a>(alloc: Global, value: &'a AttributeValue) -> Result<LentShown<'a>>
-    ensures { IsLentShown (enum_shown (view value.now)) result }
+    ensures shown { IsLentShown (enum_shown (view value.now)) result }
+    ensures outright { RefusesOutright (enum_shown (view value.now)) result }
 {
     match value {
         AttributeValue::S(name) => Ok(Showing::Enum(LentChoice::name(alloc, name))),
@@ -235,7 +249,8 @@ fn enumeration<'a>(alloc: Global, value: &'a AttributeValue) -> Result<LentShown
 
 // What a borrowed byte string shows: a copy of its bytes.
 pub(crate) fn byte_string<'a>(alloc: Global, bytes: &'a Vec<u8>) -> Result<LentShown<'a>>
-    ensures { IsLentShown (Ok (showing.bytes bytes.now.items)) result }
+    ensures shown { IsLentShown (Ok (showing.bytes bytes.now.items)) result }
+    ensures outright { OutrightButCopies (Ok (showing.bytes bytes.now.items)) result }
 {
     Ok(Showing::Bytes(Vec::from_slice(alloc, bytes.as_slice())?))
 }
@@ -247,7 +262,9 @@ pub(crate) fn number_text<'a>(
     request: Request,
     text: &'a String,
 ) -> Result<LentShown<'a>>
-    ensures { IsLentShown (number_text_shown request (string_bytes text.now)) result }
+    ensures shown { IsLentShown (number_text_shown request (string_bytes text.now)) result }
+    ensures outright { OutrightButCopies (number_text_shown request (string_bytes text.now))
+        result }
 {
     match show_number(request, text.as_str()) {
         Ok(leaf) => of_leaf(alloc, leaf, text),
@@ -262,7 +279,8 @@ pub(crate) fn key_text<'a>(
     request: Request,
     text: &'a String,
 ) -> Result<LentShown<'a>>
-    ensures { IsLentShown (key_shown request (string_bytes text.now)) result }
+    ensures shown { IsLentShown (key_shown request (string_bytes text.now)) result }
+    ensures outright { OutrightButCopies (key_shown request (string_bytes text.now)) result }
 {
     of_leaf(alloc, show_key(request, text.as_str())?, text)
 }
@@ -274,7 +292,8 @@ pub(crate) fn plain_text<'a>(
     request: Request,
     text: &'a String,
 ) -> Result<LentShown<'a>>
-    ensures { IsLentShown (plain_text_shown request (string_bytes text.now)) result }
+    ensures shown { IsLentShown (plain_text_shown request (string_bytes text.now)) result }
+    ensures outright { OutrightButCopies (plain_text_shown request (string_bytes text.now)) result }
 {
     of_leaf(alloc, show_plain_text(request), text)
 }
@@ -282,7 +301,8 @@ pub(crate) fn plain_text<'a>(
 // What a borrowed string shows by its leaf, with readers around its contents. It is copied where it
 // is shown itself.
 fn of_leaf<'a>(alloc: Global, leaf: Leaf, text: &'a String) -> Result<LentShown<'a>>
-    ensures { IsLentShown (Ok (leaf_showing (string_bytes text.now) leaf)) result }
+    ensures shown { IsLentShown (Ok (leaf_showing (string_bytes text.now) leaf)) result }
+    ensures outright { OutrightButCopies (Ok (leaf_showing (string_bytes text.now) leaf)) result }
 {
     match leaf {
         Leaf::Bool(v) => Ok(Showing::Bool(v)),

@@ -11,10 +11,13 @@ use serde_dynamo::Deserializer;
 use serde_dynamo::de::Deserialize;
 use std::alloc::Global;
 
-// The place of the error of reading, where both readers say the same one, and where it is the same
-// in the second of two items.
+// The place of the error of reading. Of one in five both readers have to say the same one, and it has
+// to be the same in the second of two items.
 fn place_of<T: Deserialize + Drop>(alloc: Global, it: &Turned) -> anyhow::Result<Told> {
     let lent = told_place(from_item_ref_located::<T>(alloc, &it.turned))?;
+    let Some(whole) = &it.whole else {
+        return Ok(Ok(lent));
+    };
     let taken = told_place(from_item_located::<T>(alloc, it.turned.clone()?))?;
     let value = AttributeValue::M(it.turned.clone()?.into_inner());
     let reader = Deserializer::from_attribute_value(alloc, value);
@@ -23,7 +26,7 @@ fn place_of<T: Deserialize + Drop>(alloc: Global, it: &Turned) -> anyhow::Result
         let said = format!(in alloc; "{lent}, but {taken} and by the owned reader {owned}")?;
         return Ok(Err(said));
     }
-    let maps = vec![in alloc; it.whole.clone()?.into_inner(), it.turned.clone()?.into_inner()]?;
+    let maps = vec![in alloc; whole.clone()?.into_inner(), it.turned.clone()?.into_inner()]?;
     let second = told_place(from_items_located::<T>(alloc, Items::from(maps)))?;
     let wanted = taken.in_element(alloc, 1);
     if second != wanted {

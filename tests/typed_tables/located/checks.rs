@@ -1,6 +1,6 @@
 //! Types that are read by hand and refuse what they have read, and the place of the refusal.
 use super::readers::holds;
-use serde_dynamo::de::{Deserialize, Deserializer, Error, Kind, MapAccess, Visitor};
+use serde_dynamo::de::{Deserialize, Deserializer, Error, Kind, MapAccess, SeqAccess, Visitor};
 use std::alloc::Global;
 use std::collections::BTreeMap;
 use std::test::Fail;
@@ -105,6 +105,66 @@ impl Deserialize for ValueFirst {
     }
 }
 
+// The first two numbers of a list, of which the second isn't less, or the first entry of a map, whose
+// key isn't `end` and whose number isn't 0. The rest isn't read.
+#[derive(Drop)]
+struct Start;
+
+#[derive(Drop)]
+struct StartVisitor {
+    alloc: Global,
+}
+
+impl Visitor for StartVisitor {
+    type Value = Start;
+
+    ghost claimed = { ? };
+
+    ghost takes = { ? };
+
+    fn expecting(&self) -> &'static str {
+        "a list or a map"
+    }
+
+    fn alloc(&self) -> Global {
+        self.alloc
+    }
+
+    fn claims(&self, kind: Kind) -> bool {
+        matches!(kind, Kind::Seq | Kind::Map)
+    }
+
+    fn visit_seq<A: SeqAccess>(self, mut seq: A) -> Result<Start, A::Error> {
+        let first = seq.next_element::<u8>(self.alloc)?;
+        let second = seq.next_element::<u8>(self.alloc)?;
+        if second < first {
+            return Err(A::Error::custom(self.alloc, "the second is less"));
+        }
+        Ok(Start)
+    }
+
+    fn visit_map<A: MapAccess>(self, mut map: A) -> Result<Start, A::Error> {
+        let Some(key) = map.next_key::<String>(self.alloc)? else {
+            return Ok(Start);
+        };
+        if key.as_str() == "end" {
+            return Err(A::Error::custom(self.alloc, "it begins with its end"));
+        }
+        if map.next_value::<u8>(self.alloc)? == 0 {
+            return Err(A::Error::custom(self.alloc, "it begins with nothing"));
+        }
+        Ok(Start)
+    }
+}
+
+impl Deserialize for Start {
+    ghost reads = { ? };
+
+    fn deserialize<D: Deserializer>(alloc: Global, deserializer: D) -> Result<Start, D::Error> {
+        deserializer.deserialize_any(StartVisitor { alloc })
+    }
+}
+
 #[test]
 fn a_number_that_its_type_refuses(rt: HostRuntime) -> Result<(), Fail> {
     let alloc = rt.alloc();
@@ -130,12 +190,12 @@ fn a_list_that_its_type_refuses(rt: HostRuntime) -> Result<(), Fail> {
     ])
 }
 
-// A pair isn't read beyond its second number, so reading is still there when the pair is refused.
+// A pair isn't read beyond its second number, and is refused at the pair all the same.
 #[test]
 fn a_pair_that_its_type_refuses(rt: HostRuntime) -> Result<(), Fail> {
     holds::<Span>(&rt, rt.alloc(), &[
         (r#"{"L":[{"N":"1"},{"N":"2"}]}"#, "read"),
-        (r#"{"L":[{"N":"2"},{"N":"1"}]}"#, "[1]: a span ends before it begins"),
+        (r#"{"L":[{"N":"2"},{"N":"1"}]}"#, "a span ends before it begins"),
     ])
 }
 
@@ -143,6 +203,20 @@ fn a_pair_that_its_type_refuses(rt: HostRuntime) -> Result<(), Fail> {
 fn a_pair_in_a_list_that_its_type_refuses(rt: HostRuntime) -> Result<(), Fail> {
     holds::<Vec<Span>>(&rt, rt.alloc(), &[
         (r#"{"L":[{"NS":["1","2"]},{"L":[{"N":"1"},{"S":"2"}]}]}"#, "[1][1]: Expected num"),
-        (r#"{"L":[{"NS":["1","2"]},{"NS":["2","1"]}]}"#, "[1][1]: a span ends before it begins"),
+        (r#"{"L":[{"NS":["1","2"]},{"NS":["2","1"]}]}"#, "[1]: a span ends before it begins"),
+    ])
+}
+
+// A visitor that stops early refuses the list or the map, not the part that it read last.
+#[test]
+fn a_list_or_a_map_that_is_refused_early(rt: HostRuntime) -> Result<(), Fail> {
+    holds::<Vec<Start>>(&rt, rt.alloc(), &[
+        (r#"{"L":[{"L":[{"N":"1"},{"N":"2"},{"S":"3"}]},{"M":{}},{"NS":["1","2"]}]}"#, "read"),
+        (r#"{"L":[{"NS":["3","2","1"]}]}"#, "[0]: the second is less"),
+        (r#"{"L":[{"L":[{"N":"1"},{"N":"0"},{"N":"2"}]}]}"#, "[0]: the second is less"),
+        (r#"{"L":[{"L":[{"N":"1"},{"S":"0"},{"N":"2"}]}]}"#, "[0][1]: Expected num"),
+        (r#"{"L":[{"M":{"a":{"N":"0"},"b":{"N":"1"}}}]}"#, "[0]: it begins with nothing"),
+        (r#"{"L":[{"M":{"end":{"N":"0"},"f":{"N":"1"}}}]}"#, "[0].end: it begins with its end"),
+        (r#"{"L":[{"M":{"a":{"S":"0"},"b":{"N":"1"}}}]}"#, "[0].a: Expected num"),
     ])
 }

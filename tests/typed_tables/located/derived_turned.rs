@@ -168,11 +168,14 @@ fn rail(it: &mut Turning, at: &str) -> Done {
 // in the second of two items.
 fn place_of<T: DeserializeOwned + Drop>(alloc: Global, it: &Turned) -> anyhow::Result<Told> {
     let lent = told_place(read_item_located::<T>(alloc, &it.turned))?;
+    let Some(whole) = &it.whole else {
+        return Ok(Ok(lent));
+    };
     let taken = told_place(from_item_located::<T>(alloc, it.turned.clone()?))?;
     if taken != lent {
         return Ok(Err(format!(in alloc; "{taken}, but {lent} of the borrowed item")?));
     }
-    let maps = vec![in alloc; it.whole.clone()?.into_inner(), it.turned.clone()?.into_inner()]?;
+    let maps = vec![in alloc; whole.clone()?.into_inner(), it.turned.clone()?.into_inner()]?;
     let second = told_place(from_items_located::<T>(alloc, Items::from(maps)))?;
     let wanted = taken.in_element(alloc, 1);
     if second != wanted {

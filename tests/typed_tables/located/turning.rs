@@ -195,10 +195,11 @@ impl Turning {
     }
 }
 
-// An item, the same item with one part turned, the place of that part, and what is there.
+// An item, the same item with one part turned, the place of that part, and what is there. The item as
+// it was is there for one in five, which all calls read.
 #[derive(Drop)]
 pub(crate) struct Turned {
-    pub(crate) whole: Item,
+    pub(crate) whole: Option<Item>,
     pub(crate) turned: Item,
     place: String,
     part: Part,
@@ -224,7 +225,8 @@ fn turn(
         anyhow::bail!("{}: nothing was turned", turning.text);
     };
     let (place, part) = at;
-    Ok(Turned { whole: item(alloc, whole.text.as_str())?, turned, place, part })
+    let whole = if seed % 5 == 0 { Some(item(alloc, whole.text.as_str())?) } else { None };
+    Ok(Turned { whole, turned, place, part })
 }
 
 // The place that all readers say, or what else they say.
@@ -238,17 +240,26 @@ pub(crate) fn told_place<T: Drop>(read: Result<T, LocatedError<Error>>) -> anyho
     }
 }
 
+// Whether an item has something at a place, if there is an item.
+fn is_found_in(item: &Option<Item>, place: &Place) -> anyhow::Result<Option<bool>> {
+    let Some(item) = item else {
+        return Ok(None);
+    };
+    let item = AttributeValue::M(item.clone()?.into_inner());
+    Ok(Some(place.find(&item).is_some()))
+}
+
 // Whether what is found at a place is what the item was turned into there, and not what it was.
 fn is_found(alloc: Global, it: &Turned, place: &Place) -> anyhow::Result<bool> {
     let turned = AttributeValue::M(it.turned.clone()?.into_inner());
-    let whole = AttributeValue::M(it.whole.clone()?.into_inner());
+    let was_there = is_found_in(&it.whole, place)?;
     Ok(match (&it.part, place.find(&turned)) {
         (Part::Value(text), Some(found)) => {
             *found == AttributeValue::from_json_text(alloc, text.as_str())?
-                && place.find(&whole).is_some()
+                && was_there != Some(false)
         }
         (Part::Lacking(name), Some(AttributeValue::M(map))) => map.get(name.as_str()).is_none(),
-        (Part::Entry, Some(_)) => place.find(&whole).is_none(),
+        (Part::Entry, Some(_)) => was_there != Some(true),
         (Part::InSet, None) => true,
         _ => false,
     })

@@ -87,6 +87,23 @@ impl TryFrom<Vec<u8>> for Few {
     }
 }
 
+type Ends = (u8, u8);
+
+#[derive(Drop, Deserialize)]
+#[serde(try_from = "Ends")]
+struct Span(u8, u8);
+
+impl TryFrom<Ends> for Span {
+    type Error = &'static str;
+
+    fn try_from(ends: Ends) -> Result<Span, &'static str> {
+        if ends.1 < ends.0 {
+            return Err("it ends before it begins");
+        }
+        Ok(Span(ends.0, ends.1))
+    }
+}
+
 #[test]
 fn fields_and_what_is_in_them(rt: HostRuntime) -> Result<(), Fail> {
     let alloc = rt.alloc();
@@ -192,6 +209,10 @@ fn a_conversion_that_fails_is_at_its_value(rt: HostRuntime) -> Result<(), Fail> 
     holds::<Vec<Few>>(&rt, alloc, &[
         (r#"{"L":[{"NS":["1"]},{"NS":["1","2","3"]},{"NS":["4"]}]}"#, "[1]: too many"),
         (r#"{"L":[{"NS":["1"]},{"NS":["1","2","x"]}]}"#, "[1][2]: Failed to parse 'x'"),
+    ])?;
+    holds::<Vec<Span>>(&rt, alloc, &[
+        (r#"{"L":[{"NS":["1","2"]},{"L":[{"N":"1"},{"S":"2"}]}]}"#, "[1][1]: Expected num"),
+        (r#"{"L":[{"NS":["1","2"]},{"NS":["2","1"]}]}"#, "[1]: it ends before it begins"),
     ])
 }
 
