@@ -166,7 +166,12 @@ impl<F: FieldType> FieldList for Field<F> {
     ) -> Result<Option<Field<F>>, D::Error> {
         match D::next_element(elements) {
             None => Ok(None),
-            Some(element) => Ok(Some(Field(F::Value::deserialize(alloc, element)?))),
+            Some(element) => {
+                let value = F::Value::deserialize(alloc, element)?;
+                // A reader that marks places comes back to the sequence by this call.
+                D::elements_left(elements);
+                Ok(Some(Field(value)))
+            }
         }
     }
 
