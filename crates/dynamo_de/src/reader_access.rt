@@ -48,7 +48,7 @@ impl<R: Reader> SeqAccess for ReaderSeqAccess<R> {
             Some(element) => {
                 let value = seed.deserialize(element)?;
                 // A reader that marks places comes back to the sequence by this call.
-                R::elements_left(&self.elements);
+                self.size_hint();
                 Ok(Some(value))
             }
         }
@@ -121,7 +121,7 @@ impl<R: Reader> MapAccess for ReaderMapAccess<R> {
             Some(value) => {
                 let value = seed.deserialize(value)?;
                 // A reader that marks places comes back to the map by this call.
-                R::entries_left(&self.entries);
+                self.size_hint();
                 Ok(value)
             }
         }
