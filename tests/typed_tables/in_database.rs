@@ -115,10 +115,9 @@ fn a_service_of_bookings(rt: HostRuntime) -> Result<(), Fail> {
     Ok(())
 }
 
-const NIGHTS: u32 = 40;
+const NIGHTS: u32 = 120;
 
-// So many bookings that their changes fill the log more than once. Each is put, replaced by another
-// guest's, and paid. Every fourth is deleted.
+// Bookings of more nights than the log has pages. Each is put, replaced by another guest's, and paid. Every fourth is deleted.
 fn book_many(rt: &impl Abort, alloc: Global) -> anyhow::Result<()> {
     let mut table = TypedStore::create_in_memory_file(alloc, "bookings")?;
     for guest in ["Ford", "Arthur"] {
@@ -139,7 +138,7 @@ fn book_many(rt: &impl Abort, alloc: Global) -> anyhow::Result<()> {
             assert!(rt; table.delete(&key)?);
         }
     }
-    let key = table.key_from("blue", Some("39"))?;
+    let key = table.key_from("blue", Some("99"))?;
     let mut query = Query::of(&key.partition);
     query.backward = true;
     query.limit = 3;
@@ -147,9 +146,9 @@ fn book_many(rt: &impl Abort, alloc: Global) -> anyhow::Result<()> {
     let found = table.query(&query)?;
     assert_eq!(rt;
         bookings(alloc, &found)?.as_str(),
-        "blue 38 Arthur 38,blue 37 Arthur 37,blue 36 Arthur 36,"
+        "blue 98 Arthur 98,blue 97 Arthur 97,blue 96 Arthur 96,"
     );
-    assert_eq!(rt; table.scan_all()?.len(), 30);
+    assert_eq!(rt; table.scan_all()?.len(), 90);
     Ok(())
 }
 
