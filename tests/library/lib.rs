@@ -6,6 +6,7 @@
 //! - `writing`, `reading`, `rereading`: values of a type that are written, read, or both.
 //! - `json`, `json_form`, `plain`: values by way of JSON, DynamoDB's form of it, and plain JSON.
 //! - `tables`: each request to each source, and each call on what stands inside of it.
+//! - `tool`: what `dynamo_tool` prints.
 //! - `described`: types that are described by their fields; `derived`: types that derive serde's traits, and twins that are described.
 
 mod derived;
@@ -17,5 +18,6 @@ mod plain;
 mod reading;
 mod rereading;
 mod tables;
+mod tool;
 mod values;
 mod writing;

@@ -1,5 +1,5 @@
 //! Values that are made to cost much or to be misread, each through every way in.
-use crate::names;
+use crate::untrusted::names;
 use dynamo_json::DynamoJson;
 use dynamo_value::{AttributeValue, Item};
 use exports::Lines;

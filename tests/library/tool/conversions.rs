@@ -1,5 +1,5 @@
 // What `dynamo` and `plain` print.
-use crate::streams::{Sink, Source, status};
+use crate::tool::streams::{Sink, Source, status};
 use std::alloc::Global;
 use std::process::Abort;
 use std::test::Fail;

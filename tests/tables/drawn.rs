@@ -5,36 +5,14 @@
 //! the database have to answer too, and to have as many items afterwards. Printed is how many calls there were of each kind,
 //! how many of them were refused, and the first that differs, if any does. Fewer calls follow on tables in a database of pages
 //! in memory, where each change copies the log.
-//!
-//! Three updates by a function with errors of its own follow, and four pages of a table of three items in which another program
-//! has written rows.
-//!
-//! Then both kinds of tables are queried for values that lie close to each other, and answer as a plain filter does. Last the
-//! rows are counted that a database reads for a query.
-#![tactic(auto)]
-
-mod calls;
-mod counting;
-mod decimal;
-mod foreign;
-mod list;
-mod own_errors;
-mod pools;
-mod queries;
-mod question;
-mod reads;
-mod tables;
-mod three;
-mod words;
-
-use calls::{Call, Draw, NAMES, Shape, shapes};
+use crate::calls::{Call, Draw, NAMES, Shape, shapes};
+use crate::three::{Outcome, Three};
 use sqlite::{Alter, FileStore, MemStore};
 use sqlite_disk::Memory;
 use std::alloc::Global;
 use std::io;
 use table_keys::KeyKind;
 use table_store::{StoreError, create_in_memory, create_in_memory_file};
-use three::{Outcome, Three};
 
 // How many calls of one kind were made, and how many of them refused.
 #[derive(Clone, Copy)]
@@ -160,17 +138,14 @@ fn print_all(rt: &HostRuntime, tally: &Tally) -> io::Result<()> {
     }
 }
 
-fn main(rt: HostRuntime) -> io::Result<()> {
+/// Prints how many calls on tables in a database that keeps its rows in one list agree, and how many on tables of pages.
+pub fn print_tallies(rt: &HostRuntime) -> io::Result<()> {
     match counted(rt.alloc()) {
-        Ok(tally) => print(&rt, &tally)?,
+        Ok(tally) => print(rt, &tally)?,
         Err(error) => println!(rt; "{error}")?,
     }
     match counted_in_pages(rt.alloc()) {
-        Ok(tally) => print_all(&rt, &tally)?,
-        Err(error) => println!(rt; "{error}")?,
+        Ok(tally) => print_all(rt, &tally),
+        Err(error) => println!(rt; "{error}"),
     }
-    own_errors::print_answers(&rt)?;
-    foreign::print_pages(&rt)?;
-    queries::print_answers(&rt)?;
-    reads::print_reads(&rt)
 }

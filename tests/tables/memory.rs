@@ -2,13 +2,8 @@
 //!
 //! `numbers.tsv` has 2,000 rows: a text, whether it is the text of a number that DynamoDB keeps, another text, whether it is,
 //! and how the two compare. The rows that differ are printed, and how many there are. Each line of `calls.txt` is a call on a
-//! table, or makes another one, and what it answers is printed. Calls drawn at random are in the test `table_store`.
-#![tactic(auto)]
-
-mod numbers;
-mod script;
-mod values;
-
+//! table, or makes another one, and what it answers is printed. Calls drawn at random are in `drawn`.
+use crate::{numbers, script};
 use memory_table::Table;
 use std::alloc::AllocError;
 use std::{fs, io};
@@ -57,7 +52,8 @@ fn calls(rt: &HostRuntime) -> io::Result<()> {
     Ok(())
 }
 
-fn main(rt: HostRuntime) -> io::Result<()> {
-    number_rows(&rt)?;
-    calls(&rt)
+/// Prints the rows of numbers that differ, and what the calls answer.
+pub fn print_answers(rt: &HostRuntime) -> io::Result<()> {
+    number_rows(rt)?;
+    calls(rt)
 }

@@ -1,5 +1,5 @@
 // Readers and writers that fail at each of their calls in turn.
-use crate::streams::{Endless, Sink, Source, status};
+use crate::tool::streams::{Endless, Sink, Source, status};
 use std::io::ErrorKind;
 use std::test::Fail;
 

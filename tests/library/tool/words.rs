@@ -1,5 +1,5 @@
 // Words that read nothing: a user, and those that are no command.
-use crate::streams::{Sink, Source, status};
+use crate::tool::streams::{Sink, Source, status};
 use std::alloc::Global;
 use std::io::ErrorKind;
 use std::process::Abort;
