@@ -67,9 +67,21 @@ fn made(alloc: Global, user: &User) -> Result<HashMap<String, Plain>, AllocError
     Ok(map)
 }
 
-/// What `to_item` does: makes a map of each user. How many entries they have.
+/// Does by hand what the call of this name does, for users or for the maps of them. How many users
+/// or bytes it saw, and none if there is no such name.
+pub fn call(alloc: Global, word: &str, users: &[User], maps: &Maps) -> Result<usize, AllocError> {
+    match word {
+        "to_item_by_hand" => written(alloc, users),
+        "to_attribute_value_by_hand" => listed(alloc, users),
+        "clone_by_hand" => copied(maps),
+        "from_item_by_hand" => read(alloc, maps),
+        _nothing => Ok(0),
+    }
+}
+
+// What `to_item` does: makes a map of each user. How many entries they have.
 #[inline(never)]
-pub fn written(alloc: Global, users: &[User]) -> Result<usize, AllocError> {
+fn written(alloc: Global, users: &[User]) -> Result<usize, AllocError> {
     let mut count: usize = 0;
     for user in users {
         count = count.wrapping_add(made(alloc, user)?.len());
@@ -77,16 +89,16 @@ pub fn written(alloc: Global, users: &[User]) -> Result<usize, AllocError> {
     Ok(count)
 }
 
-/// What `to_attribute_value` does of a list: makes a map of each user, and keeps them all. How many
-/// there are.
+// What `to_attribute_value` does of a list: makes a map of each user, and keeps them all. How many
+// there are.
 #[inline(never)]
-pub fn listed(alloc: Global, users: &[User]) -> Result<usize, AllocError> {
+fn listed(alloc: Global, users: &[User]) -> Result<usize, AllocError> {
     Ok(Maps::kept(alloc, users)?.0.len())
 }
 
-/// What `clone` does of items: copies the maps. How many there are.
+// What `clone` does of items: copies the maps. How many there are.
 #[inline(never)]
-pub fn copied(maps: &Maps) -> Result<usize, AllocError> {
+fn copied(maps: &Maps) -> Result<usize, AllocError> {
     Ok(maps.copies()?.0.len())
 }
 
@@ -103,10 +115,10 @@ fn in_order(
     Ok(entries)
 }
 
-/// What `from_item` does: copies the maps, and takes each apart to a user, its entries in the order
-/// of their keys. How long their ids are.
+// What `from_item` does: copies the maps, and takes each apart to a user, its entries in the order
+// of their keys. How long their ids are.
 #[inline(never)]
-pub fn read(alloc: Global, maps: &Maps) -> Result<usize, AllocError> {
+fn read(alloc: Global, maps: &Maps) -> Result<usize, AllocError> {
     let mut count: usize = 0;
     for map in maps.copies()?.0 {
         let mut user = User {

@@ -23,12 +23,7 @@ fn call(alloc: Global, word: &str, depth: u32) -> Result<bool> {
             drop(lists(alloc, depth)?);
             Ok(true)
         }
-        "depth_equal" => {
-            let (one, other) = (lists(alloc, depth)?, lists(alloc, depth)?);
-            let same = one == other;
-            forget((one, other));
-            Ok(same)
-        }
+        "depth_equal" => is_equal(alloc, depth),
         "depth_clone" => {
             let value = lists(alloc, depth)?;
             forget(value.clone()?);
@@ -47,6 +42,13 @@ fn call(alloc: Global, word: &str, depth: u32) -> Result<bool> {
             Ok(true)
         }
     }
+}
+
+fn is_equal(alloc: Global, depth: u32) -> Result<bool> {
+    let (one, other) = (lists(alloc, depth)?, lists(alloc, depth)?);
+    let same = one == other;
+    forget((one, other));
+    Ok(same)
 }
 
 // A null in so many lists.

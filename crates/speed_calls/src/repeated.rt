@@ -18,34 +18,55 @@ pub fn run(rt: &HostRuntime, word: &str, repeats: u32) -> io::Result<()> {
     }
 }
 
+// What the calls take: users, and items and maps of them.
+#[derive(Drop)]
+struct Given {
+    users: Vec<User>,
+    items: Items,
+    lent: Vec<Item>,
+    maps: Maps,
+}
+
+impl Given {
+    fn new(alloc: Global) -> Result<Given> {
+        let users = users(alloc)?;
+        let items = items(alloc, users.as_slice())?;
+        let lent = each_item(items.clone()?, alloc)?;
+        let maps = Maps::of(alloc, users.as_slice())?;
+        Ok(Given {
+            users,
+            items,
+            lent,
+            maps,
+        })
+    }
+}
+
 // How many users were seen in all.
 fn repeat(alloc: Global, word: &str, repeats: u32) -> Result<usize> {
-    let users = users(alloc)?;
-    let items = items(alloc, users.as_slice())?;
-    let lent_items = each_item(items.clone()?, alloc)?;
-    let maps = Maps::of(alloc, users.as_slice())?;
+    let given = Given::new(alloc)?;
     let mut seen: usize = 0;
     for _ in 0..repeats {
-        let count = match word {
-            "to_item" => written(alloc, users.as_slice())?,
-            "to_attribute_value" => listed(alloc, &users)?,
-            "to_json_value" => listed_as_json(alloc, &users)?,
-            "clone" => copied(&items)?,
-            "from_item" => read(alloc, items.clone()?)?,
-            "from_items" => read_all(alloc, items.clone()?)?,
-            "from_item_located" => read_located(alloc, items.clone()?)?,
-            "from_item_ref" => lent(alloc, &lent_items)?,
-            "from_item_ref_located" => lent_located(alloc, &lent_items)?,
-            "to_item_located" => written_located(alloc, users.as_slice())?,
-            "to_item_by_hand" => by_hand::written(alloc, users.as_slice())?,
-            "to_attribute_value_by_hand" => by_hand::listed(alloc, users.as_slice())?,
-            "clone_by_hand" => by_hand::copied(&maps)?,
-            "from_item_by_hand" => by_hand::read(alloc, &maps)?,
-            _nothing => 0,
-        };
-        seen = seen.wrapping_add(count);
+        seen = seen.wrapping_add(call(alloc, word, &given)?);
     }
     Ok(seen)
+}
+
+// Makes the call of this name once: how many users it saw.
+fn call(alloc: Global, word: &str, given: &Given) -> Result<usize> {
+    match word {
+        "to_item" => written(alloc, given.users.as_slice()),
+        "to_attribute_value" => listed(alloc, &given.users),
+        "to_json_value" => listed_as_json(alloc, &given.users),
+        "clone" => copied(&given.items),
+        "from_item" => read(alloc, &given.items),
+        "from_items" => read_all(alloc, &given.items),
+        "from_item_located" => read_located(alloc, &given.items),
+        "from_item_ref" => lent(alloc, &given.lent),
+        "from_item_ref_located" => lent_located(alloc, &given.lent),
+        "to_item_located" => written_located(alloc, given.users.as_slice()),
+        _by_hand => Ok(by_hand::call(alloc, word, given.users.as_slice(), &given.maps)?),
+    }
 }
 
 #[inline(never)]
@@ -70,9 +91,9 @@ fn listed_as_json(alloc: Global, users: &Vec<User>) -> Result<usize> {
 }
 
 #[inline(never)]
-fn read(alloc: Global, items: Items) -> Result<usize> {
+fn read(alloc: Global, items: &Items) -> Result<usize> {
     let mut count: usize = 0;
-    let maps: Vec<HashMap<String, AttributeValue>> = items.into();
+    let maps: Vec<HashMap<String, AttributeValue>> = items.clone()?.into();
     for map in maps {
         let user: User = from_item(alloc, Item::from(map))?;
         count = count.wrapping_add(user.id.len());
@@ -91,9 +112,9 @@ fn each_item(items: Items, alloc: Global) -> Result<Vec<Item>> {
 }
 
 #[inline(never)]
-fn read_located(alloc: Global, items: Items) -> Result<usize> {
+fn read_located(alloc: Global, items: &Items) -> Result<usize> {
     let mut count: usize = 0;
-    let maps: Vec<HashMap<String, AttributeValue>> = items.into();
+    let maps: Vec<HashMap<String, AttributeValue>> = items.clone()?.into();
     for map in maps {
         match from_item_located::<User>(alloc, Item::from(map)) {
             Ok(user) => count = count.wrapping_add(user.id.len()),
@@ -138,8 +159,8 @@ fn written_located(alloc: Global, users: &[User]) -> Result<usize> {
 }
 
 #[inline(never)]
-fn read_all(alloc: Global, items: Items) -> Result<usize> {
-    let users: Vec<User> = from_items(alloc, items)?;
+fn read_all(alloc: Global, items: &Items) -> Result<usize> {
+    let users: Vec<User> = from_items(alloc, items.clone()?)?;
     Ok(users.len())
 }
 
