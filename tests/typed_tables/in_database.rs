@@ -115,9 +115,9 @@ fn a_service_of_bookings(rt: HostRuntime) -> Result<(), Fail> {
     Ok(())
 }
 
-const NIGHTS: u32 = 60;
+const NIGHTS: u32 = 120;
 
-// Bookings, which are put more often than the log has pages. Each is put, replaced by another guest's, and paid. Every fourth is deleted.
+// Bookings of more nights than the log has pages. Each is put, replaced by another guest's, and paid. Every fourth is deleted.
 fn book_many(rt: &impl Abort, alloc: Global) -> anyhow::Result<()> {
     let mut table = TypedStore::create_in_memory_file(alloc, "bookings")?;
     for guest in ["Ford", "Arthur"] {
@@ -138,7 +138,7 @@ fn book_many(rt: &impl Abort, alloc: Global) -> anyhow::Result<()> {
             assert!(rt; table.delete(&key)?);
         }
     }
-    let key = table.key_from("blue", Some("59"))?;
+    let key = table.key_from("blue", Some("99"))?;
     let mut query = Query::of(&key.partition);
     query.backward = true;
     query.limit = 3;
@@ -146,9 +146,9 @@ fn book_many(rt: &impl Abort, alloc: Global) -> anyhow::Result<()> {
     let found = table.query(&query)?;
     assert_eq!(rt;
         bookings(alloc, &found)?.as_str(),
-        "blue 58 Arthur 58,blue 57 Arthur 57,blue 56 Arthur 56,"
+        "blue 98 Arthur 98,blue 97 Arthur 97,blue 96 Arthur 96,"
     );
-    assert_eq!(rt; table.scan_all()?.len(), 45);
+    assert_eq!(rt; table.scan_all()?.len(), 90);
     Ok(())
 }
 

@@ -67,8 +67,8 @@ fn made(alloc: Global, user: &User) -> Result<HashMap<String, Plain>, AllocError
     Ok(map)
 }
 
-/// Does by hand what the call of this name does, for users or for the maps of them. How many users
-/// or bytes it saw, and none if there is no such name.
+/// Does by hand what the call of this name does, for users or for the maps of them. Returns how many
+/// entries, users or bytes it counted, and 0 if there is no such name.
 pub fn call(alloc: Global, word: &str, users: &[User], maps: &Maps) -> Result<usize, AllocError> {
     match word {
         "to_item_by_hand" => written(alloc, users),

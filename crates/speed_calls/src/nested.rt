@@ -44,6 +44,7 @@ fn call(alloc: Global, word: &str, depth: u32) -> Result<bool> {
     }
 }
 
+// Whether two values of lists so deep are equal.
 fn is_equal(alloc: Global, depth: u32) -> Result<bool> {
     let (one, other) = (lists(alloc, depth)?, lists(alloc, depth)?);
     let same = one == other;
