@@ -1,4 +1,4 @@
-//! A described type, as `./dynamo_derive` prints it. What was stored of it is proved to read back: the contract of `stored`.
+//! A described type, as `./dynamo_derive` prints it. What was stored of it is proved to read back: the contract of `reread_station`.
 //! In crates.txt: `described_type: dynamo_record dynamo_value serde_dynamo serde_json anyhow`
 #![tactic(auto)]
 
@@ -80,7 +80,7 @@ impl Shaped for Station {
 }
 
 /// Returns what was stored of a station: its attribute value, its DynamoDB JSON, and the station that was read from it.
-pub fn stored(
+pub fn reread_station(
     alloc: Global,
     station: &Station,
 ) -> serde_dynamo::Result<(AttributeValue, Value, Station)>
@@ -92,7 +92,7 @@ pub fn stored(
 
 fn main(rt: HostRuntime) -> anyhow::Result<()> {
     let id = String::from_str(rt.alloc(), "north")?;
-    let (value, _, read) = stored(rt.alloc(), &Station { id, reading: 7 })?;
+    let (value, _, read) = reread_station(rt.alloc(), &Station { id, reading: 7 })?;
     println!(rt; "{}", value.to_json_text(rt.alloc())?)?;
     println!(rt; "{read:?}")?;
     Ok(())

@@ -23,7 +23,7 @@ not JSON
 fn main(rt: HostRuntime) -> anyhow::Result<()> {
     let alloc = rt.alloc();
     // Standard input is read by `BufReader::new(alloc, rt.reader())?` in place of the bytes.
-    let mut lines = Lines::new(alloc, EXPORT.as_bytes());
+    let mut lines = Lines::with_limit(alloc, EXPORT.as_bytes(), 4 << 20);
     let (mut read, mut failed) = (0u32, 0u32);
     for _ in 0..u64::MAX {
         match lines.next_line() {

@@ -21,7 +21,7 @@ fn main(rt: HostRuntime) -> anyhow::Result<()> {
     let mut music = create_at(&rt, "music.db", "Music", schema)?;
 
     // A file is read by `BufReader::new(alloc, file)?` in place of the bytes.
-    let mut lines = Lines::new(alloc, EXPORT.as_bytes());
+    let mut lines = Lines::with_limit(alloc, EXPORT.as_bytes(), 4 << 20);
     let mut items: Vec<Item> = Vec::new(alloc);
     for _ in 0..u64::MAX {
         match lines.next_line() {

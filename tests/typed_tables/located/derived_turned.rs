@@ -1,11 +1,11 @@
 //! Items of derived types, each with one part that is turned into something else: the place that an error says is the place
 //! that was turned.
 use super::turned_texts::{order, page_of_orders};
-use super::turning::{Done, Told, Turned, Turning, first_wrong, none_wrong, told_place};
+use super::turning::{At, Done, Told, Turned, Turning, first_wrong, none_wrong, told_place};
 use dynamo_serde::{from_item_located, from_items_located, read_item_located};
 use dynamo_value::Items;
 use serde::{Deserialize, DeserializeOwned};
-use std::alloc::{AllocError, Global};
+use std::alloc::Global;
 use std::collections::{BTreeMap, HashMap};
 
 #[derive(Drop, Deserialize)]
@@ -62,7 +62,7 @@ enum Shape {
     Box { a: u8, b: u8 },
 }
 
-fn parcel_text(it: &mut Turning, at: &str) -> Done {
+fn parcel_text(it: &mut Turning, at: At<'_>) -> Done {
     it.push("{\"M\":{")?;
     it.field(at, "name", |it, at| it.string(at))?;
     it.push(",")?;
@@ -80,8 +80,7 @@ fn parcel_text(it: &mut Turning, at: &str) -> Done {
     it.push(",")?;
     it.field(at, "shape", |it, at| {
         it.push(r#"{"M":{"kind":"#)?;
-        let kind = it.inside(at, "kind")?;
-        it.part(kind.as_str(), r#"{"S":"Box"}"#, r#"{"N":"1"}"#)?;
+        it.part(At::Attribute(&at, "kind"), r#"{"S":"Box"}"#, r#"{"N":"1"}"#)?;
         it.push(",")?;
         it.field(at, "a", |it, at| it.number(at))?;
         it.push(",")?;
@@ -91,72 +90,66 @@ fn parcel_text(it: &mut Turning, at: &str) -> Done {
     it.push("}}")
 }
 
-fn lots(it: &mut Turning, at: &str) -> Done {
+fn lots(it: &mut Turning, at: At<'_>) -> Done {
     it.push(r#"{"NS":["#)?;
     for number in 0..it.draw.below(4) + 1 {
-        let place = format!(in it.alloc; "{at}[{number}]")?;
         let turned = [r#""300""#, r#""-1""#, r#""x""#][it.draw.below(3)];
         it.push(if number == 0 { "" } else { "," })?;
         let text = format!(in it.alloc; "\"{number}\"")?;
-        it.in_set(place.as_str(), text.as_str(), turned)?;
+        it.in_set(At::Element(&at, number), text.as_str(), turned)?;
     }
     it.push("]}")
 }
 
 // The keys are numbers. One that is turned is a number that is too great, or none.
-fn shelves(it: &mut Turning, at: &str) -> Done {
+fn shelves(it: &mut Turning, at: At<'_>) -> Done {
     it.push("{\"M\":{")?;
     for number in 0..it.draw.below(4) {
         let name = format!(in it.alloc; "{number}")?;
         let turned = ["256", "x"][it.draw.below(2)];
-        let place = it.inside(at, name.as_str())?;
+        let place = At::Attribute(&at, name.as_str());
         it.push(if number == 0 { "" } else { "," })?;
         it.key(at, name.as_str(), turned)?;
         it.push("{\"L\":[")?;
-        it.number(element(it, place.as_str(), 0)?.as_str())?;
+        it.number(At::Element(&place, 0))?;
         it.push(",")?;
-        it.string(element(it, place.as_str(), 1)?.as_str())?;
+        it.string(At::Element(&place, 1))?;
         it.push("]}")?;
     }
     it.push("}}")
 }
 
-fn element(it: &Turning, at: &str, index: usize) -> Result<String, AllocError> {
-    format!(in it.alloc; "{at}[{index}]")
-}
-
-fn ways(it: &mut Turning, at: &str) -> Done {
+fn ways(it: &mut Turning, at: At<'_>) -> Done {
     it.push("{\"L\":[")?;
     for number in 0..it.draw.below(4) {
         it.push(if number == 0 { "" } else { "," })?;
-        let place = element(it, at, number)?;
-        way_text(it, place.as_str())?;
+        way_text(it, At::Element(&at, number))?;
     }
     it.push("]}")
 }
 
 // A variant whose name is turned is unknown, and then the whole enum is what is wrong.
-fn way_text(it: &mut Turning, at: &str) -> Done {
+fn way_text(it: &mut Turning, at: At<'_>) -> Done {
     let variant = it.draw.below(3);
     let name = ["Road", "Rail", "Sea"][variant];
     it.push("{\"M\":{")?;
-    let inside = it.inside(at, name)?;
+    let inside = At::Attribute(&at, name);
     it.name(at, name)?;
     match variant {
-        0 => it.number(inside.as_str())?,
-        1 => rail(it, inside.as_str())?,
+        0 => it.number(inside)?,
+        1 => rail(it, inside)?,
         _ => {
             it.push("{\"L\":[")?;
-            it.string(element(it, inside.as_str(), 0)?.as_str())?;
+            it.string(At::Element(&inside, 0))?;
             it.push(",")?;
-            it.number(element(it, inside.as_str(), 1)?.as_str())?;
+            it.number(At::Element(&inside, 1))?;
             it.push("]}")?;
         }
     }
     it.push("}}")
 }
 
-fn rail(it: &mut Turning, at: &str) -> Done {
+fn rail(it: &mut Turning, at: At<'_>) -> Done {
     it.push("{\"M\":{")?;
     it.field(at, "cars", |it, at| it.number(at))?;
     it.push(",")?;

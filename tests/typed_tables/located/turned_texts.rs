@@ -1,7 +1,7 @@
 //! The texts of items of described types, by their parts.
-use super::turning::{Done, Turning};
+use super::turning::{At, Done, Turning};
 
-pub(crate) fn order(it: &mut Turning, at: &str) -> Done {
+pub(crate) fn order(it: &mut Turning, at: At<'_>) -> Done {
     it.push("{\"M\":{")?;
     it.field(at, "id", |it, at| it.string(at))?;
     it.push(",")?;
@@ -15,20 +15,18 @@ pub(crate) fn order(it: &mut Turning, at: &str) -> Done {
     it.push("}}")
 }
 
-fn stock(it: &mut Turning, at: &str) -> Done {
+fn stock(it: &mut Turning, at: At<'_>) -> Done {
     it.push("{\"M\":{")?;
     for number in 0..it.draw.below(4) {
-        let name = format!(in it.alloc; "n{number}")?;
-        let place = it.inside(at, name.as_str())?;
-        let comma = if number == 0 { "" } else { "," };
-        let key = format!(in it.alloc; "{comma}\"{name}\":")?;
-        it.push(key.as_str())?;
-        it.number(place.as_str())?;
+        let name = ["n0", "n1", "n2"][number];
+        it.push(if number == 0 { "" } else { "," })?;
+        it.push_key(name)?;
+        it.number(At::Attribute(&at, name))?;
     }
     it.push("}}")
 }
 
-fn home(it: &mut Turning, at: &str) -> Done {
+fn home(it: &mut Turning, at: At<'_>) -> Done {
     it.push("{\"M\":{")?;
     it.field(at, "city", |it, at| it.string(at))?;
     it.optional(at, "zip", |it, at| it.number(at))?;
@@ -38,44 +36,43 @@ fn home(it: &mut Turning, at: &str) -> Done {
 // A list of up to so many parts, and of one at least.
 fn list(
     it: &mut Turning,
-    at: &str,
+    at: At<'_>,
     most: usize,
-    part: impl Fn(&mut Turning, &str) -> Done,
+    part: impl Fn(&mut Turning, At<'_>) -> Done,
 ) -> Done {
     it.push("{\"L\":[")?;
     for number in 0..it.draw.below(most) + 1 {
         it.push(if number == 0 { "" } else { "," })?;
-        let place = format!(in it.alloc; "{at}[{number}]")?;
-        part(it, place.as_str())?;
+        part(it, At::Element(&at, number))?;
     }
     it.push("]}")
 }
 
 // A page of items.
-fn page(it: &mut Turning, at: &str, item: impl Fn(&mut Turning, &str) -> Done) -> Done {
+fn page(it: &mut Turning, at: At<'_>, item: impl Fn(&mut Turning, At<'_>) -> Done) -> Done {
     it.push("{\"M\":{")?;
     it.field(at, "items", |it, at| list(it, at, 3, &item))?;
     it.optional(at, "next", |it, at| it.string(at))?;
     it.push("}}")
 }
 
-pub(crate) fn page_of_orders(it: &mut Turning, at: &str) -> Done {
+pub(crate) fn page_of_orders(it: &mut Turning, at: At<'_>) -> Done {
     page(it, at, order)
 }
 
-pub(crate) fn page_of_lots(it: &mut Turning, at: &str) -> Done {
+pub(crate) fn page_of_lots(it: &mut Turning, at: At<'_>) -> Done {
     page(it, at, lots)
 }
 
-pub(crate) fn page_of_entities(it: &mut Turning, at: &str) -> Done {
+pub(crate) fn page_of_entities(it: &mut Turning, at: At<'_>) -> Done {
     page(it, at, entity)
 }
 
-pub(crate) fn page_of_shipments(it: &mut Turning, at: &str) -> Done {
+pub(crate) fn page_of_shipments(it: &mut Turning, at: At<'_>) -> Done {
     page(it, at, shipment)
 }
 
-pub(crate) fn roster(it: &mut Turning, at: &str) -> Done {
+pub(crate) fn roster(it: &mut Turning, at: At<'_>) -> Done {
     it.push("{\"M\":{")?;
     it.field(at, "id", |it, at| it.string(at))?;
     it.push(",")?;
@@ -94,14 +91,14 @@ pub(crate) fn roster(it: &mut Turning, at: &str) -> Done {
 }
 
 // What no field takes is read all the same.
-fn ignored(it: &mut Turning, at: &str) -> Done {
-    let place = format!(in it.alloc; "{at}[1].number")?;
+fn ignored(it: &mut Turning, at: At<'_>) -> Done {
+    let place = At::Attribute(&At::Element(&at, 1), "number");
     it.push(r#"{"L":[{"SS":["x"]},{"M":{"a":{"NULL":true},"number":"#)?;
-    it.part(place.as_str(), r#"{"N":"7"}"#, r#"{"N":"x"}"#)?;
+    it.part(place, r#"{"N":"7"}"#, r#"{"N":"x"}"#)?;
     it.push("}}]}")
 }
 
-fn string_set(it: &mut Turning, at: &str) -> Done {
+fn string_set(it: &mut Turning, at: At<'_>) -> Done {
     let other = [r#"{"NS":["1","2"]}"#, r#"{"BS":["/w=="]}"#][it.draw.below(2)];
     if it.set_turns(at, r#"{"S":"x"}"#, other)? {
         return Ok(());
@@ -110,23 +107,22 @@ fn string_set(it: &mut Turning, at: &str) -> Done {
     it.push(text)
 }
 
-fn number_set(it: &mut Turning, at: &str) -> Done {
+fn number_set(it: &mut Turning, at: At<'_>) -> Done {
     let other = [r#"{"SS":["1"]}"#, r#"{"BS":["AQI="]}"#][it.draw.below(2)];
     if it.set_turns(at, r#"{"NULL":true}"#, other)? {
         return Ok(());
     }
     it.push("{\"NS\":[")?;
     for number in 0..it.draw.below(4) + 1 {
-        let place = format!(in it.alloc; "{at}[{number}]")?;
         let text = format!(in it.alloc; "\"{number}\"")?;
         let turned = [r#""x""#, r#""-1""#, r#""1.5""#][it.draw.below(3)];
         it.push(if number == 0 { "" } else { "," })?;
-        it.in_set(place.as_str(), text.as_str(), turned)?;
+        it.in_set(At::Element(&at, number), text.as_str(), turned)?;
     }
     it.push("]}")
 }
 
-fn binary_set(it: &mut Turning, at: &str) -> Done {
+fn binary_set(it: &mut Turning, at: At<'_>) -> Done {
     if it.set_turns(at, r#"{"B":"AQI="}"#, r#"{"NS":["1"]}"#)? {
         return Ok(());
     }
@@ -135,7 +131,7 @@ fn binary_set(it: &mut Turning, at: &str) -> Done {
 }
 
 // How many there are at each side, twice.
-fn lots(it: &mut Turning, at: &str) -> Done {
+fn lots(it: &mut Turning, at: At<'_>) -> Done {
     it.push("{\"M\":{")?;
     it.field(at, "hashed", sides)?;
     it.push(",")?;
@@ -144,19 +140,18 @@ fn lots(it: &mut Turning, at: &str) -> Done {
 }
 
 // A key that is turned is no side.
-fn sides(it: &mut Turning, at: &str) -> Done {
+fn sides(it: &mut Turning, at: At<'_>) -> Done {
     it.push("{\"M\":{")?;
     for side in ["Left", "Right"] {
         it.push(if side == "Left" { "" } else { "," })?;
-        let place = it.inside(at, side)?;
         it.key(at, side, "Middle")?;
-        it.number(place.as_str())?;
+        it.number(At::Attribute(&at, side))?;
     }
     it.push("}}")
 }
 
 // A customer, an order or a counter, with the variant's name among its fields.
-fn entity(it: &mut Turning, at: &str) -> Done {
+fn entity(it: &mut Turning, at: At<'_>) -> Done {
     let variant = it.draw.below(3);
     let tag = [r#"{"S":"Customer"}"#, r#"{"S":"Order"}"#, r#"{"S":"Counter"}"#][variant];
     let turned = [r#"{"S":"Line"}"#, r#"{"N":"1"}"#][it.draw.below(2)];
@@ -179,7 +174,7 @@ fn entity(it: &mut Turning, at: &str) -> Done {
 }
 
 // A variant whose name is turned is unknown, and then the whole enum is what is wrong.
-fn shipment(it: &mut Turning, at: &str) -> Done {
+fn shipment(it: &mut Turning, at: At<'_>) -> Done {
     let variant = it.draw.below(4);
     if variant == 0 {
         let turned = [r#"{"S":"Lost"}"#, r#"{"N":"1"}"#, r#"{"M":{}}"#][it.draw.below(3)];
@@ -187,28 +182,27 @@ fn shipment(it: &mut Turning, at: &str) -> Done {
     }
     let name = ["Waiting", "Tracked", "Between", "Delivered"][variant];
     it.push("{\"M\":{")?;
-    let inside = it.inside(at, name)?;
+    let inside = At::Attribute(&at, name);
     it.name(at, name)?;
     match variant {
-        1 => it.string(inside.as_str())?,
-        2 => between(it, inside.as_str())?,
-        _ => delivered(it, inside.as_str())?,
+        1 => it.string(inside)?,
+        2 => between(it, inside)?,
+        _ => delivered(it, inside)?,
     }
     it.push("}}")
 }
 
 // The numbers of the shelves.
-fn between(it: &mut Turning, at: &str) -> Done {
+fn between(it: &mut Turning, at: At<'_>) -> Done {
     it.push("{\"L\":[")?;
     for number in 0..2 {
         it.push(if number == 0 { "" } else { "," })?;
-        let place = format!(in it.alloc; "{at}[{number}]")?;
-        it.number(place.as_str())?;
+        it.number(At::Element(&at, number))?;
     }
     it.push("]}")
 }
 
-fn delivered(it: &mut Turning, at: &str) -> Done {
+fn delivered(it: &mut Turning, at: At<'_>) -> Done {
     it.push("{\"M\":{")?;
     it.field(at, "at", |it, at| it.number(at))?;
     it.push(",")?;

@@ -3,6 +3,7 @@ use dynamo_json::DynamoJson;
 use dynamo_place::{LocatedError, Place};
 use dynamo_value::{AttributeValue, Error, Item};
 use std::alloc::{AllocError, Global};
+use std::fmt;
 use std::process::Abort;
 
 // How many items of each type are read: of nine types, of which six are described.
@@ -19,6 +20,25 @@ impl Draw {
         let state = self.state.wrapping_mul(6_364_136_223_846_793_005);
         self.state = state.wrapping_add(1_442_695_040_888_963_407);
         ((self.state >> 33) as usize) % end.max(1)
+    }
+}
+
+// Where a part of an item is, as its place is printed.
+#[derive(Clone, Copy)]
+pub(crate) enum At<'a> {
+    Whole,
+    Attribute(&'a At<'a>, &'a str),
+    Element(&'a At<'a>, usize),
+}
+
+impl fmt::Display for At<'_> {
+    fn fmt<W: fmt::Write>(&self, f: &mut fmt::Formatter<W>) -> fmt::Result {
+        match self {
+            At::Whole => Ok(()),
+            At::Attribute(At::Whole, name) => f.write_str(name),
+            At::Attribute(at, name) => write!(f, "{at}.{name}"),
+            At::Element(at, index) => write!(f, "{at}[{index}]"),
+        }
     }
 }
 
@@ -70,8 +90,8 @@ impl Turning {
     }
 
     // Writes the text of the part that is turned, whose place this is.
-    fn push_turned(&mut self, place: &str, part: Part, text: &str) -> Done {
-        self.at = Some((String::from_str(self.alloc, place)?, part));
+    fn push_turned(&mut self, at: At<'_>, part: Part, text: &str) -> Done {
+        self.at = Some((at.to_string(self.alloc)?, part));
         self.push(text)
     }
 
@@ -80,28 +100,28 @@ impl Turning {
     }
 
     // A value with this text, or another one if it is turned.
-    pub(crate) fn part(&mut self, place: &str, text: &str, turned: &str) -> Done {
+    pub(crate) fn part(&mut self, at: At<'_>, text: &str, turned: &str) -> Done {
         if self.turns() {
             let part = Part::Value(String::from_str(self.alloc, turned)?);
-            return self.push_turned(place, part, turned);
+            return self.push_turned(at, part, turned);
         }
         self.push(text)
     }
 
-    pub(crate) fn string(&mut self, place: &str) -> Done {
-        self.part(place, r#"{"S":"x"}"#, r#"{"N":"1"}"#)
+    pub(crate) fn string(&mut self, at: At<'_>) -> Done {
+        self.part(at, r#"{"S":"x"}"#, r#"{"N":"1"}"#)
     }
 
-    pub(crate) fn number(&mut self, place: &str) -> Done {
+    pub(crate) fn number(&mut self, at: At<'_>) -> Done {
         let texts = [r#"{"S":"1"}"#, r#"{"N":"-1"}"#, r#"{"N":"x"}"#, r#"{"L":[]}"#];
         let turned = texts[self.draw.below(4)];
-        self.part(place, r#"{"N":"7"}"#, turned)
+        self.part(at, r#"{"N":"7"}"#, turned)
     }
 
     // An element of a set with this text, or another one if it is turned.
-    pub(crate) fn in_set(&mut self, place: &str, text: &str, turned: &str) -> Done {
+    pub(crate) fn in_set(&mut self, at: At<'_>, text: &str, turned: &str) -> Done {
         if self.turns() {
-            return self.push_turned(place, Part::InSet, turned);
+            return self.push_turned(at, Part::InSet, turned);
         }
         self.push(text)
     }
@@ -110,18 +130,17 @@ impl Turning {
     // whose first element is what is wrong then.
     pub(crate) fn set_turns(
         &mut self,
-        place: &str,
+        at: At<'_>,
         no_set: &str,
         other: &str,
     ) -> Result<bool, AllocError> {
         if self.turns() {
             let part = Part::Value(String::from_str(self.alloc, no_set)?);
-            self.push_turned(place, part, no_set)?;
+            self.push_turned(at, part, no_set)?;
             return Ok(true);
         }
         if self.turns() {
-            let first = format!(in self.alloc; "{place}[0]")?;
-            self.push_turned(first.as_str(), Part::InSet, other)?;
+            self.push_turned(At::Element(&at, 0), Part::InSet, other)?;
             return Ok(true);
         }
         Ok(false)
@@ -129,69 +148,64 @@ impl Turning {
 
     // The key of an entry of the map at a place, or another key if it is turned, and then its entry
     // is what is wrong.
-    pub(crate) fn key(&mut self, within: &str, key: &str, turned: &str) -> Done {
+    pub(crate) fn key(&mut self, within: At<'_>, key: &str, turned: &str) -> Done {
         if self.turns() {
-            let place = self.inside(within, turned)?;
-            let text = format!(in self.alloc; "\"{turned}\":")?;
-            return self.push_turned(place.as_str(), Part::Entry, text.as_str());
+            self.push_turned(At::Attribute(&within, turned), Part::Entry, "")?;
+            return self.push_key(turned);
         }
-        let text = format!(in self.alloc; "\"{key}\":")?;
-        self.push(text.as_str())
+        self.push_key(key)
+    }
+
+    pub(crate) fn push_key(&mut self, key: &str) -> Done {
+        self.push("\"")?;
+        self.push(key)?;
+        self.push("\":")
     }
 
     // The name of a field of the struct, or of the variant of the enum, at a place. If it is
     // turned, that one is missing, and the struct or the enum is what is wrong.
-    pub(crate) fn name(&mut self, within: &str, name: &str) -> Done {
+    pub(crate) fn name(&mut self, within: At<'_>, name: &str) -> Done {
         if self.turns() {
             let part = Part::Lacking(String::from_str(self.alloc, name)?);
             return self.push_turned(within, part, "\"other\":");
         }
-        let text = format!(in self.alloc; "\"{name}\":")?;
-        self.push(text.as_str())
+        self.push_key(name)
     }
 
     // A list of strings.
-    pub(crate) fn strings(&mut self, place: &str) -> Done {
+    pub(crate) fn strings(&mut self, at: At<'_>) -> Done {
         self.push(r#"{"L":["#)?;
-        for at in 0..self.draw.below(4) {
-            self.push(if at == 0 { "" } else { "," })?;
-            let place = format!(in self.alloc; "{place}[{at}]")?;
-            self.string(place.as_str())?;
+        for index in 0..self.draw.below(4) {
+            self.push(if index == 0 { "" } else { "," })?;
+            self.string(At::Element(&at, index))?;
         }
         self.push("]}")
-    }
-
-    pub(crate) fn inside(&self, place: &str, field: &str) -> Result<String, AllocError> {
-        let dot = if place.is_empty() { "" } else { "." };
-        format!(in self.alloc; "{place}{dot}{field}")
     }
 
     // A field, by what writes its value.
     pub(crate) fn field(
         &mut self,
-        within: &str,
+        within: At<'_>,
         field: &str,
-        value: impl FnOnce(&mut Turning, &str) -> Done,
+        value: impl FnOnce(&mut Turning, At<'_>) -> Done,
     ) -> Done {
-        let place = self.inside(within, field)?;
         self.name(within, field)?;
-        value(self, place.as_str())
+        value(self, At::Attribute(&within, field))
     }
 
     // A field behind others that may be left out, so that its name isn't turned.
     pub(crate) fn optional(
         &mut self,
-        within: &str,
+        within: At<'_>,
         field: &str,
-        value: impl FnOnce(&mut Turning, &str) -> Done,
+        value: impl FnOnce(&mut Turning, At<'_>) -> Done,
     ) -> Done {
         if self.draw.below(2) == 0 {
             return Ok(());
         }
-        let place = self.inside(within, field)?;
-        let name = format!(in self.alloc; ",\"{field}\":")?;
-        self.push(name.as_str())?;
-        value(self, place.as_str())
+        self.push(",")?;
+        self.push_key(field)?;
+        value(self, At::Attribute(&within, field))
     }
 }
 
@@ -214,12 +228,12 @@ fn item(alloc: Global, text: &str) -> anyhow::Result<Item> {
 fn turn(
     alloc: Global,
     seed: u64,
-    write: &impl Fn(&mut Turning, &str) -> Done,
+    write: &impl Fn(&mut Turning, At<'_>) -> Done,
 ) -> anyhow::Result<Turned> {
     let mut whole = Turning::new(alloc, seed, usize::MAX);
-    write(&mut whole, "")?;
+    write(&mut whole, At::Whole)?;
     let mut turning = Turning::new(alloc, seed, (seed as usize * 7_919) % whole.parts);
-    write(&mut turning, "")?;
+    write(&mut turning, At::Whole)?;
     let turned = item(alloc, turning.text.as_str())?;
     let Some(at) = turning.at else {
         anyhow::bail!("{}: nothing was turned", turning.text);
@@ -241,19 +255,20 @@ pub(crate) fn told_place<T: Drop>(read: Result<T, LocatedError<Error>>) -> anyho
 }
 
 // Whether an item has something at a place, if there is an item.
-fn is_found_in(item: &Option<Item>, place: &Place) -> anyhow::Result<Option<bool>> {
-    let Some(item) = item else {
-        return Ok(None);
-    };
-    let item = AttributeValue::M(item.clone()?.into_inner());
-    Ok(Some(place.find(&item).is_some()))
+fn is_found_in(item: Option<Item>, place: &Place) -> Option<bool> {
+    item.map(|item| place.find(&AttributeValue::M(item.into_inner())).is_some())
 }
 
 // Whether what is found at a place is what the item was turned into there, and not what it was.
-fn is_found(alloc: Global, it: &Turned, place: &Place) -> anyhow::Result<bool> {
-    let turned = AttributeValue::M(it.turned.clone()?.into_inner());
-    let was_there = is_found_in(&it.whole, place)?;
-    Ok(match (&it.part, place.find(&turned)) {
+fn is_found(
+    alloc: Global,
+    place: &Place,
+    part: &Part,
+    turned: &AttributeValue,
+    whole: Option<Item>,
+) -> anyhow::Result<bool> {
+    let was_there = is_found_in(whole, place);
+    Ok(match (part, place.find(turned)) {
         (Part::Value(text), Some(found)) => {
             *found == AttributeValue::from_json_text(alloc, text.as_str())?
                 && was_there != Some(false)
@@ -268,35 +283,39 @@ fn is_found(alloc: Global, it: &Turned, place: &Place) -> anyhow::Result<bool> {
 // What is wrong with what is said of an item, if anything is.
 fn wrong_of(
     alloc: Global,
-    it: &Turned,
+    it: Turned,
     told: anyhow::Result<Told>,
 ) -> anyhow::Result<Option<String>> {
-    let place = match told {
-        Ok(Ok(place)) => place,
-        Ok(Err(said)) => return Ok(Some(said)),
-        Err(error) => return Ok(Some(format!(in alloc; "{error}")?)),
+    let turned = AttributeValue::M(it.turned.into_inner());
+    let wrong = match told {
+        Err(error) => format!(in alloc; "{error}")?,
+        Ok(Err(said)) => said,
+        Ok(Ok(place)) => {
+            if place.to_string(alloc)? != it.place {
+                format!(in alloc; "{place}, not {}", it.place)?
+            } else if is_found(alloc, &place, &it.part, &turned, it.whole)? {
+                return Ok(None);
+            } else {
+                format!(in alloc; "another part is found at {place}")?
+            }
+        }
     };
-    if place.to_string(alloc)? != it.place {
-        return Ok(Some(format!(in alloc; "{place}, not {}", it.place)?));
-    }
-    if !is_found(alloc, it, &place)? {
-        return Ok(Some(format!(in alloc; "another part is found at {place}")?));
-    }
-    Ok(None)
+    let text = turned.to_json_text(alloc)?;
+    Ok(Some(format!(in alloc; "{text}: {wrong}")?))
 }
 
 // The first item whose error has another place than that which was turned, by what reads it and
 // says the place.
 pub(crate) fn first_wrong(
     alloc: Global,
-    write: impl Fn(&mut Turning, &str) -> Done,
+    write: impl Fn(&mut Turning, At<'_>) -> Done,
     place_of: impl Fn(&Turned) -> anyhow::Result<Told>,
 ) -> anyhow::Result<Option<String>> {
     for seed in 0..ITEMS {
         let it = turn(alloc, seed, &write)?;
-        if let Some(wrong) = wrong_of(alloc, &it, place_of(&it))? {
-            let text = it.turned.to_json_text(alloc)?;
-            return Ok(Some(format!(in alloc; "{text}: {wrong}")?));
+        let told = place_of(&it);
+        if let Some(wrong) = wrong_of(alloc, it, told)? {
+            return Ok(Some(wrong));
         }
     }
     Ok(None)
