@@ -1,5 +1,5 @@
 //! Types that derive serde's traits, by `dynamo_serde`: each attribute, each kind of enum and of key, and twins of types that
-//! are described. What is wanted stands as DynamoDB JSON, which the library reads and writes.
+//! are described. What is wanted is given as DynamoDB JSON, which the library reads and writes.
 
 mod attributes;
 mod conversions;

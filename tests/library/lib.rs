@@ -5,7 +5,7 @@
 //! - `values`: attribute values, items and errors themselves.
 //! - `writing`, `reading`, `rereading`: values of a type that are written, read, or both.
 //! - `json`, `json_form`, `plain`: values by way of JSON, DynamoDB's form of it, and plain JSON.
-//! - `tables`: each request to each source, and each call on what stands inside of it.
+//! - `tables`: each request to each source, and each call on what is inside of it.
 //! - `tool`: what `dynamo_tool` prints.
 //! - `described`: types that are described by their fields; `derived`: types that derive serde's traits, and twins that are described.
 

@@ -14,7 +14,7 @@ struct Decimal {
 }
 
 impl Decimal {
-    // Writes a digit behind the others. Zeros before the first other digit aren't kept.
+    // Writes a digit after the others. Zeros before the first other digit aren't kept.
     fn push(&mut self, digit: u8, is_whole: bool) {
         let leads = self.len == 0 && digit == 0;
         if is_whole && !leads {
@@ -64,7 +64,7 @@ impl Decimal {
     }
 }
 
-// The number of the text behind an `e`.
+// The number of the text after an `e`.
 fn exponent(text: &[u8]) -> i64 {
     let mut size = 0i64;
     for byte in text {

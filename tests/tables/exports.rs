@@ -39,7 +39,7 @@ pub fn print_again(rt: &HostRuntime) -> io::Result<()> {
 }
 
 // The lines of so many bytes each, the line feed with them. A line has attributes that aren't in the order of their names; with
-// a member behind the item it is one of which a JSON value is made.
+// a member after the item it is one of which a JSON value is made.
 fn long_lines(alloc: Global) -> Result<String, AllocError> {
     let mut text = String::new(alloc);
     for len in [32_768, 32_769, 70_000, 400_000, 100] {

@@ -11,7 +11,7 @@ const LAST_FIRST: &str =
 const NO_KEY: &str =
     r#"UPDATE dynamo_item SET item = '{"name":{"S":"b"}}' WHERE item = '{"id":{"S":"b"}}'"#;
 
-// How many items there are behind a key.
+// How many items there are after a key.
 fn page(table: &mut TableStore<MemStore>, start_after: Option<&Key>) -> Result<usize, StoreError> {
     Ok(table.scan(10, start_after)?.len())
 }
@@ -27,7 +27,7 @@ fn after(
     TableStore::open(alloc, conn, "letters")
 }
 
-// All of three items; the same when the first row has the item of the last; those behind the first row then; and those when the
+// All of three items; the same when the first row has the item of the last; those after the first row then; and those when the
 // second row has an item without a key.
 fn pages(alloc: Global) -> Result<[Result<usize, StoreError>; 4], StoreError> {
     let mut table = create_in_memory(alloc, "letters", KeySchema::parse(alloc, &["id:S"])?)?;

@@ -43,7 +43,7 @@ fn meets(asked: Asked, word: Word) -> bool {
         }
 }
 
-// Whether a row comes behind the one after which a query starts.
+// Whether a row comes after the one after which a query starts.
 fn is_behind(asked: Asked, row: Row) -> bool {
     let Some(start) = asked.start else {
         return true;

@@ -1,4 +1,4 @@
-//! The tables in memory and in a database, and what stands on them. They are one program, since another would compile the
+//! The tables in memory and in a database, and what is built on them. They are one program, since another would compile the
 //! library once more.
 //!
 //! - `drawn`: calls drawn at random, on three tables that are to agree.

@@ -163,7 +163,7 @@ static BYTES: [&[u8]; 40] = [
     b"\xFF\xFF\xFF",
 ];
 
-/// The value of a kind at a place in its order. Behind the last comes the empty one, which no table can hold, and of the numbers
+/// The value of a kind at a place in its order. After the last comes the empty one, which no table can hold, and of the numbers
 /// come those in another spelling.
 pub fn pooled(kind: KeyKind, place: usize) -> Value {
     match kind {
@@ -233,7 +233,7 @@ impl Value {
         }
     }
 
-    /// Whether this is another string or byte string with a zero byte behind it.
+    /// Whether this is another string or byte string with a zero byte after it.
     pub fn comes_next_to(self, other: Value) -> bool {
         let (Some(bytes), Some(other)) = (self.bytes(), other.bytes()) else {
             return false;

@@ -80,7 +80,7 @@ impl Question {
         }
     }
 
-    // Whether a key comes behind the one after which the query starts.
+    // Whether a key comes after the one after which the query starts.
     fn starts_before(&self, pair: Pair) -> bool {
         match self.start {
             None => true,

@@ -5,7 +5,7 @@
 //! answers. It reads one more where a key of the table lies at the end that its range leaves out, since the database looks at
 //! that row and leaves it out: backward that row comes first, and forward last, unless the limit is reached before. The end is
 //! the bound of `<`, the least value above those of another condition, or the key after which a query starts backward. And its
-//! cursor gives one more entry at most, that behind the end.
+//! cursor gives one more entry at most, that after the end.
 use crate::calls::{Shape, Sign};
 use crate::counting::{Counted, Reads};
 use crate::pools::{COUNT, Value, pooled};
@@ -144,7 +144,7 @@ impl Watched {
     }
 }
 
-// Whether a value is the first behind those that meet what is asked of the sort key. Where all greater ones meet it, none is.
+// Whether a value is the first after those that meet what is asked of the sort key. Where all greater ones meet it, none is.
 fn is_end(asked: &Question, sort: Value) -> bool {
     match asked.sign {
         Sign::Any | Sign::Greater | Sign::GreaterOrEqual => false,
@@ -172,7 +172,7 @@ impl Outcome {
     }
 }
 
-// No start, a key of the partition, one that isn't there, and one of the partition before and of the one behind.
+// No start, a key of the partition, one that isn't there, and one of the partition before and of the one after.
 fn starts(shape: Shape) -> [Option<Pair>; 5] {
     [
         None,
@@ -184,7 +184,7 @@ fn starts(shape: Shape) -> [Option<Pair>; 5] {
 }
 
 // The places of the bounds: first the lower one has an item, and then it has none. No key of the table is one of these bounds
-// with a zero byte behind it, or comes next to all that begin with the lower one. Of the last pair there are all such keys, but
+// with a zero byte after it, or comes next to all that begin with the lower one. Of the last pair there are all such keys, but
 // none of numbers.
 fn bounds(kind: KeyKind) -> [(usize, usize); 3] {
     match kind {

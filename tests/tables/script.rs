@@ -1,4 +1,4 @@
-//! A table that is told what to do line by line. The words of a line stand between spaces.
+//! A table that follows a script, line by line. Spaces separate the words of a line.
 use crate::values::{key_value, note, reading, schema};
 use dynamo_value::Item;
 use memory_table::{Condition, Key, KeyValue, Query, SortCondition, Table, TableError};
@@ -146,7 +146,7 @@ fn mark(alloc: Global, table: &mut Table, line: &str) -> Result<String, TableErr
     }
 }
 
-// A page of at most as many items as the line says, behind the key in it, if there is one.
+// A page of at most as many items as the line says, after the key in it, if there is one.
 fn scan(alloc: Global, table: &Table, line: &str) -> Result<String, TableError> {
     let limit = word(line, 3).parse::<usize>().unwrap_or(0);
     match key(alloc, table, line) {

@@ -1,4 +1,4 @@
-//! The words of keys: twelve of each kind, in the order in which a table has them. A word behind the twelfth is no key's.
+//! The words of keys: twelve of each kind, in the order in which a table has them. A word after the twelfth is no key's.
 use dynamo_value::AttributeValue;
 use std::alloc::{AllocError, Global};
 use table_keys::{KeyKind, KeyValue, Number, TableError};

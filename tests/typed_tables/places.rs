@@ -50,7 +50,7 @@ enum Call {
     Query(&'static str, Option<&'static str>),
     // Up to so many values from the first one on.
     Scan(usize),
-    // Up to ten values behind a key.
+    // Up to ten values after a key.
     ScanBehind(&'static str, Option<&'static str>),
 }
 

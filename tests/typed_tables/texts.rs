@@ -18,7 +18,7 @@ pub fn guests(alloc: Global, guests: &Vec<Guest>) -> Result<String, AllocError> 
     Ok(text)
 }
 
-/// The bookings in order, as `room night guest` each, and what is paid behind them.
+/// The bookings in order, as `room night guest` each, and what is paid after them.
 pub fn bookings(alloc: Global, bookings: &Vec<Booking>) -> Result<String, AllocError> {
     let mut text = String::new(alloc);
     for booking in bookings {

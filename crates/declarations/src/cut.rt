@@ -18,7 +18,7 @@ struct Editor {
     line: String,
     is_cut: bool,
 
-    // Whether blanks are passed over: something was taken out behind a blank, or at the head of the
+    // Whether blanks are passed over: something was taken out after a blank, or at the head of the
     // line.
     skips_blanks: bool,
 }

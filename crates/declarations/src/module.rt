@@ -152,7 +152,7 @@ fn attribute_cuts(
     Ok(cuts)
 }
 
-// The tokens of the attribute of this name that begins at this place, and those behind the name
+// The tokens of the attribute of this name that begins at this place, and those after the name
 // inside of its brackets.
 fn attribute_of<'a>(
     tokens: &'a [Token],

@@ -55,13 +55,13 @@ pub fn refuse_equal_lists(alloc: Global, declarations: &[Declaration]) -> Result
     Ok(())
 }
 
-/// Whether an item ends with this token. Behind an import with braces the mark that ends it is an
+/// Whether an item ends with this token. After an import with braces the mark that ends it is an
 /// item of its own.
 pub fn ends_item(token: &Token) -> bool {
     token.depth == 0 && (token.is(";") || token.is("}"))
 }
 
-/// Whether the item is no more than the mark behind an import with braces.
+/// Whether the item is no more than the mark after an import with braces.
 pub fn is_end(item: &[Token]) -> bool {
     matches!(item, [end] if end.is(";"))
 }

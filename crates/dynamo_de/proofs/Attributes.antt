@@ -267,7 +267,7 @@ opened_stops seen s f (inr h) = inr (subst (λ x. Agrees view x (Err f)) (sym (a
 -- ---- elements that are taken and opened in order
 
 module _ {V E : Type 0} (fault : E → Fault) (seen : V → Opened) where
-  -- the next of what was left, with what is left behind it
+  -- the next of what was left, with what is left after it
   abbrev pub TakesOpened : List Source → List Source → Result (Option V) E → Type 0
   TakesOpened left new r = NextElement fault (λ s. Agrees seen (opened_from s)) left new r
 

@@ -94,7 +94,7 @@ pub before_nothing : (vs : List Value) → items_before vs json.no_items ≡ ite
 before_nothing [] = refl
 before_nothing (v ∷ vs) = ap (json.item (view v)) (before_nothing vs)
 
--- what is read so far, with what is left behind it
+-- what is read so far, with what is left after it
 abbrev pub ItemsFrom : List Value → List Source → Answer json.Items
 ItemsFrom vs left = read_sources left >>= λ rest. answer.value (items_before vs rest)
 

@@ -50,7 +50,7 @@ pub answer_stops : {A B V W : Type 0} (seen : V → A) (then : W → B) (next : 
 answer_stops seen then next x f (inl lacks) = inl lacks
 answer_stops seen then next x f (inr is) = inr (stops seen then next (promised x) f (fault_answered seen x f is))
 
--- ---- what is told of a refusal
+-- ---- what is known of a refusal
 
 -- a fault that replaces another, or out of memory, keeps its promise
 pub told : (o : Option Refusal) (f g : Fault) → (g ≡ f) ⊎ (g ≡ out_of_memory) → Refused o f → Refused o g
@@ -74,7 +74,7 @@ refused_alike seen other x y f same (inr h) = inr (subst (λ z. Agrees other z (
 -- ---- each in order
 
 module _ {S A V : Type 0} (seen : V → A) (f : S → Reading A) where
-  -- what is read so far, with what is left behind it
+  -- what is read so far, with what is left after it
   abbrev pub EachFrom : List V → List S → Reading (List A)
   EachFrom vs left = read_each f left >>= λ rest. Ok (map seen vs ++ rest)
 

@@ -1,4 +1,4 @@
--- Values that stand before other items of an array.
+-- Values that come before other items of an array.
 use Rattle.std.specs.Prelude.{List, [], ◌∷◌}
 use Rattle.serde_json.specs.Data as json
 use Rattle.serde_json.specs.View.{view}

@@ -12,7 +12,7 @@ Fails r (Err f) = Says r f
 abbrev pub IsMessage : {V : Type 0} → Result V Fault → Type 0
 IsMessage result = Fails any_message result
 
--- The result is a permitted one, by the fault that an error stands for. Want of memory is excused.
+-- The result is a permitted one, by the fault that an error stands for. Running out of memory is excused.
 abbrev pub Meets : {V E : Type 0} → (E → Fault) → (Result V Fault → Type 0) → Result V E → Type 0
 Meets fault permits (Ok v) = permits (Ok v)
 Meets fault permits (Err e) = (fault e ≡ out_of_memory) ⊎ permits (Err (fault e))

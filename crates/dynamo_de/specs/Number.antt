@@ -49,7 +49,7 @@ abbrev pub is_exponent : List ℕ → Bool
 is_exponent [] = true
 is_exponent (c ∷ cs) = (c == 101) && is_numeral (without_leading_sign cs)
 
--- what stands behind n digits: a point, with digits before or behind it, and an exponent
+-- what comes after n digits: a point, with digits before or after it, and an exponent
 abbrev pub is_rest : ℕ → List ℕ → Bool
 is_rest n [] = nat_lt 0 n
 is_rest n (c ∷ cs) =

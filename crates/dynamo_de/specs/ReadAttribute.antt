@@ -1,5 +1,5 @@
 -- What an attribute value and an item read from each source, at every depth, by DynamoDB JSON: an attribute value is a map of
--- one entry, whose key is a prefix and whose value is the content. Under N and S stands a string, under BOOL and NULL a boolean,
+-- one entry, whose key is a prefix and whose value is the content. Under N and S is a string, under BOOL and NULL a boolean,
 -- under B a string of base64, under M a map of attribute values, under L a sequence of them, under SS and NS a sequence of
 -- strings, under BS one of base64. An item is a map of attribute values.
 use Rattle.std.specs.Prelude.{ℕ, List, [], ◌∷◌, ◌++◌, Ok, Err}
@@ -46,7 +46,7 @@ abbrev pub refusal_of : {A : Type 0} → Answer A → Refusal
 refusal_of (Ok x) = any_message
 refusal_of (Err r) = r
 
--- A text, a number and a byte string that stand inside of an attribute value show no map.
+-- A text, a number and a byte string that are inside of an attribute value show no map.
 abbrev pub no_map : Source → Refusal
 no_map s = refusal_of (reading.read_entries s)
 
@@ -75,7 +75,7 @@ abbrev mutual
   own_refusals av.no_members = []
   own_refusals (av.member key content ms) = refusals_of (promised (known key) >>= λ p. read_content p content) ++ own_refusals ms
 
-  -- what stands under a prefix
+  -- what is under a prefix
   pub read_content : Prefix → Av → Reading Av
   read_content prefix.N a = read_text (attribute a) >>= λ text. Ok (av.N text)
   read_content prefix.S a = read_text (attribute a) >>= λ text. Ok (av.S text)
@@ -100,7 +100,7 @@ abbrev mutual
     values ← read_elements as'
     Ok (av.element value values)
 
-  -- behind the members that stand already
+  -- after the members that are there already
   pub read_members : List (List ℕ × Av) → av.Members → Reading av.Members
   read_members so_far av.no_members = Ok (members_of so_far)
   read_members so_far (av.member key a ms) = do
@@ -144,7 +144,7 @@ entry_in es = Err (several_keys ∷ own_refusals_in es)
 abbrev pub entry_from : Source → Reading (Prefix × Source)
 entry_from s = promised (reading.read_entries s) >>= entry_in
 
--- what stands under a prefix
+-- what is under a prefix
 abbrev pub content_opened : Prefix → Source → Reading Opened
 content_opened prefix.N s = read_text s >>= λ text. Ok (whole (av.N text))
 content_opened prefix.S s = read_text s >>= λ text. Ok (whole (av.S text))

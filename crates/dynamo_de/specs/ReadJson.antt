@@ -64,7 +64,7 @@ abbrev mutual
     js ← read_elements as'
     answer.value (json.item j js)
 
-  -- behind the members that stand already
+  -- after the members that are there already
   pub read_members : json.Members → av.Members → Answer json.Members
   read_members so_far av.no_members = answer.value so_far
   read_members so_far (av.member t a ms) = do

@@ -30,7 +30,7 @@ abbrev pub taken_of : {A : Type 0} → (Kind → Bool) → (Showing → Answer A
 taken_of claims take (showing.first_char c) = not_alone (first_claimed claims take (char_ways c))
 taken_of claims take s = first_claimed claims take (ways s)
 
--- what is given by who claims and takes so, or the fault that comes in its place
+-- what a visitor that claims and takes so gives, or the fault that comes in its place
 abbrev pub taken : {A : Type 0} → (Kind → Bool) → (Showing → Answer A) → Shown → Answer A
 taken claims take (Ok s) = taken_of claims take s
 taken claims take (Err f) = answer.fault f

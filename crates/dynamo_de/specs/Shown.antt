@@ -137,7 +137,7 @@ attribute_shown Enum a = enum_shown a
 attribute_shown Identifier a = text_shown a
 attribute_shown IgnoredAny a = any_shown a
 
--- ---- what stands inside of one
+-- ---- what is inside of one
 
 -- an element of a set of numbers
 abbrev pub number_text_shown : Request → List ℕ → Shown

@@ -1,4 +1,4 @@
--- What stands in a text after a value was written to it, or was not.
+-- What is in a text after a value was written to it, or was not.
 use Rattle.std.proofs.Common.{◌≡◌, ℕ, List, [], ◌++◌, Bool, if◌then◌else◌, Result, Ok, Err, OnOk, MatchResult, is_ok, ap, ap₂, ◌∙◌}
 use Rattle.dynamo_json.proofs.Common.{Token, Data, compact_text, tokens_of}
 use Rattle.json.specs.Print.{print}

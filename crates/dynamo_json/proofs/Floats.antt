@@ -1,4 +1,4 @@
--- No float stands in DynamoDB JSON, since numbers are texts.
+-- There is no float in DynamoDB JSON, since numbers are texts.
 use Rattle.std.proofs.Common.{◌≡◌, ℕ, List, [], ◌∷◌, map, false, refl}
 use Rattle.dynamo_json.proofs.Common.{has_float, items_have_float, members_have_float, base64_text}
 use Rattle.dynamo_json.proofs.Common.{elements_json, members_json, WritesNoFloat}

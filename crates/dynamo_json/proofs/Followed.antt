@@ -33,7 +33,7 @@ pub stops_for_memory : {A : Type 0} (r : Result A Stop) (stop : Stop) (Whole : T
     → IfErr r (λ s. s ≡ Stop.Unlike → Whole → ⊥)
 stops_for_memory r stop Whole is memory = stops r stop Whole Whole is (λ h. h) (λ e h. let both : Stop.OutOfMemory ≡ Stop.Unlike = sym (memory h) ∙ e in cc)
 
--- ---- a JSON value whose tokens stand next is the one that is read
+-- ---- a JSON value whose tokens come next is the one that is read
 
 mutual
   depth_outline : (d : Data) → tree.depth (outline d) ≡ depth d
@@ -94,7 +94,7 @@ same_key k l r s e = let p = ap (pick (Some k, r)) e in (ap (λ q. pick k q.0) p
 key_or_end : (k : List ℕ) (r s : List Token) → ◌≡◌ {A = Option (Option (List ℕ) × List Token)} (Some (Some k, r)) (Some (None, s)) → ⊥
 key_or_end k r s e = let here : Some k ≡ None = ap (λ q. q.0) (ap (pick (Some k, r)) e) in cc
 
--- the key of an attribute value stands next, and its content behind it
+-- the key of an attribute value comes next, and its content after it
 abbrev pub KeyIsNext : ℕ → List Token → Type 0
 KeyIsNext d s = (a : Av) × (rest : List Token) × HasBytes a × (depth (content_in a) ≤ d) × (s ≡ after_brace a rest)
 
@@ -104,7 +104,7 @@ begun d ts s h is =
     let both : token.begin_object ∷ s ≡ token.begin_object ∷ after_brace h.0 h.1 = sym is ∙ h.4 ∙ tokens_are h.0 h.1 in
     (h.0, h.1, h.2, omega (arith, h.3, deep), cc)
 
--- the content stands next, and the last brace behind it
+-- the content comes next, and the last brace after it
 abbrev pub Inside : ℕ → List ℕ → List Token → Type 0
 Inside d k t = (a : Av) × (rest : List Token) × HasBytes a × (depth (content_in a) ≤ d) × (k ≡ prefix_text (prefix_in a)) × (t ≡ tokens_of (content_in a) ++ token.end_object ∷ rest)
 
@@ -136,7 +136,7 @@ not_closed d k t new p b h stands none = none h.1 (follows d (content_in h.0) st
 
 -- ---- the members of a map
 
--- a value stands next, and the other members behind it
+-- a value comes next, and the other members after it
 abbrev pub MemberIsNext : ℕ → List Token → Type 0
 MemberIsNext d s =
     (a : Av) × (ms : av.Members) × (rest : List Token) × (HasBytes a × MembersHaveBytes ms)
@@ -182,7 +182,7 @@ pub texts_left : (ts new : List Token) (text : List ℕ) → TextsAreNext ts →
 texts_left ts new text ([], rest, is) e = let both = sym is ∙ e in absurd cc
 texts_left ts new text (t ∷ texts, rest, is) e = (texts, rest, sym (same_text t text _ new (sym is ∙ e)).1)
 
--- the base64 text of a byte string stands next, and the others behind it
+-- the base64 text of a byte string comes next, and the others after it
 abbrev pub BlobIsNext : List Token → Type 0
 BlobIsNext ts =
     (bytes : List ℕ) × (blobs : List (List ℕ)) × (rest : List Token) × (IsBytes bytes × AllByRecursion IsBytes blobs)
@@ -230,7 +230,7 @@ content_decodes d ts new text f h e refused =
 
 -- ---- the object of one item
 
--- behind the item stands the last brace, and nothing else
+-- after the item comes the last brace, and nothing else
 pub item_ends : (text name : List ℕ) (ms : av.Members) (j : Data) (outer content rest : List Token) → SpellsItem text name ms → tokens text ≡ token.begin_object ∷ outer
     → read_key outer ≡ Some (Some name, content) → Stands 126 content j rest → rest ≡ token.end_object ∷ []
 item_ends text name ms j outer content rest h first key stands =

@@ -1,4 +1,4 @@
--- What stands in the tokens of a text: the elements of an array and the members of an object, one after another.
+-- What is in the tokens of a text: the elements of an array and the members of an object, one after another.
 use Rattle.std.proofs.Common.{◌≡◌, ℕ, ◌-◌, ◌<◌, ◌≤◌, List, [], ◌∷◌, ◌++◌, length, map, Option, Some, None, option_map, option_and_then, Bool, refl, sym, ap, ◌∙◌, arith}
 use Rattle.dynamo_json.proofs.Common.{map-append, AllByRecursion, tokens, Token, parse_map}
 use Rattle.dynamo_json.proofs.Common.{after_end_array, read_key, items, members, Data, string}
@@ -99,7 +99,7 @@ pub all_and : {A : Type 0} (P : A → Type 0) (as' : List A) (a : A) → AllByRe
 all_and P [] a all here = (here, tt)
 all_and P (b ∷ as') a all here = (all.0, all_and P as' a all.1 here)
 
--- Of the elements of an array, which begin at `all`, ds have been read, and the others stand at `ts`.
+-- Of the elements of an array, which begin at `all`, ds have been read, and the others are at `ts`.
 abbrev pub ItemsLeft : ℕ → List Token → List Data → List Token → Type 0
 ItemsLeft depth all ds ts = (n : ℕ) × (length ts ≤ n) × (length ts ≤ length all)
     × (converted of_items (items (value depth) (length all) all) ≡ parse_map (before ds) (converted of_items (items (value depth) n ts)))
@@ -124,7 +124,7 @@ with_member : (k : List ℕ) (j : json.Json) (d : Data) (ms : Members) → of_js
 with_member k j d ms e None = refl
 with_member k j d ms e (Some p) = rw e
 
--- Of the members of an object, which begin at `all`, those were read that make `ms`, and the others stand at `ts`.
+-- Of the members of an object, which begin at `all`, those were read that make `ms`, and the others are at `ts`.
 abbrev pub MembersLeft : ℕ → List Token → Members → List Token → Type 0
 MembersLeft depth all ms ts = (n : ℕ) × (length ts ≤ n) × (length ts ≤ length all)
     × (onto no_members (members (value depth) (length all) all) ≡ onto ms (members (value depth) n ts))

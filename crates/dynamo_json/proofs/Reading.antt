@@ -84,7 +84,7 @@ put_last (first ∷ done) e more ms a sorted h =
     nat_list_cmp_total.antisymm (string_bytes e.0) (string_bytes first.0) ∙ ap ordering_reverse (below_middle first done e more sorted.0) in
     rw (all, above, put_last done e more others.0 a sorted.1 others.1) refl
 
--- ---- what stands under a prefix
+-- ---- what is under a prefix
 
 pub map_refused : (ms : json.Members) (g : Fault) → Refused (refusal_in (parsed_members ms)) g → Refused (refusal_in (parsed_content (json.object ms) M)) g
 map_refused ms g = refused_as (parsed_members ms) (parsed_content (json.object ms) M) g (λ x k. rw k refl)

@@ -12,7 +12,7 @@ use Rattle.json.proofs.Printed.Trees.{ArePrintable-json_tokens}
 use Rattle.serde_json.proofs.Texts.{print-outline}
 use Rattle.dynamo_json.specs.OneMember.{one_member}
 
--- no JSON number stands in it, so each is written as it is read
+-- it has no JSON number, so each is written as it is read
 
 texts_numbers : (texts : List (List ℕ)) → ItemsHaveNumbers (items_outline (items_of (map json.string texts)))
 texts_numbers [] = tt

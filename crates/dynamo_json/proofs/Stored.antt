@@ -66,7 +66,7 @@ in_order so_far ms sorted = collected so_far (written_pairs (json_pairs ms)) (λ
 
 -- ---- the elements of a list in turn
 
--- what is left, by the element that stands next
+-- what is left, by the element that comes next
 pub next_of : {X : Type 0} (left : List X → Option (List Token)) (after_it : List X → Option (List Token)) (xs : List X) (i : ℕ) (x : X)
     → i < length xs → x ≡ get_or xs i x → ((rest : List X) → left (x ∷ rest) ≡ after_it rest) → left (drop i xs) ≡ after_it (drop (i + 1) xs)
 next_of left after_it xs i x here is step =

@@ -24,7 +24,7 @@ strings_plain (text ∷ texts) = rw (strings_plain texts) refl
 under_plain : (p : Prefix) (d : Datum) (j : Data) → plain d ≡ Ok j → plain (told.under p d) ≡ Ok (under p j)
 under_plain p d j h = rw h refl
 
--- ---- a pair that stands anywhere
+-- ---- a pair that is anywhere
 
 abbrev Named : Type 0
 Named = List ℕ × Data

@@ -81,7 +81,7 @@ number_read so_far new t ts h = item_behind so_far new (read_number t) (read_num
 pub number_refused : (so_far : List Token) (t : List ℕ) (ts : List (List ℕ)) → plain_number so_far t ≡ None → numbers_behind so_far (t ∷ ts) ≡ None
 number_refused so_far t ts h = no_item so_far (read_number t) (read_numbers ts) h
 
--- behind the bracket that opens an array stands what is in it
+-- after the bracket that opens an array comes what is in it
 pub opened : (so_far : List Token) (r : Answer json.Items)
     → behind tokens_in (so_far ++ Token.begin_array ∷ []) r ≡ behind (λ js. tokens_of (json.array js)) so_far r
 opened so_far (Ok js) = ap Some (append_assoc so_far (Token.begin_array ∷ []) (tokens_in js))
@@ -105,7 +105,7 @@ pub opened_object : (so_far : List Token) (r : Answer json.Members)
 opened_object so_far (Ok js) = ap Some (append_assoc so_far (Token.begin_object ∷ []) (tokens_within js))
 opened_object so_far (Err e) = refl
 
--- ---- the members of a map, each behind those before it
+-- ---- the members of a map, each after those before it
 
 abbrev pub read_in_turn : av.Members → Answer json.Members
 read_in_turn av.no_members = Ok json.no_members

@@ -31,9 +31,9 @@ abbrev pub SpellsItem : List ℕ → List ℕ → Members → Type 0
 SpellsItem text name members = IsWritable name members
     × (tokens text ≡ tokens_of (one_member name (item_json members)))
 
--- ---- for private clauses: what stands next in the tokens
+-- ---- for private clauses: what comes next in the tokens
 
--- the prefix of an attribute value, and what stands under it
+-- the prefix of an attribute value, and what is under it
 abbrev pub prefix_in : Av → Prefix
 prefix_in (av.N text) = prefix.N
 prefix_in (av.S text) = prefix.S

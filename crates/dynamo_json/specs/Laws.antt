@@ -32,7 +32,7 @@ StandsForOne = (a b : Av) → HasBytes a → HasBytes b → json_of a ≡ json_o
 abbrev pub RefusesByMessage : Type 0
 RefusesByMessage = (j : Data) → IfErr (parsed j) SaysMessage
 
--- No float stands in the JSON value of an attribute value, so that its printed text is known.
+-- No float is in the JSON value of an attribute value, so that its printed text is known.
 abbrev pub WritesNoFloat : Type 0
 WritesNoFloat = (a : Av) → has_float (json_of a) ≡ false
 

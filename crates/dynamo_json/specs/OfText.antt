@@ -1,4 +1,4 @@
--- What is read from a text of DynamoDB JSON, where no JSON value is made: what stands next in its
+-- What is read from a text of DynamoDB JSON, where no JSON value is made: what comes next in its
 -- tokens, and why it is refused.
 use Rattle.std.specs.Prelude.{◌≡◌, ◌⊎◌, ℕ, List, length, map, Option, Some, None}
 use Rattle.json.specs.Json as json
@@ -14,12 +14,12 @@ use Rattle.dynamo_value.specs.Refusal.{Refusal, Refused}
 use Rattle.dynamo_json.specs.Json.{json_of, under}
 use Rattle.dynamo_json.specs.declared.text_error.TextError.{TextError}
 
--- A JSON value stands next in the tokens `old`, nested no deeper than so many levels, and `new`
+-- A JSON value comes next in the tokens `old`, nested no deeper than so many levels, and `new`
 -- follow it.
 abbrev pub Stands : ℕ → List Token → Data → List Token → Type 0
 Stands depth old d new = converted of_json (json.value depth old) ≡ Some (d, new)
 
--- The content of an attribute value stands next, under the prefix that its JSON value has.
+-- The content of an attribute value comes next, under the prefix that its JSON value has.
 abbrev pub ContentStands : ℕ → List Token → Prefix → Av → List Token → Type 0
 ContentStands depth old p a new = (content : Data) × Stands depth old content new
     × (json_of a ≡ under p content)

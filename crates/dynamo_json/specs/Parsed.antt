@@ -37,7 +37,7 @@ abbrev mutual
   parsed (json.object (json.member key content (json.member other value ms))) = Err several_keys
   parsed _ = Err not_an_object
 
-  -- what stands under a prefix
+  -- what is under a prefix
   pub parsed_content : Data → Prefix → Result Av Refusal
   parsed_content (json.string text) prefix.N = Ok (av.N text)
   parsed_content (json.string text) prefix.S = Ok (av.S text)

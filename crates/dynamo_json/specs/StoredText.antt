@@ -17,7 +17,7 @@ use Rattle.dynamo_json.specs.Json.{json_of, elements_json, members_json}
 use Rattle.dynamo_json.specs.Tokens.{tokens_of}
 use Rattle.dynamo_json.specs.declared.from_text.Stop.{Stop}
 
--- The tokens so far, and behind them those of a result; none where it is a fault.
+-- The tokens so far, and after them those of a result; none where it is a fault.
 abbrev pub behind : {A E : Type 0} → (A → List Token) → List Token → Result A E
     → Option (List Token)
 behind tokens so_far (Ok x) = Some (so_far ++ tokens x)

@@ -26,7 +26,7 @@ abbrev pub step_text : Step → Option (List ℕ)
 step_text (Step.Attribute name) = name_text (string_bytes name)
 step_text (Step.Element index) = Some (codes "[" ++ (decimal index ++ codes "]"))
 
--- a step that isn't the first: a dot stands before the name of an attribute
+-- a step that isn't the first: a dot comes before the name of an attribute
 abbrev pub further_text : Step → Option (List ℕ)
 further_text (Step.Attribute name) = Some (codes ".") ++? step_text (Step.Attribute name)
 further_text (Step.Element index) = step_text (Step.Element index)
@@ -41,7 +41,7 @@ abbrev pub place_text : List Step → Option (List ℕ)
 place_text [] = Some []
 place_text (step ∷ steps) = step_text step ++? further_texts steps
 
--- a text behind its place and `: `, or the text alone of the whole value
+-- a text after its place and `: `, or the text alone of the whole value
 abbrev pub text_at : List Step → Option (List ℕ) → Option (List ℕ)
 text_at [] text = text
 text_at (step ∷ steps) text = place_text (step ∷ steps) ++? Some (codes ": ") ++? text

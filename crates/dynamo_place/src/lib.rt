@@ -1,4 +1,4 @@
-//! Reading with places: an error says where in the value it was found, as
+//! Errors with places: a located call reports where in the value an error is, for example
 //! `orders[3].price: Expected num`.
 //!
 //! [`from_attribute_value_located`], [`from_item_located`], [`from_item_ref_located`] and
@@ -7,6 +7,7 @@
 //!
 //! [`to_attribute_value_located`] and [`to_item_located`] return what their namesakes in
 //! `dynamo_write` return, with the [`Place`] of an error in the value that is written.
+//! [`DynamoJsonLocated`] does the same when DynamoDB JSON is read.
 #![tactic(auto)]
 
 mod fault;

@@ -19,7 +19,7 @@ pub enum Step {
     Element(usize),
 }
 
-/// The way from a value to a part of it, as `orders[3].price`.
+/// The way from a value to a part of it, such as `orders[3].price`.
 ///
 /// It is printed as DynamoDB writes document paths: the names of attributes with a dot between
 /// them, and the indexes of elements in brackets. A name that is empty, or has another character
@@ -125,7 +125,7 @@ impl Place {
         }
     }
 
-    /// Returns what prints the place without the indexes of elements, as `orders[].price`.
+    /// Returns what prints the place without the indexes of elements, such as `orders[].price`.
     ///
     /// # Examples
     ///
@@ -197,7 +197,7 @@ impl fmt::Display for Place {
     }
 }
 
-// Writes the steps behind the first one.
+// Writes the steps after the first one.
 fn write_further<W: fmt::Write>(steps: &[Step], f: &mut fmt::Formatter<W>) -> fmt::Result
     ensures { DisplaysOnOk W.write_str_gives f.old result (further_texts steps.now) f.new }
 {
@@ -219,7 +219,7 @@ impl Step {
         }
     }
 
-    // Writes the step behind another one.
+    // Writes the step after another one.
     pub(crate) fn write_further<W: fmt::Write>(&self, f: &mut fmt::Formatter<W>) -> fmt::Result
         ensures { DisplaysOnOk W.write_str_gives f.old result (further_text self.now) f.new }
     {

@@ -1,4 +1,4 @@
--- What stands in a map or a list, and how much of it there is.
+-- What is in a map or a list, and how much of it there is.
 use Rattle.std.proofs.Common.{◌≡◌, List, [], ◌∷◌, length, map, Global, Vec, suc, refl, ap, ◌∙◌}
 use Rattle.dynamo_value.proofs.Views.{view_list, view_map}
 use Rattle.dynamo_value.specs.Av as av

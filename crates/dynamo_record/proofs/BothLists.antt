@@ -1,4 +1,4 @@
--- Two lists of fields, one behind the other.
+-- Two lists of fields, one after the other.
 use Rattle.std.proofs.Common.{◌≡◌, ℕ, ◌+◌, Option, Some, None, Result, Ok, Err, sym, ap, subst, ◌∙◌, inl, inr}
 use Rattle.dynamo_record.proofs.Common.{Fault, Answer, After, Meets, Source, Text, meets_more}
 use Rattle.dynamo_record.proofs.Common.{Permits, into, stops, into_into, Slots, fill_slot, SameData}

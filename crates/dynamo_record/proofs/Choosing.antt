@@ -1,4 +1,4 @@
--- The content of the variant at a place: among the first list, or behind it.
+-- The content of the variant at a place: among the first list, or after it.
 use Rattle.std.proofs.Common.{◌≡◌, ◌+◌, ℕ, Option, Result, Ok, Err, sym, ap, subst, ◌∙◌, inl, inr}
 use Rattle.dynamo_record.proofs.Common.{Fault, Meets, Source, Text, Permits, Same, Names}
 use Rattle.dynamo_record.proofs.Common.{AboutVariants, Contents, ReadsAt, choice_contents}

@@ -20,7 +20,7 @@ module _ {X : Type 0} (holds : Holds X) (ns : Names) (ss : Shapes) (gs : Default
       subst (λ (f : Datum → Slots). After {V = Unit {0}} (read_at i (field_shapes ns ss gs) s) (λ d. IfRead (λ _. holds new (f d) [])) r) (λ j d. sym (filled_there i ns ss gs d os h) j)
       (subst (λ a. After {V = Unit {0}} a (λ d. IfRead (λ _. holds new (fill_slot i d os) [])) r) (sym (read_there i ns ss gs s h)) k)
 
-  -- behind the last field a value is ignored
+  -- after the last field a value is ignored
   back : length ss ≤ i → (s : Source) (r : Result (Unit {0}) Fault) → After (into (λ _. datum.unit) (read_ignored s)) (λ d. IfRead (λ _. front new os)) r → FillsAt front i (field_shapes ns ss gs) os new s r
   back beyond s r k = subst (λ fs. After {V = Unit {0}} (read_one fs s) (λ d. IfRead (λ _. front new (fill_one fs i d os))) r) (sym (past i ns ss gs beyond)) k
 

@@ -8,7 +8,7 @@ use Rattle.dynamo_record.specs.Listed.{Shapes, Holds, HoldsField, HoldsBoth, Hol
 use Rattle.dynamo_record.specs.Listed.{FilledBehind, ReadBehind, Counts, is_filled}
 
 -- So many fields, held so, of these shapes: each that follows is filled, found filled and read by
--- its number behind them.
+-- its number after them.
 pub record Behind {X : Type 0} (count : ℕ) (holds : Holds X) (shapes : Shapes → Shapes) :
     Type 0 where
   pub holds_behind : HoldsBehind count holds

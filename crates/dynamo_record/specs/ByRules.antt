@@ -76,7 +76,7 @@ pad (field_shape name s e fs) os = first_slot os ∷ pad fs (other_slots os)
 abbrev pub Held : {X : Type 0} → FieldShapes → Holds X → X → Before → Type 0
 Held fs holds x before = (os : Slots) × holds x os [] × (pad fs os ≡ slots_of fs before)
 
--- The entry is read behind what was read before, and then held too.
+-- The entry is read after what was read before, and then held too.
 abbrev pub EntersByRules : {X : Type 0} → NameRules → FieldShapes → Holds X → Before → X → Entry
     → Result (Unit {0}) Fault → Type 0
 EntersByRules rules fs holds before new e r = After

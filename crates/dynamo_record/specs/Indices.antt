@@ -39,7 +39,7 @@ variant_index (variant own c vs) name i d h = elim h [
   | inr others ↦ at_others i (index_of d) (variant_index vs name (suc i) d others)
 ]
 
--- a datum of the first variant's number conforms to the first, and one of a number behind it to the
+-- a datum of the first variant's number conforms to the first, and one of a number after it to the
 -- others
 pub in_first : (name own : Text) (i : ℕ) (c : Content) (vs : Variants) (d : Datum) → index_of d ≡ i
     → conforms_variant name i (variant own c vs) d

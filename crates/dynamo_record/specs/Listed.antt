@@ -1,5 +1,5 @@
 -- Lists of fields by their types, each put in front of whatever follows, so that two lists are one
--- list by going on with the second behind the first.
+-- list by going on with the second after the first.
 use Rattle.std.specs.Prelude.{◌≡◌, ◌⊎◌, ◌+◌, ℕ, suc, Bool, true, false, List, ◌∷◌, Option, Some}
 use Rattle.std.specs.Prelude.{None, Result, Ok, Err, length, ⊤}
 use Rattle.std.proofs.Common.{zero}
@@ -124,7 +124,7 @@ HoldsField s tells x os more = IsRead s tells x (first_slot os) × (more ≡ oth
 abbrev pub HoldsBoth : {X Y : Type 0} → Holds X → Holds Y → Holds (X × Y)
 HoldsBoth left right x os more = (rest : Slots) × left x.0 os rest × right x.1 rest more
 
--- a slot behind these may be filled
+-- a slot after these may be filled
 abbrev pub HoldsBehind : {X : Type 0} → ℕ → Holds X → Type 0
 HoldsBehind {X} count holds = (x : X) (os more : Slots) (i : ℕ) (d : Datum) → holds x os more
     → holds x (fill_slot (count + i) d os) (fill_slot i d more)
@@ -138,12 +138,12 @@ abbrev pub is_filled : ℕ → Slots → Bool
 is_filled zero os = is_there (first_slot os)
 is_filled (suc i) os = is_filled i (other_slots os)
 
--- a slot behind these is filled where it is among those that follow
+-- a slot after these is filled where it is among those that follow
 abbrev pub FilledBehind : {X : Type 0} → ℕ → Holds X → Type 0
 FilledBehind {X} count holds = (x : X) (os more : Slots) (i : ℕ) → holds x os more
     → is_filled (count + i) os ≡ is_filled i more
 
--- the fields behind these are those that follow
+-- the fields after these are those that follow
 abbrev pub ReadBehind : ℕ → (Shapes → Shapes) → Type 0
 ReadBehind count shapes = (ss : Shapes) (i : ℕ) (source : Source)
     → read_nth (count + i) (shapes ss) source ≡ read_nth i ss source
@@ -182,7 +182,7 @@ Makes shapes told all others None = all ≡ refused
 Makes shapes told all others (Some v) = (front : Data → Data) × (all ≡ into front others)
     × AlikeFront shapes told front v
 
--- the same where no field of the list is missed, so that the first which is missed stands behind;
+-- the same where no field of the list is missed, so that the first which is missed comes after;
 -- one that is missed is refused by its name
 abbrev pub Completes : {L N E : Type 0} → (E → Fault) → (Shapes → Shapes) → (L → Data → Data)
     → Answer Data → Answer Data → Option Text → (N → Option Text) → Result (L × N) E → Type 0

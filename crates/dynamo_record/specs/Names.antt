@@ -24,7 +24,7 @@ abbrev pub differ : Names → Bool
 differ [] = true
 differ (n ∷ ns) = not (is_named ns n) && differ ns
 
--- the place of a name, where the first has place i; of another text the place behind the last
+-- the place of a name, where the first has place i; of another text the place after the last
 abbrev pub place_of : ℕ → Names → Text → ℕ
 place_of i [] t = i
 place_of i (n ∷ ns) t = if bytes_eq t n then i else place_of (suc i) ns t

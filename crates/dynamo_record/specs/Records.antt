@@ -94,7 +94,7 @@ abbrev pub AsLong : {V L : Type 0} → AboutRecord V L → AboutList L → Type 
 AsLong a list = length (a.list.shapes []) ≡ length (list.shapes [])
 
 -- the place of the first field of this name, where the first has place i; of another name the place
--- behind the last
+-- after the last
 abbrev pub place_in : ℕ → FieldShapes → Text → ℕ
 place_in i shape.no_field_shapes t = i
 place_in i (shape.field_shape own s d fs) t = if bytes_eq t own then i else place_in (suc i) fs t

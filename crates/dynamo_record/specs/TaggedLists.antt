@@ -1,5 +1,5 @@
--- The variants of an internally tagged enum by the fields behind the tag, each put in front of
--- whatever follows, so that two lists are one list by going on with the second behind the first.
+-- The variants of an internally tagged enum by the fields after the tag, each put in front of
+-- whatever follows, so that two lists are one list by going on with the second after the first.
 use Rattle.std.specs.Prelude.{◌≡◌, ◌<◌, ◌+◌, ℕ, suc, true, false, List, [], ◌∷◌, length, ⊤}
 use Rattle.std.proofs.Common.{zero, refl, sym, ap, subst, ◌∙◌, arith}
 use Rattle.dynamo_ser.specs.Datum.{Fields, no_fields}
@@ -20,11 +20,11 @@ use Rattle.dynamo_record.specs.Told.{each_field, data_same, fields_same}
 use Rattle.dynamo_record.specs.declared.variant_list.Choice.{Choice}
 use Rattle.dynamo_record.specs.declared.variant_list.Choice.TheVariants.{Left, Right}
 
--- of each variant the name of its struct, and the shapes of the fields behind the tag
+-- of each variant the name of its struct, and the shapes of the fields after the tag
 abbrev pub Structs : Type 0
 Structs = List (Text × FieldShapes)
 
--- the struct of the variant with this number, or one without a name and fields behind the last
+-- the struct of the variant with this number, or one without a name and fields after the last
 abbrev pub struct_at : ℕ → Structs → Text × FieldShapes
 struct_at i [] = ([], no_field_shapes)
 struct_at zero (s ∷ ss) = s

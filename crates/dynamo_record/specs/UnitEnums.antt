@@ -51,7 +51,7 @@ abbrev pub name_at : Names → ℕ → Text
 name_at ns zero = first_name ns
 name_at ns (suc n) = name_at (other_names ns) n
 
--- the value of this number among so many, or none behind the last
+-- the value of this number among so many, or none after the last
 unfoldable pub IsNumber : {T : Type 0} → (T → ℕ) → ℕ → ℕ → Option T → Type 0
 IsNumber numbers count n None = count ≤ n
 IsNumber numbers count n (Some v) = numbers v ≡ n

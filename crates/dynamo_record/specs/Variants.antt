@@ -1,5 +1,5 @@
 -- The variants of an enum by what they hold, each put in front of whatever follows, so that two
--- lists are one list by going on with the second behind the first.
+-- lists are one list by going on with the second after the first.
 use Rattle.std.specs.Prelude.{◌≡◌, ◌≤◌, ◌<◌, ◌+◌, ℕ, suc, List, [], ◌∷◌, Option, Some, None, Result}
 use Rattle.std.specs.Prelude.{length}
 use Rattle.std.proofs.Common.{zero, sym, ap, subst, ◌∙◌, arith}
@@ -94,14 +94,14 @@ abbrev pub IsWithin : {L : Type 0} → ℕ → Told L → Type 0
 IsWithin {L} count told = (name : Text) (ns : Names) (i : ℕ) (v : L)
     → (i ≤ index_of (told name ns i v)) × (index_of (told name ns i v) < i + count)
 
--- a datum of a variant behind these conforms to one of those that follow
+-- a datum of a variant after these conforms to one of those that follow
 abbrev pub ConformsBehind : ℕ → (Contents → Contents) → Type 0
 ConformsBehind count contents = (name : Text) (ns : Names) (i : ℕ) (cs : Contents) (d : Datum)
     → i + count ≤ index_of d
     → ConformsToOne name ns i (contents cs) d
     → ConformsToOne name ns (i + count) cs d
 
--- the variants behind these are those that follow
+-- the variants after these are those that follow
 abbrev pub ReadAtBehind : ℕ → (Contents → Contents) → Type 0
 ReadAtBehind count contents = (name : Text) (ns : Names) (i : ℕ) (cs : Contents) (j : ℕ)
     (s : Option Source)

@@ -97,7 +97,7 @@ pub trait FieldList: Sized {
     /// Drops the fields.
     fn discard(self);
 
-    // The fields that follow are found behind these.
+    // The fields that follow are found after these.
     ghost behind: { Behind about.count holds about.shapes };
 }
 

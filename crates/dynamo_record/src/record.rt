@@ -136,7 +136,7 @@ pub trait Record: Sized + Drop {
     ghost named: { AreNamed about };
 }
 
-/// Reads a value as the field at this place. Behind the last field the value is ignored.
+/// Reads a value as the field at this place. After the last field the value is ignored.
 pub(crate) fn read_place<R: Record, D: Reader>(
     slots: &mut <R::Fields as FieldList>::Slots,
     place: usize,

@@ -5,7 +5,7 @@ ghost use Rattle.dynamo_record.specs.UnitEnums.{name_at};
 use dynamo_de::Error;
 use std::alloc::{AllocError, Global};
 
-/// The name with this index, or an empty one behind the last.
+/// The name with this index, or an empty one after the last.
 pub(crate) fn name_at(names: &'static [&'static str], place: usize) -> &'static str
     ensures { result.now ≡ name_at (map (λ n. n.now) names.now) place }
 {

@@ -11,7 +11,7 @@ ghost use Rattle.dynamo_record.specs.Variants.{tag, content_at};
 use crate::{Enumeration, NamedFields, RefList, Shaped};
 use dynamo_ser::{Serialize, SerializeStructVariant, SerializeTupleVariant, Serializer};
 
-/// The name with this index, or an empty one behind the last.
+/// The name with this index, or an empty one after the last.
 fn name_at(names: &'static [&'static str], place: usize) -> &'static str
     ensures { result.now ≡ first_name (names_from place (map (λ n. n.now) names.now)) }
 {

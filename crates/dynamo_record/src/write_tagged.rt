@@ -12,7 +12,7 @@ use crate::{NamedFields, Record, RefList, TaggedEnum};
 use dynamo_ser::{SerializeStruct, Serializer};
 use dynamo_value::Text;
 
-/// Writes the struct of this name with the tag and these fields behind it.
+/// Writes the struct of this name with the tag and these fields after it.
 fn write_behind<T: TaggedEnum, W: RefList, S: Serializer>(
     serializer: S,
     index: u32,

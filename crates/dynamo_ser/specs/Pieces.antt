@@ -38,7 +38,7 @@ PassesOn {B} {P} {A} {E} fault outcome gives b before = (d : Datum) (e : E) (pie
 abbrev pub PassesOnKey : {B A E : Type 0} → (B → Pairs → Result A E → Type 0) → B → Error → E → Type 0
 PassesOnKey gives b error e = (k v : Datum) (pairs : Pairs) → WritesKey k (Err error) → gives b (pair k v pairs) (Err e)
 
--- behind a key that has a text, a fault of the value is a fault of all that begins with the pair
+-- after a key that has a text, a fault of the value is a fault of all that begins with the pair
 abbrev pub PassesOnValue : {B A E : Type 0} → (E → Fault) → (Datum → Result A E → Type 0) → (B → Pairs → Result A E → Type 0) → B → Type 0
 PassesOnValue {B} {A} {E} fault outcome gives b = (k v : Datum) (text : List ℕ) (e : E) (pairs : Pairs) → key_text k ≡ Ok text → Writes fault (Unit {0}) outcome v (Err e) → gives b (pair k v pairs) (Err e)
 

@@ -1,4 +1,4 @@
--- The datum of what stands around one content.
+-- The datum of what is around one content.
 use Rattle.dynamo_ser.specs.Datum as datum
 use Rattle.dynamo_ser.specs.Datum.{Datum, variant}
 use Rattle.dynamo_ser.specs.declared.serializer.Wrapper.{Wrapper}

@@ -6,9 +6,10 @@
 //! [`StructBuilder`]. The calls that take a `&T` come with them.
 //!
 //! These types are written here: booleans, integers, `char`, `String`, `Text`, `Bytes`, `ByteBuf`,
-//! options, boxes, references, `Vec`, tuples of two to four elements, `HashMap` and `BTreeMap`. A
-//! list is written as one of DynamoDB's sets by [`string_set`], [`number_set`] and [`binary_set`],
-//! or by the wrappers [`StringSet`], [`NumberSet`] and [`BinarySet`].
+//! options, boxes, references, `Vec`, tuples of two to four elements, `HashMap`, `BTreeMap`,
+//! `HashSet` and `BTreeSet`. A list is written as one of DynamoDB's sets by [`string_set`],
+//! [`number_set`] and [`binary_set`], or by the wrappers [`StringSet`], [`NumberSet`] and
+//! [`BinarySet`].
 //!
 //! A `serde_json::Value` is written as serde_json does: null as a unit, a whole number as a `u64`,
 //! or as an `i64` if it is negative, an array as a sequence, an object as a map in the order of its

@@ -15,7 +15,7 @@ use Rattle.dynamo_serde.specs.declared.tape.Token as tape
 use Rattle.dynamo_serde.specs.declared.tape.Token.TheVariants as token
 use Rattle.dynamo_serde.proofs.Logged.{map_push}
 
--- what stands between two ends
+-- what is between two ends
 between : (first last : Token) (inside old begun mid new : List Token) → begun ≡ old ++ first ∷ [] → mid ≡ begun ++ inside → new ≡ mid ++ last ∷ []
     → new ≡ old ++ (first ∷ (inside ++ last ∷ []))
 between first last inside old begun mid new opened h closes =

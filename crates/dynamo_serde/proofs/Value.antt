@@ -20,7 +20,7 @@ use Rattle.dynamo_serde.proofs.Machine.{parted}
 use Rattle.dynamo_serde.proofs.Names.{as_is}
 use Rattle.dynamo_serde.proofs.Told.{at, Lands, PutsIn, ElementsIn, EntriesIn, Becomes, added, symbol_told, set_told, seq_told, table_told, entry_landed, stands_for, key_waits, ok_same}
 
--- ---- what stands under a symbol
+-- ---- what is under a symbol
 
 becomes : (symbol : Symbol) (a b : Av) → converted symbol a ≡ Some b → (bs : List Frame) (t : Frame) (new : State) → Becomes symbol (Ok a) bs t new → Lands bs t (Ok b) new
 becomes symbol a b to bs t new h =

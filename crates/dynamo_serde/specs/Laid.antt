@@ -23,7 +23,7 @@ pub data Token : Type 0 where
   begin_list end_seq begin_map end_map : Token
   begin_set : SetKind → Token
 
--- The row of an attribute value: a scalar is one token, and a list, a set or a map stands between
+-- The row of an attribute value: a scalar is one token, and a list, a set or a map is between
 -- its two ends. Each member of a map is its key and then its value, in the order of the members,
 -- which in a view is the ascending order of the bytes of their keys.
 abbrev mutual
@@ -50,7 +50,7 @@ abbrev mutual
 abbrev pub IsLaid : Av → List Token → Type 0
 IsLaid a ts = ts ≡ laid a
 
--- Where a reader stands: the tokens to come, and whether the kind of the value that comes was told
+-- Where a reader is: the tokens to come, and whether the kind of the value that comes was told
 -- by the last step.
 pub record Place : Type 0 where
   pub ahead : List Token

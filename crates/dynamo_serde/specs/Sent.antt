@@ -4,7 +4,7 @@
 -- map's value at the key that waits. A list or a map that ends is put into what is open round it.
 -- Between `key_begins` and `key_ends` a scalar is no value but a key, by its text. After `flattens`
 -- a map's members go into the map that is open. A map whose first key is a symbol is no map: what
--- stands under it becomes a set, a number or a NULL.
+-- is under it becomes a set, a number or a NULL.
 use Rattle.std.specs.Prelude.{◌≡◌, ◌⊎◌, ℕ, zero, ◌+◌, List, [], ◌∷◌, ◌++◌, Bool, true, false}
 use Rattle.std.specs.Prelude.{Option, Some, None, IfSome, decimal, encode_utf8}
 use Rattle.std.specs.Float.{Float, Format, binary32, binary64}
@@ -24,7 +24,7 @@ use Rattle.dynamo_ser.specs.Key.{bool_text}
 use Rattle.dynamo_serde.specs.Symbol.{Symbol, named, converted}
 
 -- What is open: the whole; a list with its elements; a map with its members in the order of their
--- keys, the key that waits, and how many more maps are open whose members go into it; what stands
+-- keys, the key that waits, and how many more maps are open whose members go into it; what is
 -- under a symbol.
 pub data Frame : Type 0 where
   whole : Option Av → Frame
@@ -70,7 +70,7 @@ abbrev pub share_in : Frame → Option Frame
 share_in (table es key shared) = Some (table es key (shared + 1))
 share_in _ = None
 
--- what a map makes when it ends, or what stands under a symbol
+-- what a map makes when it ends, or what is under a symbol
 abbrev pub made : Frame → Option Av
 made (table es key zero) = Some (av.M (members_of es))
 made (marked symbol a) = a
@@ -103,13 +103,13 @@ AddsFloat format old x new = IsValue old × (s : List ℕ) × IsPlainNumber s
 abbrev pub Opens : State → Frame → State → Type 0
 Opens old inner new = new ≡ record old { below = old.below ++ old.top ∷ []; top = inner }
 
--- the innermost is closed, and a stands in its place
+-- the innermost is closed, and a is in its place
 abbrev pub Closes : State → Av → State → Type 0
 Closes old a new = (rest : List Frame) × (outer inner : Frame) × (old.below ≡ rest ++ outer ∷ [])
     × (put_in outer a ≡ Some inner)
     × (new ≡ record old { below = rest; top = inner })
 
--- a map of its own ends, or what stands under a symbol
+-- a map of its own ends, or what is under a symbol
 abbrev pub Ends : State → State → Type 0
 Ends old new = (a : Av) × (made old.top ≡ Some a) × Closes old a new
 

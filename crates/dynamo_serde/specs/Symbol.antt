@@ -37,7 +37,7 @@ abbrev pub taken : Result Av Fault → Option Av
 taken (Ok a) = Some a
 taken (Err f) = None
 
--- what a value becomes, where it may stand under the symbol
+-- what a value becomes, where it may be under the symbol
 abbrev pub converted : Symbol → Av → Option Av
 converted (a_set kind) a = taken (as_set kind a)
 converted a_number (av.S text) = Some (av.N text)

@@ -95,7 +95,7 @@ abbrev mutual
   fields_events datum.no_fields = []
   fields_events (datum.field name d fs) = (field_key name AsIs ∷ events d) ++ fields_events fs
 
--- What the events tell whole: no refusal stands inside, no variant is named as a symbol, and each
+-- What the events tell whole: no refusal is inside, no variant is named as a symbol, and each
 -- key is a scalar, or a newtype over one.
 abbrev pub IsKeyTold : Datum → Type 0
 IsKeyTold (datum.boolean b) = Unit {0}

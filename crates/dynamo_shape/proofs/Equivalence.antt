@@ -55,7 +55,7 @@ swapped (pair k d rs) m y ss l e ts w v = elim w [
   ]
 ]
 
--- what stands against a pair that is taken out
+-- the counterpart of a pair that is taken out
 against : (qs rs : Pairs) (l e : Datum) (rest : Pairs) → SamePairs qs rs → Without qs l e rest → (m : Datum) × (y : Datum) × (ss : Pairs) × Without rs m y ss × Same l m × Same e y × SamePairs rest ss
 against no_pairs rs l e rest h w = absurd w
 against (pair k d qs) rs l e rest h w = elim w [

@@ -32,7 +32,7 @@ abbrev pub other_slots : Slots → Slots
 other_slots [] = []
 other_slots (o ∷ os) = os
 
--- behind the first so many slots
+-- after the first so many slots
 abbrev pub behind : ℕ → (Slots → Slots) → Slots → Slots
 behind zero f os = f os
 behind (suc i) f os = first_slot os ∷ behind i f (other_slots os)
@@ -52,7 +52,7 @@ abbrev pub empty : FieldShapes → Slots
 empty no_field_shapes = []
 empty (field_shape name s default fs) = None ∷ empty fs
 
--- where nothing was read for a field, its default stands, or else an option is none, and any other field is missed
+-- where nothing was read for a field, it is its default, or else an option is none, and any other field is missed
 abbrev pub close : FieldShapes → Slots → Answer Fields
 close no_field_shapes os = answer.value datum.no_fields
 close (field_shape name s default fs) os = do

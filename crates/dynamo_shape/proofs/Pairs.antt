@@ -1,4 +1,4 @@
--- Pairs of which each key stands once.
+-- Pairs of which each key is there once.
 use Rattle.std.proofs.Common.{◌≡◌, ◌⊎◌, ℕ, ℤ, pos, negsuc, Bool, true, false, cond, ◌&&◌, ◌==◌, Option, Some, None, refl, sym, ap, subst, ◌∙◌, inl, inr, arith, Ok, Err}
 use Rattle.dynamo_shape.proofs.Common.{⊤, bytes_eq, codes, true≢false, and_parts, bytes_eq-Decides}
 use Rattle.dynamo_shape.proofs.Common.{Answer, value, fault, refused, value_or, taken, Text}

@@ -57,7 +57,7 @@ variants : (read event (attribute (M (member (codes "Unit") (N (codes "x")) no_m
     × (read event (attribute (M (member (codes "Structy") (M (member (codes "one") (N (codes "1")) (member (codes "two") (N (codes "2")) no_members))) no_members))) ≡ value (datum.struct_variant (event_variant 3 (codes "Structy")) (field (codes "one") (byte 1) (field (codes "two") (byte 2) no_fields))))
 variants = (refl, refl, refl, refl, refl, refl)
 
--- what stands under the wrong variant
+-- what is under the wrong variant
 wrong_contents : (read event (attribute (M (member (codes "Tuple") (S (codes "a")) no_members))) ≡ fault expected_seq)
     × (read event (attribute (M (member (codes "Structy") (L (av.element (N (codes "1")) (av.element (N (codes "2")) av.no_elements))) no_members))) ≡ fault expected_map)
     × (read (map boolean (integer u8)) (attribute (M (member (codes "yes") (N (codes "1")) no_members))) ≡ fault expected_string)
@@ -173,7 +173,7 @@ move_shape = tagged (codes "kind") (tagged_variant (codes "Stop") (codes "Move")
 abbrev turn_by_seven : Datum
 turn_by_seven = datum.struct (codes "Move") (field (codes "kind") (datum.string (codes "Turn")) (field (codes "by") (byte 7) no_fields))
 
--- the tag may stand behind a field, and what is unknown is ignored; without a tag, or with an unknown name, a refusal; a tag that
+-- the tag may come after a field, and what is unknown is ignored; without a tag, or with an unknown name, a refusal; a tag that
 -- is no text; a field that is missing; a variant that holds nothing; a list
 tagged_enums : (read move_shape (attribute (M (member (codes "by") (N (codes "7")) (member (codes "kind") (S (codes "Turn")) no_members)))) ≡ value turn_by_seven)
     × (read move_shape (attribute (M (member (codes "by") (N (codes "7")) (member (codes "kind") (S (codes "Turn")) (member (codes "on") (S (codes "x")) no_members))))) ≡ value turn_by_seven)

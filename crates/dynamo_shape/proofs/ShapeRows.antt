@@ -13,7 +13,7 @@ use Rattle.dynamo_shape.proofs.FieldsTold.{told_alone}
 abbrev seven : Datum
 seven = datum.integer u8 (pos 7)
 
--- some of null is none; some of anything else stays, and so does what stands inside of it
+-- some of null is none; some of anything else stays, and so does what is inside of it
 what_is_kept : (kept (datum.some datum.none) ≡ datum.none) × (kept (datum.some datum.unit) ≡ datum.none) × (kept (datum.some (datum.newtype_struct (codes "Unit") datum.unit)) ≡ datum.none) × (kept (datum.some seven) ≡ datum.some seven)
     × (kept (datum.seq (datum.element (datum.some datum.unit) datum.no_elements)) ≡ datum.seq (datum.element datum.none datum.no_elements))
 what_is_kept = (refl, refl, refl, refl, refl)

@@ -24,7 +24,7 @@ abbrev reads_or : (Av → Answer Datum) → Answer Datum → Option Av → Answe
 reads_or reads missed None = missed
 reads_or reads missed (Some a) = reads a
 
--- R reads what stands under the names
+-- R reads what is under the names
 abbrev ReadAt : (Text → Av → Answer Datum) → (Text → Option Av) → FieldShapes → Fields → Type 0
 ReadAt R look no_field_shapes hs = hs ≡ no_fields
 ReadAt R look (field_shape name s default fs) hs = (y : Datum) × (gs : Fields) × (hs ≡ put_field name default y gs) × (reads_or (R name) (missing s default) (look name) ≡ value y) × ReadAt R look fs gs
@@ -106,7 +106,7 @@ entries_read R (member u b ms) h =
     let r = entries_read R ms h.1 in
     ((u, h.0.0) ∷ r.0, rw (h.0.1, r.1) refl, λ t o p k. r.2 t (cond (bytes_eq t u) (Some b) o) (cond (bytes_eq t u) (Some h.0.0) p) (both_now R t u b h.0.0 o p h.0.1 k))
 
--- what stands under a name is what was read of it
+-- what is under a name is what was read of it
 chosen : (R : Text → Av → Answer Datum) (t : Text) (missed : Answer Datum) (y : Datum) (o : Option Av) (p : Option Datum) → BothRead R t o p → reads_or (R t) missed o ≡ value y → value_or p missed ≡ value y
 chosen R t missed y None None h k = k
 chosen R t missed y (Some a) (Some x) h k = sym h ∙ k
@@ -190,7 +190,7 @@ pub all_named : (fs : FieldShapes) (gs : Fields) → NearlyClearFields fs → Fi
 unfolding FieldsBack
 all_named fs gs n t = (t.0, t.1, t.2.wrote, named_read fs t.0 t.1 n t.2.readable t.2.reads, t.2.alike)
 
--- ---- behind a tag
+-- ---- after a tag
 
 last_entry : (t : Text) (ms : Members) (o : Option Av) → last_of t (entries_of ms) o ≡ last_member t ms o
 last_entry t no_members o = refl

@@ -1,5 +1,5 @@
 -- Clear shapes: those at which whatever is written reads back as it was. At every depth
---   no option stands over what may be written as null itself,
+--   no option is over what may be written as null itself,
 --   the names of fields are distinct, and so are those of variants, and a tag is none of its variants' fields,
 --   no other name of a field is the own name of one,
 --   a field is left out only for a default that nothing else of its shape reads back as,

@@ -73,7 +73,7 @@ abbrev mutual
   conforms_variant name i no_variants d = ⊥
   conforms_variant name i (variant v c vs) d = conforms_content c (datum.variant name i v) d ⊎ conforms_variant name (suc i) vs d
 
-  -- the struct of one of the variants, behind its name
+  -- the struct of one of the variants, after its name
   pub conforms_tagged : List ℕ → Tagged → Datum → Type 0
   conforms_tagged tag no_tagged d = ⊥
   conforms_tagged tag (tagged_variant v name fs vs) d = ((gs : Fields) × (d ≡ tagged_struct tag v name gs) × conform_fields fs gs) ⊎ conforms_tagged tag vs d

@@ -99,7 +99,7 @@ entry_by_rules rules fs reads before e =
     let own = own_name rules.aliases e.0 in
     if is_refused rules.denies fs before own then refused else into (λ d. (own, d)) (reads own e.1)
 
--- entry by entry, each behind what was read before; the first fault is the fault
+-- entry by entry, each after what was read before; the first fault is the fault
 abbrev pub read_by_rules : NameRules → FieldShapes → (Text → Av → Answer Datum) → List (Text × Datum) → List Entry → Answer (List (Text × Datum))
 read_by_rules rules fs reads before [] = value before
 read_by_rules rules fs reads before (e ∷ es) = entry_by_rules rules fs reads before e >>= λ x. read_by_rules rules fs reads (before ++ x ∷ []) es

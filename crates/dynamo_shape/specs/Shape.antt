@@ -48,7 +48,7 @@ mutual
     no_variants : Variants
     variant : List ℕ → Content → Variants → Variants
 
-  -- a variant's name, and its struct: the struct's name, and its fields behind the tag
+  -- a variant's name, and its struct: the struct's name, and its fields after the tag
   pub data Tagged : Type 0 where
     no_tagged : Tagged
     tagged_variant : List ℕ → List ℕ → FieldShapes → Tagged → Tagged

@@ -107,7 +107,7 @@ impl<S: Alter + Drop> AtTable<'_, '_, S> {
         Ok(Outcome::Done)
     }
 
-    // The values of a condition, which are behind its name.
+    // The values of a condition, which are after its name.
     fn sort_values(&self, condition: &[&str]) -> Answer<Vec<KeyValue>> {
         let alloc = self.teller.rt.alloc();
         let mut values = Vec::new(alloc);

@@ -44,7 +44,7 @@ pub enum Asked<'a> {
 }
 
 impl<'a> Command<'a> {
-    /// The command of a name and the words behind it, but for the file's name; none where they are
+    /// The command of a name and the words after it, but for the file's name; none where they are
     /// no command.
     pub fn of(name: &str, words: &'a [&'a str]) -> Option<Command<'a>> {
         match (name, words) {
@@ -71,7 +71,7 @@ impl<'a> Command<'a> {
 }
 
 impl<'a> Asked<'a> {
-    // What a name and the words behind the table's name ask of a table.
+    // What a name and the words after the table's name ask of a table.
     fn of(name: &str, words: &'a [&'a str]) -> Option<Asked<'a>> {
         let (words, flags) = split_flags(words, name);
         match (name, words) {

@@ -61,7 +61,7 @@ impl<'r, 'a, 'i, S: Alter + Drop> Loading<'r, 'a, 'i, S> {
 
     /// Puts and deletes what an input holds: line by line if its first line is a JSON value, and
     /// else the JSON values of the whole text. The load prints a fault, and ends with all before it
-    /// in the table or goes on behind it.
+    /// in the table or goes on after it.
     ///
     /// # Errors
     ///

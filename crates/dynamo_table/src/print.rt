@@ -46,7 +46,7 @@ pub fn print_text(rt: &HostRuntime, text: &[u8]) -> Answer {
     Ok(Outcome::Done)
 }
 
-// A text with the lines of an item behind it.
+// A text with the lines of an item after it.
 fn with_item(alloc: Global, form: Form, text: Vec<u8>, item: &Item) -> Result<Vec<u8>, AllocError> {
     let mut text = text;
     match form {

@@ -26,7 +26,7 @@ pub fn unmarked(text: &[u8]) -> &[u8] {
     text.strip_prefix(MARK).unwrap_or(text)
 }
 
-/// The part of a text that its first JSON value is in, and what is behind it. A text that begins
+/// The part of a text that its first JSON value is in, and what is after it. A text that begins
 /// with no JSON value is split somewhere.
 pub fn first_value(text: &[u8]) -> (&[u8], &[u8]) {
     let mut scan = Scan {
@@ -93,7 +93,7 @@ impl Start {
         Start { line, column: 0 }
     }
 
-    /// Where a text begins that is behind this one, which begins here.
+    /// Where a text begins that is after this one, which begins here.
     pub fn behind(self, text: &[u8]) -> Start {
         let mut start = self;
         for byte in text {

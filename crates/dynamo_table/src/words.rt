@@ -8,7 +8,7 @@ use std::{mem, str};
 /// most 400 KB in DynamoDB, which is 2.4 MB where every byte is escaped.
 pub const MAX_LINE: usize = 4 << 20;
 
-/// The flags behind a command's other words.
+/// The flags after a command's other words.
 #[derive(Clone, Copy, Drop)]
 pub struct Flags {
     /// `--backward`: a query goes from the greatest sort key to the least.
@@ -138,7 +138,7 @@ fn told(alloc: Global, text: &str) -> Refusal {
     Refusal::message(String::from_str(alloc, text))
 }
 
-// The word that a text begins with, and what is behind it.
+// The word that a text begins with, and what is after it.
 fn first_word(text: &str) -> Option<(&str, &str)> {
     let Some(quoted) = text.strip_prefix('"') else {
         return Some(text.split_once(char::is_whitespace).unwrap_or((text, "")));

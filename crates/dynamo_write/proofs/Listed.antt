@@ -1,4 +1,4 @@
--- The attribute values that stand in a list.
+-- The attribute values that are in a list.
 use Rattle.std.proofs.Common.{◌≡◌, List, [], ◌∷◌, map, refl, ap}
 use Rattle.dynamo_value.specs.Av as av
 use Rattle.dynamo_value.specs.Av.{elements_of}

@@ -52,7 +52,7 @@ module _ {V : Type 0} (t : AboutTarget V) where
   abbrev pub one_member : List ℕ → t.Seen → t.Seen
   one_member name a = t.map ((name, a) ∷ [])
 
-  -- what is answered where these values stand and the elements follow
+  -- what is answered if these values are there and the elements follow
   abbrev pub GivesList : List V → (t.Parts → t.Seen) → datum.Elements → Result V Error → Type 0
   GivesList values whole ds r = AnswersPart (t.elements ds >>= λ rest. Ok (whole (parts_before values rest))) r
 
@@ -61,10 +61,10 @@ module _ {V : Type 0} (t : AboutTarget V) where
   GivesWholeList values whole datum.no_elements r = MatchResult r (λ v. t.seen v ≡ whole (parts_before values t.no_parts)) (λ e. ⊥)
   GivesWholeList values whole (datum.element d ds) r = GivesList values whole (datum.element d ds) r
 
-  -- what is answered where these entries stand and the pairs follow
+  -- what is answered if these entries are there and the pairs follow
   abbrev pub GivesMap : List (List ℕ × t.Seen) → datum.Pairs → Result V Error → Type 0
   GivesMap entries ps r = AnswersPart (t.pairs ps >>= λ rest. Ok (map_of (entries ++ rest))) r
 
-  -- what is answered where these entries stand and the fields follow
+  -- what is answered if these entries are there and the fields follow
   abbrev pub GivesStruct : List (List ℕ × t.Seen) → (t.Seen → t.Seen) → datum.Fields → Result V Error → Type 0
   GivesStruct entries whole fs r = AnswersPart (t.fields fs >>= λ rest. Ok (whole (map_of (entries ++ rest)))) r

@@ -46,7 +46,7 @@ skipped : (old new : Option (List ℕ)) → DropsThrough old new 10 → (rest : 
 skipped None new drops = ([], (tt, tt))
 skipped (Some xs) new drops = (take_through 10 xs, (subst (λ o. Consumes (Some xs) o (take_through 10 xs)) (sym drops) (parts xs), refl))
 
--- the line feed of a line lies behind a part that has none
+-- the line feed of a line lies after a part that has none
 no_shorter : (part rest : List ℕ) → All (λ x. x ≢ 10) part → length part ≤ line_length (part ++ rest)
 no_shorter part [] none = subst (λ l. length part ≤ line_length l) (sym (append-nil part)) (at (ends_with_byte 10 part) refl)
   where

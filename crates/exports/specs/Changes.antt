@@ -27,7 +27,7 @@ ReadsPut json r = MatchResult r (IsPut json) (IsRefusal (parsed_item json))
 abbrev pub ReadsDelete : Data → Result Request Fault → Type 0
 ReadsDelete json r = MatchResult r (IsDelete json) (IsRefusal (parsed_item json))
 
--- the request by what stands under `Item`, `Keys` and `NewImage`
+-- the request by what is under `Item`, `Keys` and `NewImage`
 abbrev pub ReadsMembers : Option Data → Option Data → Option Data → Result Request Fault → Type 0
 ReadsMembers (Some item) keys image r = ReadsPut item r
 ReadsMembers None (Some keys) (Some image) r = ReadsPut image r

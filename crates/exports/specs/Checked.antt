@@ -1,4 +1,4 @@
--- What is told of a line: the value that its item reads as, or its number and why it reads as none.
+-- What is reported of a line: the value that its item reads as, or its number and why it reads as none.
 use Rattle.std.specs.Prelude.{◌≡◌, ◌⊎◌, Option, Some, None, Result, Ok, Err}
 use Rattle.dynamo_value.specs.Av as av
 use Rattle.dynamo_value.specs.Fault.{Fault, out_of_memory}
@@ -21,7 +21,7 @@ ChecksLine reads line (Err finding) =
     × ((fault_of located.error ≡ out_of_memory)
     ⊎ reads (attribute (av.M (item_view line.item))) (Err (fault_of located.error)))
 
--- what is told of a line that was given, by the fault of a broken one
+-- what is reported of a line that was given, by the fault of a broken one
 abbrev pub Checks : {T : Type 0} → (Source → Result T Fault → Type 0)
     → Option (Result Line LineFault) → Option (Result T Finding) → Type 0
 Checks reads None r = r ≡ None

@@ -7,7 +7,7 @@ use Rattle.dynamo_value.specs.KindText.{kind_text}
 use Rattle.exports.specs.declared.fault.Fault.{Fault}
 use Rattle.exports.specs.declared.fault.Position.{Position}
 
--- the column, behind the line unless it is the first
+-- the column, after the line unless it is the first
 abbrev pub position_text : Position → List ℕ
 position_text position =
     let column = codes "column " ++ decimal position.column in
@@ -23,7 +23,7 @@ fault_text (Fault.NotJson position) = Some
 fault_text Fault.NoItem = Some (codes "it has no Item")
 fault_text (Fault.Form located) = located_text kind_text located
 
--- a text behind the number of its line
+-- a text after the number of its line
 abbrev pub at_line : ℕ → List ℕ → List ℕ
 at_line number text = codes "line " ++ (decimal number ++ (codes ": " ++ text))
 

@@ -1,4 +1,4 @@
--- What a line of an export gives: the item that stands under `Item` of its JSON object, by the
+-- What a line of an export gives: the item that is under `Item` of its JSON object, by the
 -- definition of DynamoDB JSON.
 use Rattle.std.specs.Prelude.{◌≡◌, ◌⊎◌, ℕ, List, [], Result, Ok, Err, Some, MatchOption}
 use Rattle.std.specs.Prelude.{MatchResult, IsUtf8, codes}
@@ -48,7 +48,7 @@ abbrev pub ReadsJson : List ℕ → Result Value Fault → Type 0
 ReadsJson bytes (Ok json) = IsJson bytes (view json)
 ReadsJson bytes (Err fault) = IsNotJson bytes fault ⊎ IsLackOfMemory fault
 
--- the item under `Item`: the one that reading DynamoDB JSON gives of what stands there, or its
+-- the item under `Item`: the one that reading DynamoDB JSON gives of what is there, or its
 -- refusal
 abbrev pub ReadsItem : Data → Result Item Fault → Type 0
 ReadsItem json r =

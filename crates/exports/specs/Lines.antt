@@ -104,7 +104,7 @@ PassesTo left old n middle = PassesBlank (limit_of old) n (left (reader_of old))
 abbrev pub IsLast : {R : Type 0} → Option (List ℕ) → Lines R → Type 0
 IsLast middle new = (is_ended new ≡ true × IsAtEnd middle) ⊎ (18446744073709551615 ≤ number_of new)
 
--- The next line that isn't blank, behind some blank ones, and each of them counts. A read that
+-- The next line that isn't blank, after some blank ones, and each of them counts. A read that
 -- failed counts as a line, and so does a line that is too long. The lines end where the reader
 -- does, and with a read that failed.
 abbrev pub GivesText : {R : Type 0} → (R → Option (List ℕ)) → Lines R → Lines R

@@ -25,11 +25,11 @@ asked (Request.Delete key) = delete (item_view key)
 abbrev pub asked_of_table : TableRequests → List ℕ × List Asked
 asked_of_table t = (string_bytes t.table, map asked t.requests.items)
 
--- the item that stands under a name
+-- the item that is under a name
 abbrev pub item_under : List ℕ → Data → Result Members Refusal
 item_under name content = or_refuse any_message (get name content) >>= parsed_item
 
--- the request of what stands under `PutRequest` and `DeleteRequest`, of which there is one
+-- the request of what is under `PutRequest` and `DeleteRequest`, of which there is one
 abbrev pub request_of : Option Data → Option Data → Result Asked Refusal
 request_of (Some content) None = item_under (codes "Item") content >>= λ item. Ok (put item)
 request_of None (Some content) = item_under (codes "Key") content >>= λ key. Ok (delete key)

@@ -19,8 +19,8 @@ use std::io::BufRead;
 /// # Errors
 ///
 /// Returns a [`Finding`] if the line has no item, or if its item can't be read as the type. The
-/// next call goes on behind the line, except after [`Fault::Read`](crate::Fault::Read). A line
-/// whose item can't be read as the type is read once more, to find the place of the error.
+/// next call continues with the line after it, except after [`Fault::Read`](crate::Fault::Read). A
+/// line whose item can't be read as the type is read once more, to find the place of the error.
 pub fn next_value<T: Deserialize, R: BufRead>(
     alloc: Global,
     lines: &mut Lines<R>,

@@ -89,7 +89,7 @@ impl Groups {
     }
 }
 
-// How the group of a problem is printed behind its number of lines.
+// How the group of a problem is printed after its number of lines.
 fn name_of(alloc: Global, problem: &Problem) -> Result<String, AllocError> {
     match problem {
         Problem::Value(located) | Problem::Line(Fault::Form(located)) => {

@@ -1,9 +1,12 @@
 //! Reads items from the files of AWS's tools, and finds those that can't be read as a type.
 //!
-//! - [`Lines`] are the items of a full or an incremental export to S3, one in each line. A line
-//!   without an item is a [`LineFault`]. [`change_of`] returns the put or the delete of a line.
+//! - [`Lines`] reads the items of a full export to S3, one in each line. A line without an item is
+//!   a [`LineFault`]. Of an incremental export, read each [`Lines::next_text`] as JSON:
+//!   [`change_of`] returns the put or the delete of that line.
 //! - [`requests_in_file`] reads the request file of `aws dynamodb batch-write-item`.
-//! - [`next_value`] reads the next line of an export as a value of a type. A line that can't be
+//! - [`next_value`] reads the next line of an export as a value of a type that implements the
+//!   library's `Deserialize`. For a type that derives serde's traits, read the items of [`Lines`]
+//!   by `dynamo_serde::from_item_located`. A line that can't be
 //!   read is a [`Finding`]. [`Groups`] counts the findings with the same error at the same place,
 //!   and [`Summary`] the lines.
 //!

@@ -101,7 +101,7 @@ fn item_in_long_text(alloc: Global, text: &str) -> Result<Option<Item>, AllocErr
     item_in_text(alloc, &mut Scratch::new(alloc), text)
 }
 
-// Whether a line may have its item alone, by its end: most that have more behind the item aren't
+// Whether a line may have its item alone, by its end: most that have more after the item aren't
 // read twice.
 fn ends_with_two_objects(line: &[u8]) -> bool {
     line.trim_ascii_end().ends_with(b"}}")

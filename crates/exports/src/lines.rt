@@ -154,7 +154,7 @@ impl<R: BufRead> Lines<R> {
     /// Returns the errors of [`next_text`](Self::next_text), [`Fault::NotJson`] if the line isn't
     /// JSON, [`Fault::NoItem`] if it isn't an object with an `Item`, and [`Fault::Form`] if that
     /// isn't DynamoDB JSON of an item, or if memory runs out. After each of them but
-    /// [`Fault::Read`] the next call goes on behind the line.
+    /// [`Fault::Read`] the next call continues with the line after it.
     pub fn next_line(&mut self) -> Option<Result<Line, LineFault>>
         ensures gives { Gives R.remaining self.old self.new result }
         ensures limit { limit_of self.new ≡ limit_of self.old }
@@ -187,7 +187,7 @@ impl<R: BufRead> Lines<R> {
         })
     }
 
-    /// Returns the reader, behind the last line that was read.
+    /// Returns the reader, after the last line that was read.
     pub fn into_reader(self) -> R
         ensures { result ≡ reader_of self }
     {
@@ -200,8 +200,8 @@ impl<R: BufRead> Lines<R> {
     ///
     /// # Errors
     ///
-    /// Returns [`Fault::TooLong`] if the line is longer than the limit. The next call goes on
-    /// behind it.
+    /// Returns [`Fault::TooLong`] if the line is longer than the limit. The next call continues
+    /// with the line after it.
     ///
     /// Returns [`Fault::Read`] if the reader fails, or if memory for the line runs out. Every
     /// further call returns `None` then.

@@ -13,13 +13,13 @@ pub struct Case {
     is_tagged: bool,
     kind: Kind,
 
-    // What its fields are called, and what is written of them, behind a comma.
+    // What its fields are called, and what is written of them, after a comma.
     names: Vec<String>,
     refs: String,
 }
 
 // What a variant holds: one field or several without names, by the texts of their types, or fields
-// with names. Behind a tag one field without a name is a struct of this type.
+// with names. After a tag one field without a name is a struct of this type.
 #[derive(Drop)]
 enum Kind {
     Nothing,
@@ -135,7 +135,7 @@ impl Case {
         }
     }
 
-    /// What its fields are called in a ghost member, each behind a space.
+    /// What its fields are called in a ghost member, each after a space.
     pub fn ghost_binders(&self, alloc: Global) -> Result<String, AllocError> {
         let names = ghost_names(alloc, self.names.as_slice())?;
         wrapped(alloc, names.as_slice(), " ", "")?.join(alloc, "")

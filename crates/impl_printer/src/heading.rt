@@ -10,7 +10,7 @@ pub struct Heading {
     /// The name that it is written under.
     pub shown: String,
 
-    /// Its parameters behind its name, as `<T>`; empty where it has none.
+    /// Its parameters after its name, as `<T>`; empty where it has none.
     pub arguments: String,
 
     /// The type, as `Page<T>`.

@@ -6,7 +6,7 @@ pub struct ModulePath {
     /// The name of the crate.
     pub krate: String,
 
-    /// The module inside the crate, with a dot behind each part.
+    /// The module inside the crate, with a dot after each part.
     pub inside: String,
 
     /// Whether the user gave them.

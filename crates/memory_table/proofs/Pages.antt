@@ -19,7 +19,7 @@ Lent = List (Bor Key × Bor Item)
 abbrev pub Entries : Type 0
 Entries = List (Key × Item)
 
--- the entries stand in the order of their keys, each key once
+-- the entries are in the order of their keys, each key once
 abbrev pub InOrder : Entries → Type 0
 InOrder es = IsStrictlySortedBy key_cmp (keys_of es)
 

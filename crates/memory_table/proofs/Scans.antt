@@ -1,4 +1,4 @@
--- The pages of a scan: what comes behind the last key of a page is what the page left.
+-- The pages of a scan: what comes after the last key of a page is what the page left.
 use Rattle.std.proofs.Common.{◌≡◌, ◌∙◌, ℕ, ◌<◌, [], ◌∷◌, ◌++◌, take, drop, length, Option, Some}
 use Rattle.std.proofs.Common.{None, Bor, Less}
 use Rattle.std.proofs.Common.{refl, sym, ap, subst, append_assoc, length-append, length-take, arith}
@@ -29,7 +29,7 @@ all_above : (key : Key) (es : Entries) → AllByRecursion (λ k. key_cmp key k �
 all_above key [] s = refl
 all_above key (x ∷ es) s = rw (s.0, all_above key es s.1)
 
--- what lies above an entry of a sorted list stands behind it
+-- what lies above an entry of a sorted list comes after it
 cut : (front : Entries) (e : Key × Item) (back : Entries) → InOrder (front ++ e ∷ back)
     → above e.0 (front ++ e ∷ back) ≡ back
 unfolding IsStrictlySortedBy

@@ -108,7 +108,7 @@ impl Table {
         Ok(page)
     }
 
-    /// Returns a page of all items: those behind `start_after`, in the order of their keys, at
+    /// Returns a page of all items: those after `start_after`, in the order of their keys, at
     /// most `limit`. The next page starts after the last key of this one.
     ///
     /// # Errors

@@ -6,7 +6,7 @@ use std::collections::HashMap;
 use std::fmt::{self, Debug, Formatter, Write};
 use std::io;
 
-/// Prints a label, and behind it what a call returned: the value, or the kind of the error. Drops
+/// Prints a label, and after it what a call returned: the value, or the kind of the error. Drops
 /// what was returned.
 pub fn say<T: Debug + Drop>(rt: &HostRuntime, label: &str, returned: Result<T>) -> io::Result<()> {
     print!(rt; "{label}: {}", Answer(&returned))

@@ -6,8 +6,8 @@ use serde_dynamo::de::Deserialize;
 use serde_dynamo::{AttributeValue, LentDeserializer, from_attribute_value};
 use std::fmt::Debug;
 
-/// Reads a value lent and then taken. Prints what it reads as where it is taken, behind the label,
-/// and then where it is lent, behind ` | lent`.
+/// Reads a value lent and then taken. Prints what it reads as where it is taken, after the label,
+/// and then where it is lent, after ` | lent`.
 pub fn say_both<T: Deserialize + Debug + Drop>(
     rt: &HostRuntime,
     label: &str,

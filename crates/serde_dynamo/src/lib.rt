@@ -70,13 +70,13 @@
 //!
 //! | Way | What you write | What is proved |
 //! |---|---|---|
-//! | derive | `#[derive(Serialize, Deserialize)]` | what is written is what serde sends |
+//! | derive | `#[derive(Serialize, Deserialize)]` | each call returns and is safe |
 //! | describe | what `dynamo_derive` prints for your declaration | what was stored reads back |
 //! | by hand | `impl Serialize`, `impl Deserialize` | each does what you state of it |
 //!
 //! **Derive** for floats and for attributes that no description has, such as `flatten`. Such a type
-//! is for the calls of `dynamo_serde`, which have the names of the calls here. That its values read
-//! back is only tested.
+//! is for the calls of `dynamo_serde`, which have the names of the calls here. What it writes and
+//! reads is only tested.
 //!
 //! ```rust
 //! use serde::{Deserialize, Serialize};
@@ -257,7 +257,7 @@
 //! assert_eq!(rt; error.to_string(alloc)?.as_str(), "age: Expected num");
 //! ```
 //!
-//! [`DynamoJsonLocated`] does the same for DynamoDB JSON that isn't that of an item:
+//! [`DynamoJsonLocated`] does the same when DynamoDB JSON is read:
 //!
 //! ```rust
 //! use serde_dynamo::{DynamoJsonLocated, Item};
@@ -315,7 +315,7 @@
 //! use serde::{Deserialize, Serialize};
 //! use serde_dynamo::{Item, Result};
 //! use std::alloc::{AllocError, Global};
-//! use table_keys::{KeyAttribute, KeyKind, KeySchema};
+//! use memory_table::{KeyAttribute, KeyKind, KeySchema};
 //! use typed_table::{AsItem, Keyed, TypedTable};
 //!
 //! #[derive(Drop, Serialize, Deserialize)]

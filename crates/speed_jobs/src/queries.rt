@@ -35,7 +35,7 @@ struct Sizes {
     sensors: u64,
     readings: u64,
 
-    // The orders of the large customer, each so many numbers behind the one before.
+    // The orders of the large customer, each so many numbers after the one before.
     orders: u64,
     step: u64,
 
@@ -240,7 +240,7 @@ fn beginning(prefix: &Option<KeyValue>) -> SortCondition<'_> {
     }
 }
 
-// At most ten readings of a window of twenty, from one end, of those behind a key where there is
+// At most ten readings of a window of twenty, from one end, of those after a key where there is
 // one.
 fn in_window<T: Asked>(
     alloc: Global,
@@ -288,7 +288,7 @@ fn of_readings<T: Asked>(
     Ok(digest)
 }
 
-// What is asked of a sensor's readings: the latest, some of a window from its end, and behind the
+// What is asked of a sensor's readings: the latest, some of a window from its end, and after the
 // first or before the last of all readings, and all in pages from both ends.
 fn of_sensor<T: Asked>(
     alloc: Global,

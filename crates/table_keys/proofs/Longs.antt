@@ -12,7 +12,7 @@ use Rattle.table_keys.proofs.Sizes.{ten_pos}
 pub ten_more : (k : ℕ) → 10 ^ (k + 1) ≡ 10 ^ k * 10
 ten_more k = pow-add 10 k 1
 
--- ---- texts of digits, one behind the other
+-- ---- texts of digits, one after the other
 
 pub value_append : (n : ℕ) (xs ys : List ℕ) → digits_value_after 10 n (xs ++ ys) ≡ digits_value_after 10 (digits_value_after 10 n xs) ys
 value_append n [] ys = refl
@@ -51,7 +51,7 @@ pub long_after : (n : ℕ) (cs : List ℕ) → IsLong n → AllDigits 10 cs → 
 long_after n [] l p = l
 long_after n (c ∷ cs) l p = long_after (n * 10 + digit_value c) cs (long_more n (digit_value c) p.0 l) p.1
 
--- a digit that is not zero, behind 38 digits and zeros
+-- a digit that is not zero, after 38 digits and zeros
 pub long_here : (digits zeros d : ℕ) → 10 ^ 37 ≤ digits → 0 < d → d < 10 → IsLong (digits * 10 ^ zeros * 10 + d)
 long_here digits zeros d large some h =
     let all : digits ≤ digits * 10 ^ zeros = le-mul_of_pos_right digits (ten_pos zeros) in

@@ -1,4 +1,4 @@
--- Where the exponent of a number's text stands.
+-- Where the exponent of a number's text is.
 use Rattle.std.proofs.Common.{◌≡◌, ◌<◌, ◌==◌, ℕ, true, false, List, length, Option, Some, None, MatchOption, Bor, if◌then◌else◌, subst, sym, ap, ◌∙◌, arith}
 use Rattle.std.proofs.lemmas.Bool.Decides.{nat_tests}
 use Rattle.std.specs.List.{position_or_len, before_first, after_first}

@@ -27,7 +27,7 @@ compared_is : (b w : KeyValue)
     × (nat_cmp (kind_rank b) (kind_rank w) ≡ Greater → value_cmp b w ≡ Greater)
 compared_is b w = grind (arith, nat_tests, value_total.antisymm w b)
 
--- the sort key comes from just before a bound on, or from just behind it
+-- the sort key comes from just before a bound on, or from just after it
 abbrev from_bound : Bool → Bor KeyValue → Option KeyValue → Bool
 from_bound behind b sort = is_from (option_cmp value_cmp) behind (Some b.now) sort
 

@@ -11,7 +11,7 @@ use Rattle.table_keys.specs.Ranges.{IsNextValue}
 pub empty_first : (xs : List ℕ) → is_le (text_cmp [] xs) ≡ true
 empty_first xs = grind arith
 
--- no list lies between a list and the same with a zero behind it
+-- no list lies between a list and the same with a zero after it
 pub zero_added : (xs ys : List ℕ) → is_lt (text_cmp xs ys) ≡ is_le (text_cmp (xs ++ 0 ∷ []) ys)
 zero_added (x ∷ xs) (y ∷ ys) = let rest = zero_added xs ys in grind arith
 zero_added xs ys = grind (arith, nat_tests, empty_first)
@@ -26,7 +26,7 @@ next_number z next is (KeyValue.N w) held = grind (
 )
 next_number z next is other held = grind arith
 
--- behind the greatest number come the byte strings
+-- after the greatest number come the byte strings
 pub next_kind : (z : ℤ) (next : Vec ℕ Global) → IsGreatest z → next.items ≡ []
     → IsNextValue (KeyValue.N z) (KeyValue.B next)
 next_kind z next is empty (KeyValue.N w) held = grind (arith, is w held, int_cmp_total.antisymm z w)

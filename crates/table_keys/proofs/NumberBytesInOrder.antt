@@ -20,7 +20,7 @@ high_less u x y r s h l =
     let step : suc x * u ≤ y * u = mul-le-mul_right u l in
     omega (arith, simp suc-mul at step)
 
--- two numbers by what stands above a place and what stands below it
+-- two numbers by what is above a place and what is below it
 place_cmp : (u x y r s : ℕ) → r < u → s < u → ordering_then (nat_cmp x y) (nat_cmp r s) ≡ nat_cmp (x * u + r) (y * u + s)
 place_cmp u x y r s h g =
     ⊎_elim (λ e. ap (λ o. ordering_then o (nat_cmp r s)) (equal x y e) ∙ below e)

@@ -43,7 +43,7 @@ module _ (query : Query) (range : SortRange) (low high : Place)
     (meets : MeetsBetween query.sort range)
     (is_low : IsPlaceIn query.partition.now range.low low)
     (is_high : IsEndIn query.partition.now range.high high) where
-  -- what a query finds lies between the two places, behind the key after which it starts
+  -- what a query finds lies between the two places, after the key after which it starts
   found_between : (key : Key) → IsHeldKey key → finds query key
       ≡ is_found_between query low high key
   found_between key held =

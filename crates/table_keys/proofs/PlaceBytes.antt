@@ -27,7 +27,7 @@ module _ (partition : KeyValue) (place : Place) where
   pub from_start : value_cmp place.key.partition partition ≡ Less → IsPlaceBytes partition place []
   from_start e key bytes here is = rw (alike key Less here e) (grind (arith, empty_first bytes))
 
-  -- nothing of it comes from a place behind it
+  -- nothing of it comes from a place after it
   pub from_end : value_cmp place.key.partition partition ≡ Greater
       → IsPlaceBytes partition place (3 ∷ [])
   from_end e key bytes here is = rw (alike key Greater here e) (grind arith)

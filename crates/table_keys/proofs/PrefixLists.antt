@@ -30,7 +30,7 @@ module _ (m : ℕ) where
     abbrev pub IsApart : ℕ → Type 0
     IsApart x = (x ≤ m) × (c < x → d ≤ x)
 
-    -- Of such lists, those that begin with c and then m's lie from it up to d, behind other elements.
+    -- Of such lists, those that begin with c and then m's lie from it up to d, after other elements.
     pub from_last : (before ms xs : List ℕ) → All (λ x. x ≡ m) ms → All IsApart xs
         → has xs (before ++ c ∷ ms)
         ≡ (is_le (text_cmp (before ++ c ∷ ms) xs) && is_gt (text_cmp (before ++ d ∷ []) xs))

@@ -49,7 +49,7 @@ last_colon (x ∷ front) back (y ∷ front') back' l l' e =
     let rest = last_colon front back front' back' l l' (ap tail_of e) in
     (rw (ap head_of e, rest.0) refl, rest.1)
 
--- what `rsplit_once` at a colon answers: the word has none, or these stand before and behind the last
+-- what `rsplit_once` at a colon answers: the word has none, or these come before and after the last
 abbrev pub Splits : List ℕ → Option (Bor (List ℕ) × Bor (List ℕ)) → Type 0
 Splits word r = MatchOption r (RFindsChar 58 word None) (λ x. (i : ℕ) × (j : ℕ) × RFindsChar 58 word (Some (i, j)) × (x.0.now ≡ take i word) × (x.1.now ≡ drop j word) × (i ≤ j) × (length x.0.now ≡ i) × (length x.1.now + j ≡ length word))
 

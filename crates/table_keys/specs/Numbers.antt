@@ -15,12 +15,12 @@ IsKept n = (n ≡ 0) ⊎ ((digits : ℕ) × (power : ℕ) × (10 ^ 37 ≤ digits
 abbrev pub signed : Bool → ℕ → ℤ
 signed negative n = if negative then neg_ℤ (pos n) else pos n
 
--- ---- the parts of a text: digits, perhaps a sign before them and a point among them, and perhaps an exponent behind them
+-- ---- the parts of a text: digits, perhaps a sign before them and a point among them, and perhaps an exponent after them
 
 abbrev pub has : ℕ → List ℕ → Bool
 has c text = nat_lt (position_or_len (λ b. b == c) text) (length text)
 
--- the exponent stands behind the first `e`, or behind the first `E` where there is no `e`
+-- the exponent comes after the first `e`, or after the first `E` where there is no `e`
 abbrev pub mark : List ℕ → ℕ
 mark text = if has 101 text then 101 else 69
 
@@ -33,15 +33,15 @@ IsExponent text z =
     let written = after_first (λ b. b == mark text) text in
     MatchBool (has (mark text) text) (IsNumeral 10 (without_leading_sign written) × FitsSigned w32 z × (z ≡ signed_digits_value 10 written)) (z ≡ pos 0)
 
--- what stands before the point, with the sign, and what stands behind it
+-- the text before the point, with the sign, and the text after it
 abbrev pub whole : List ℕ → List ℕ
 whole text = before_first (λ b. b == 46) (mantissa text)
 
 abbrev pub fraction : List ℕ → List ℕ
 fraction text = after_first (λ b. b == 46) (mantissa text)
 
--- The number z of a sign, the digits before and behind a point, and an exponent: the digits as an integer, times ten to the
--- exponent, divided by ten for each digit behind the point. It is one that is kept.
+-- The number z of a sign, the digits before and after a point, and an exponent: the digits as an integer, times ten to the
+-- exponent, divided by ten for each digit after the point. It is one that is kept.
 pub record IsDecimal (negative : Bool) (before behind : List ℕ) (exponent z : ℤ) : Type 0 where
   pub size : ℕ
   pub is_numeral : IsNumeral 10 (before ++ behind)

@@ -38,12 +38,12 @@ meets_sort condition (Some value) = meets condition value
 meets_sort SortCondition.Any None = true
 meets_sort condition None = false
 
--- the key comes behind the one after which to start, in the direction of the query
+-- the key comes after the one after which to start, in the direction of the query
 abbrev pub is_behind : Bool → Option (Bor Key) → Key → Bool
 is_behind backward None key = true
 is_behind backward (Some start) key = if backward then is_lt (key_cmp key start.now) else is_lt (key_cmp start.now key)
 
--- the query finds the items of its partition whose sort key meets its condition, behind the key after which it starts
+-- the query finds the items of its partition whose sort key meets its condition, after the key after which it starts
 abbrev pub finds : Query → Key → Bool
 finds query key = is_eq (value_cmp key.partition query.partition.now) && (meets_sort query.sort key.sort && is_behind query.backward query.start_after key)
 
@@ -54,10 +54,10 @@ in_direction backward found = if backward then reverse found else found
 abbrev pub answer : Query → List (Key × Item) → List (Key × Item)
 answer query entries = take query.limit (in_direction query.backward (filter (λ e. finds query e.0) entries))
 
--- a page of a scan: the items behind a key, up to a limit
+-- a page of a scan: the items after a key, up to a limit
 abbrev pub rest : Option (Bor Key) → List (Key × Item) → List (Key × Item)
 rest start entries = filter (λ e. is_behind false start e.0) entries
 
--- what is lent, as it stands in the table
+-- what is lent, as it is in the table
 abbrev pub seen : List (Bor Key × Bor Item) → List (Key × Item)
 seen found = map (λ p. (p.0.now, p.1.now)) found

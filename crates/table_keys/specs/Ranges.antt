@@ -48,17 +48,17 @@ MeetsBetween condition range = (sort : Option KeyValue) → IfSome sort IsHeld
 abbrev pub MeetsNone : SortCondition → Type 0
 MeetsNone condition = (sort : Option KeyValue) → meets_sort condition sort ≡ false
 
--- the place is just before the value, or just behind it
+-- the place is just before the value, or just after it
 abbrev pub IsPlaceAt : Bool → KeyValue → SortPlace → Type 0
 IsPlaceAt behind value place = (sort : Option KeyValue)
     → is_from_sort place sort ≡ is_from (option_cmp value_cmp) behind (Some value) sort
 
--- the sort key is a value of this kind or of one that comes behind it
+-- the sort key is a value of this kind or of one that comes after it
 abbrev pub is_from_kind : KeyValue → Option KeyValue → Bool
 is_from_kind value None = false
 is_from_kind value (Some sort) = is_le (nat_cmp (kind_rank value) (kind_rank sort))
 
--- the sort key is a value of a kind that comes behind this one
+-- the sort key is a value of a kind that comes after this one
 abbrev pub is_past_kind : KeyValue → Option KeyValue → Bool
 is_past_kind value None = false
 is_past_kind value (Some sort) = is_lt (nat_cmp (kind_rank value) (kind_rank sort))
@@ -68,7 +68,7 @@ abbrev pub IsKindStart : KeyValue → SortPlace → Type 0
 IsKindStart value place = (sort : Option KeyValue) → IfSome sort IsHeld
     → is_from_sort place sort ≡ is_from_kind value sort
 
--- the place is the first behind the value's kind
+-- the place is the first after the value's kind
 abbrev pub IsKindEnd : KeyValue → Option SortPlace → Type 0
 IsKindEnd value place = (sort : Option KeyValue) → IfSome sort IsHeld
     → is_from_end place sort ≡ is_past_kind value sort
@@ -90,7 +90,7 @@ IsEndIn partition (Some sort) place = IsPlaceIn partition sort place
 IsEndIn partition None place = IsNextValue partition place.key.partition
     × (place.key.sort ≡ None) × (place.is_behind ≡ false)
 
--- what lies from the low place up to the high one, behind the key after which the query starts
+-- what lies from the low place up to the high one, after the key after which the query starts
 abbrev pub is_found_between : Query → Place → Place → Key → Bool
 is_found_between query low high key = is_from_place low key && not (is_from_place high key)
     && is_behind query.backward query.start_after key

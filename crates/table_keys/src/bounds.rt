@@ -6,7 +6,7 @@ use crate::{KeyValue, Place, Query, sort_bytes};
 use std::alloc::{AllocError, Global};
 use std::cmp::Ordering;
 
-// What comes behind the bytes of any sort key.
+// What comes after the bytes of any sort key.
 const BEHIND_ALL: u8 = 3;
 
 /// The bytes of the sort keys that a query finds in its partition: those from `low` on and before
@@ -16,7 +16,7 @@ pub struct Bounds {
     /// The first bytes of the range.
     pub low: Vec<u8>,
 
-    /// The first bytes behind the range.
+    /// The first bytes after the range.
     pub high: Vec<u8>,
 }
 

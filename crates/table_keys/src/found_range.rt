@@ -119,7 +119,7 @@ impl KeyRange {
 }
 
 // Returns the value that comes next to a value, so that none lies between them: a string or a byte
-// string with a zero byte added, and the next number. Behind the greatest number come the byte
+// string with a zero byte added, and the next number. After the greatest number come the byte
 // strings.
 #[tactic(auto, using(crate::proofs::NextValues::zero_added))]
 fn next_value(alloc: Global, value: &KeyValue) -> Result<KeyValue, AllocError>

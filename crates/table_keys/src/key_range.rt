@@ -10,7 +10,7 @@ pub struct KeyRange {
     /// The place where the range begins.
     pub low: Place,
 
-    /// The place where it ends, behind [`low`](KeyRange::low).
+    /// The place where it ends, after [`low`](KeyRange::low).
     pub high: Place,
 
     ghost forward: { place_cmp low high ≡ Less },

@@ -61,7 +61,7 @@ impl Number {
     /// doesn't keep.
     ///
     /// The string has digits, and may have a sign before them, a point among them and an exponent
-    /// of 32 bits behind them.
+    /// of 32 bits after them.
     ///
     /// # Examples
     ///
@@ -140,7 +140,7 @@ impl Number {
         }
     }
 
-    // The number of a sign, the digits before and behind a point, and an exponent.
+    // The number of a sign, the digits before and after a point, and an exponent.
     fn decimal(negative: bool, whole: &[u8], fraction: &[u8], exponent: i32) -> Option<Number>
         ensures { MatchOption result
             ((z : ℤ) → ¬ (IsDecimal negative whole.now fraction.now exponent z))
@@ -228,7 +228,7 @@ fn size_bytes(power: u8, coefficient: u128) -> [u8; 18]
     bytes
 }
 
-// What stands before the exponent of a number's text, and the exponent, 0 where none is written.
+// The text before the exponent of a number's text, and the exponent, 0 where none is written.
 fn split_exponent(text: &str) -> Option<(&str, i32)>
     ensures { MatchOption result ((z : ℤ) → ¬ (IsExponent text.now z))
         (λ r. (r.0.now ≡ mantissa text.now) × IsExponent text.now r.1) }
@@ -242,7 +242,7 @@ fn split_exponent(text: &str) -> Option<(&str, i32)>
     }
 }
 
-// What stands before the first `e`, or `E` where there is no `e`, and what stands behind it.
+// The text before the first `e`, or `E` where there is no `e`, and the text after it.
 fn split_mark(text: &str) -> Option<(&str, &str)>
     ensures { MatchOption result (has (mark text.now) text.now ≡ false)
         (λ r. (has (mark text.now) text.now ≡ true) × (r.0.now ≡ mantissa text.now)
@@ -251,7 +251,7 @@ fn split_mark(text: &str) -> Option<(&str, &str)>
     text.split_once('e').or(text.split_once('E'))
 }
 
-// What stands before the first point, and what stands behind it.
+// The text before the first point, and the text after it.
 fn split_point(mantissa: &str) -> (&str, &str)
     ensures whole { result.0.now ≡ before_first (λ b. b == 46) mantissa.now }
     ensures fraction { result.1.now ≡ after_first (λ b. b == 46) mantissa.now }
@@ -262,7 +262,7 @@ fn split_point(mantissa: &str) -> (&str, &str)
     }
 }
 
-// Whether a minus stands first, and what stands behind a sign.
+// Whether the text begins with a minus, and the text after a sign.
 fn split_sign(text: &[u8]) -> (bool, &[u8])
     ensures sign { result.0 ≡ starts_with_minus text.now }
     ensures rest { result.1.now ≡ without_leading_sign text.now }
@@ -274,7 +274,7 @@ fn split_sign(text: &[u8]) -> (bool, &[u8])
     }
 }
 
-// Reads digits behind those read so far, which are `digits` and then `zeros` zeros. `None` where
+// Reads digits after those read so far, which are `digits` and then `zeros` zeros. `None` where
 // there is another character, or a 39th digit that counts.
 fn read_digits(mut digits: u128, mut zeros: usize, text: &[u8]) -> Option<(u128, usize)>
     requires bound { digits < 10 ^ 38 }

@@ -173,7 +173,7 @@ pub(crate) fn begins_with(value: &KeyValue, prefix: &KeyValue) -> bool
     }
 }
 
-/// Returns whether a key is behind `start` in a direction. If `start` is `None`, each key is.
+/// Returns whether a key is after `start` in a direction. If `start` is `None`, each key is.
 pub fn is_behind(backward: bool, start: Option<&Key>, key: &Key) -> bool
     ensures { result ≡ is_behind backward start.entry key.now }
 {

@@ -43,7 +43,7 @@ pub struct KeySchema {
 }
 
 impl KeyAttribute {
-    /// Returns the attribute that an argument `NAME:KIND` names, as `at:N`. The kind is behind the
+    /// Returns the attribute that an argument `NAME:KIND` names, as `at:N`. The kind is after the
     /// last colon.
     ///
     /// # Errors

@@ -9,7 +9,7 @@ use crate::prefix::{bytes_past, text_past};
 use crate::{KeyValue, Number, SortCondition};
 use std::alloc::{AllocError, Global};
 
-/// A place among the sort keys of a partition: just before a sort key, or just behind it. A key
+/// A place among the sort keys of a partition: just before a sort key, or just after it. A key
 /// without a sort value comes before all others.
 #[derive(Drop)]
 pub(crate) struct SortPlace {
@@ -123,7 +123,7 @@ impl SortPlace {
         }
     }
 
-    // Returns the place just before a value, or just behind it.
+    // Returns the place just before a value, or just after it.
     #[tactic(auto, using(crate::proofs::Meets::equal_values))]
     fn at(value: &KeyValue, is_behind: bool) -> Result<SortPlace, AllocError>
         ensures { IfOk result (IsPlaceAt is_behind value.now) }
@@ -147,7 +147,7 @@ impl SortPlace {
         SortPlace::first_at(least)
     }
 
-    // Returns the place before all values of the next kind, or `None` behind the byte strings,
+    // Returns the place before all values of the next kind, or `None` after the byte strings,
     // which are the last.
     fn past_kind(alloc: Global, value: &KeyValue) -> Option<SortPlace>
         ensures { IsKindEnd value.now result }

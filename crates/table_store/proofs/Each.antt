@@ -10,7 +10,7 @@ use Rattle.table_store.specs.declared.error.StoreError.{StoreError}
 use Rattle.table_store.specs.declared.rows.definition.Definition.{Definition}
 use Rattle.table_store.proofs.Called.{is_err}
 
--- an item, and those behind it
+-- an item, and those after it
 pub next : {A : Type 0} (items : List A) (i : ℕ) (item : A) → i < length items → item ≡ get_or items i item
     → drop i items ≡ item ∷ drop (i + 1) items
 next items i item lt at = drop_more items i item lt ∙ ap (λ x. x ∷ drop (i + 1) items) (sym at)

@@ -47,7 +47,7 @@ are_behind schema before (item ∷ items) a kept (Ok key, reads, is) =
     let h = went_on kept (comes_behind before key) is in (key, read, h.0, are_behind schema (Some key) items a kept h.1)
 
 module _ (schema : KeySchema) (start : Option Key) (items : List Item) where
-  -- what becomes of the items from here on, behind the last key, becomes of all
+  -- what becomes of the items from here on, after the last key, becomes of all
   abbrev pub LeadsTo : ℕ → Option Key → Type 0
   LeadsTo i last =
       (r : Result (List Item) StoreError) → IfBehind schema (option_or last start) (drop i items) items r → IfBehind schema start items items r

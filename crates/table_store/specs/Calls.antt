@@ -123,14 +123,14 @@ module _ {S : Type 0} (g : Ghosts S) where
   Joins items more old new r = ((r ≡ Ok (items ++ more)) ⊎ (r ≡ Err StoreError.OutOfMemory))
       × (new ≡ old)
 
-  -- so many items behind a key: the rest of its partition, and if that has fewer, those that follow
+  -- so many items after a key: the rest of its partition, and if that has fewer, those that follow
   unfoldable pub Pages : ℤ → KeyBytes → ℕ → Step (List Item)
   Pages id start limit =
       After (Finds g rest_text (rest_of id start limit) limit) (λ items. λ old new r.
       let left = limit - length items in MatchBool (left == 0) (Returns items old new r)
       (After (Finds g following_text (following_of id start left) left) (Joins items) old new r))
 
-  -- the items, if the first comes behind the start, and each other one behind the one before it
+  -- the items, if the first comes after the start, and each other one after the one before it
   abbrev pub InOrder : Option (Bor Key) → KeySchema → List Item → Step (List Item)
   InOrder after schema items old new r = IfBehind schema (option_copied after) items items r
       × (new ≡ old)

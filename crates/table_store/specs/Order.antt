@@ -11,12 +11,12 @@ use Rattle.table_keys.specs.declared.schema.KeySchema.{KeySchema}
 use Rattle.table_store.specs.Errors.{of_foreign}
 use Rattle.table_store.specs.declared.error.StoreError.{StoreError}
 
--- the key comes behind the one before it, if there is one
+-- the key comes after the one before it, if there is one
 abbrev pub comes_behind : Option Key → Key → Bool
 comes_behind None key = true
 comes_behind (Some before) key = is_lt (key_cmp before key)
 
--- each item has a key behind that of the item before it, and the first behind the start
+-- each item has a key after that of the item before it, and the first after the start
 abbrev pub AreBehind : KeySchema → Option Key → List Item → Type 0
 AreBehind schema before [] = ⊤
 AreBehind schema before (item ∷ items) =
@@ -28,8 +28,8 @@ ReadsOwnKey schema item r =
     (key : Result Key TableError) × ReadsKey schema item key × MatchResult key (λ key. r ≡ Ok key) (λ error. r ≡ Err (of_foreign error))
 
 -- The keys of the items are read one after the other. What belongs to them is returned if each
--- comes behind the one before it. It is refused for the first item that has no key, or one that
--- doesn't come behind.
+-- comes after the one before it. It is refused for the first item that has no key, or one that
+-- doesn't come after.
 abbrev pub IfBehind : {A : Type 0} → KeySchema → Option Key → List Item → A → Result A StoreError
     → Type 0
 IfBehind schema before [] a r = r ≡ Ok a

@@ -27,7 +27,7 @@ delete_text = codes
 abbrev pub count_text : List ℕ
 count_text = codes "SELECT count(*) FROM dynamo_item WHERE table_id = ?1"
 
--- the items behind a sort key in its partition, and those of the partitions that follow
+-- the items after a sort key in its partition, and those of the partitions that follow
 abbrev pub rest_text : List ℕ
 rest_text =
     codes "SELECT item FROM dynamo_item WHERE table_id = ?1 AND partition_key = ?2 AND sort_key > ?3 ORDER BY sort_key LIMIT ?4"
@@ -62,7 +62,7 @@ row_of id key item = place id key ++ Text (text_of item) ∷ []
 abbrev pub limit_of : ℕ → ℤ
 limit_of limit = pos (min limit (2 ^ 63 - 1))
 
--- so many rows behind a key in its partition, and so many of the partitions that follow
+-- so many rows after a key in its partition, and so many of the partitions that follow
 abbrev pub rest_of : ℤ → KeyBytes → ℕ → Row
 rest_of id start limit = place id start ++ Int (limit_of limit) ∷ []
 

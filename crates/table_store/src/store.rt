@@ -401,7 +401,7 @@ impl<S: Alter + Drop> TableStore<S> {
     /// # Errors
     ///
     /// Returns [`StoreError::Unreadable`] if the text of an item can't be read, or if an item of
-    /// the page has no key or one that isn't behind the key before it: then no call of `TableStore`
+    /// the page has no key or one that isn't after the key before it: then no call of `TableStore`
     /// wrote one of the rows.
     ///
     /// Returns [`StoreError::Database`] if the database fails, and [`StoreError::OutOfMemory`] if

@@ -76,7 +76,7 @@ refused_answer bytes json told known refusal (Err not_json) answer none is = abs
 refused_answer bytes json told known refusal (Err (faulty f)) answer lacks is = inr (is ∙ ap (λ g. Err (faulty g)) lacks)
 refused_answer bytes json told known refusal (Err read_failed) answer never is = absurd never
 
--- a known fault is told by its line
+-- a known fault is reported by its line
 pub refused_line : (bytes : List ℕ) (json : Data) (told : List ℕ) → IsJson bytes json → refusal_in (parsed json) ≡ Some (fault (message told))
     → (text : List ℕ) (status : ℕ) → Ends (Some check) (Ok bytes) text status → PrintsOrLacks (error_line told) 1 text status
 refused_line bytes json told known refusal text status (answer, (j, reads, checks), shows) =

@@ -5,7 +5,7 @@ use Rattle.tool_commands.specs.Reading.{calls}
 use Rattle.tool_commands.specs.Runs.{Ends}
 use Rattle.tool_commands.specs.Words.{Command}
 
--- A call with room gives the bytes that stand next, and none only at the end; `left` are the bytes
+-- A call with room gives the bytes that come next, and none only at the end; `left` are the bytes
 -- that a reader has left.
 abbrev pub TellsBytes : {R : Type 0} → (R → ℕ → Result (List ℕ) Error → R → Type 0) → (R → List ℕ)
     → Type 0

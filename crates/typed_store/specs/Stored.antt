@@ -60,8 +60,8 @@ WereFound Reads schema query values =
     (items : List Item) × All (IsFound schema query) items × (length items ≤ query.limit)
     × AllZip (ReadsAs Reads) items values
 
--- each value is what an item reads as whose key comes behind that of the one before it, the first
--- behind the start, and they are no more than the limit
+-- each value is what an item reads as whose key comes after that of the one before it, the first
+-- after the start, and they are no more than the limit
 abbrev pub WereScanned : {T : Type 0} → (Item → Result T Fault → Type 0) → KeySchema → ℕ
     → Option Key → List T → Type 0
 WereScanned Reads schema limit before values =

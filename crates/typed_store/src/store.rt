@@ -327,8 +327,8 @@ impl<T: AsItem + Keyed, S: Alter + Drop> TypedStore<T, S> {
 
     /// Replaces the value under a key with what `change` makes of it.
     ///
-    /// The error can be of any type that a [`TypedStoreError`] converts to, as `anyhow::Error` or a
-    /// type of your own.
+    /// The error can be of any type that a [`TypedStoreError`] converts to, such as `anyhow::Error`
+    /// or a type of your own.
     ///
     /// # Errors
     ///
@@ -383,7 +383,7 @@ impl<T: AsItem + Keyed, S: Alter + Drop> TypedStore<T, S> {
     }
 
     /// Returns the values that a query finds as [`query`](Self::query) does, and says where an
-    /// error was found. The place begins with the index of the value, as `[7].orders[3].price`.
+    /// error was found. The place begins with the index of the value: `[7].orders[3].price`.
     ///
     /// # Errors
     ///

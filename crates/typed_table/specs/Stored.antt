@@ -87,7 +87,7 @@ abbrev pub FailsToRead : {T : Type 0} → (Item → Result T Fault → Type 0) �
     → Error → Type 0
 FailsToRead Reads entries e = (fault_of e ≡ out_of_memory) ⊎ RefusesFirst Reads (fault_of e) entries
 
--- a page of a scan: the items behind a key, up to a limit
+-- a page of a scan: the items after a key, up to a limit
 abbrev pub page : ℕ → Option (Bor Key) → Table → List (Key × Item)
 page limit start table = take limit (rest start (entries_of table))
 

@@ -6,10 +6,10 @@ use dynamo_value::Error;
 use std::fmt;
 use table_keys::TableError;
 
-/// The reason why a value could not be stored. The table is unchanged.
+/// The reason why a value could not be stored or read. The table is unchanged.
 #[derive(Debug, Drop)]
 pub enum TypedTableError {
-    /// The value could not be written as an item.
+    /// The value could not be written as an item, or not be read from its item.
     Value(Error),
 
     /// The table refused the item.

@@ -19,7 +19,7 @@ use table_keys::KeySchema;
 ///
 /// ```rust
 /// use std::alloc::{AllocError, Global};
-/// use table_keys::{KeyAttribute, KeyKind, KeySchema};
+/// use memory_table::{KeyAttribute, KeyKind, KeySchema};
 /// use typed_table::Keyed;
 ///
 /// struct Order;

@@ -1,4 +1,4 @@
-//! The promise of a table: what was put under a key is got from it.
+//! The promise of a table: `get` returns the value that `put` stored.
 ghost use Rattle.std.specs.Prelude.{◌≡◌, ◌⊎◌, Result, Err, IfErr, IfOk, MatchOption};
 ghost use Rattle.dynamo_value.specs.Av as av;
 ghost use Rattle.dynamo_value.specs.Fault.{Fault};

@@ -34,9 +34,9 @@ use table_keys::{Condition, Key, Query, TableError};
 /// # use serde::{Deserialize, Serialize};
 /// # use serde_dynamo::{Item, Result};
 /// # use std::alloc::{AllocError, Global};
-/// # use table_keys::{KeyAttribute, KeyKind, KeySchema};
+/// # use memory_table::{KeyAttribute, KeyKind, KeySchema};
 /// # use typed_table::{AsItem, Keyed};
-/// use table_keys::{Condition, Query};
+/// use memory_table::{Condition, Query};
 /// use typed_table::TypedTable;
 ///
 /// #[derive(Drop, Serialize, Deserialize)]
@@ -223,7 +223,7 @@ impl<T: AsItem + Keyed> TypedTable<T> {
 
     /// Returns the value under a key, or `None`.
     ///
-    /// **What was put under a key is got from it**: if the type promises that its values read back,
+    /// **It returns the value that `put` stored**: if the type promises that its values read back,
     /// the value is the same as the one that was put, and the call fails only if memory runs out.
     ///
     /// # Errors
@@ -303,8 +303,8 @@ impl<T: AsItem + Keyed> TypedTable<T> {
 
     /// Replaces the value under a key with what `change` makes of it.
     ///
-    /// The error can be of any type that a [`TypedTableError`] converts to, as `anyhow::Error` or a
-    /// type of your own.
+    /// The error can be of any type that a [`TypedTableError`] converts to, such as `anyhow::Error`
+    /// or a type of your own.
     ///
     /// # Errors
     ///
@@ -361,7 +361,7 @@ impl<T: AsItem + Keyed> TypedTable<T> {
     }
 
     /// Returns the values that a query finds as [`query`](Self::query) does, and says where an
-    /// error was found. The place begins with the index of the value, as `[7].orders[3].price`.
+    /// error was found. The place begins with the index of the value: `[7].orders[3].price`.
     ///
     /// # Errors
     ///

@@ -1,4 +1,4 @@
-//! Attribute values and items where values of a program's own types may stand: they write as their DynamoDB JSON, and are
+//! Attribute values and items where values of a program's own types may be: they write as their DynamoDB JSON, and are
 //! read from it.
 use crate::fixtures::answers::{item, prints, shows, tells};
 use crate::fixtures::rows::{Row, counted};
@@ -13,7 +13,7 @@ use std::process::Abort;
 use std::test::Fail;
 use user_types::own_types::{both_item_json, both_json, item_json_and_back, json_and_back};
 
-// Attribute values, what is written of each as a value of a program, and behind ` | ` its DynamoDB JSON.
+// Attribute values, what is written of each as a value of a program, and after ` | ` its DynamoDB JSON.
 const WRITTEN: &str = r#"  Null(false) = M {"NULL": Bool(false)} | {"NULL":false}
   Null(true) = M {"NULL": Bool(true)} | {"NULL":true}
   Ss [] = M {"SS": L []} | {"SS":[]}

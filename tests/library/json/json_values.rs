@@ -1,4 +1,4 @@
-//! JSON values where values of a program's own types may stand.
+//! JSON values where values of a program's own types may be.
 use crate::fixtures::answers::{fault, is, tells};
 use crate::fixtures::notation;
 use crate::fixtures::rows::counted;

@@ -1,5 +1,5 @@
 //! In which order the attributes of an item are walked, and how much room its lists keep. An item of a line is as if a JSON value
-//! had been made of the line, whose members stand by their names: so its maps are walked, at every depth.
+//! had been made of the line, whose members are in the order of their names: so its maps are walked, at every depth.
 use dynamo_json::{DynamoJson, item_under};
 use dynamo_value::{AttributeValue, Item};
 use json::Scratch;
@@ -20,7 +20,7 @@ fn item_of(alloc: Global, text: &str) -> Result<Item, Fail> {
     }
 }
 
-// The names of a map as it is walked, each with a blank behind it.
+// The names of a map as it is walked, each with a blank after it.
 fn names(alloc: Global, map: &Attributes) -> Result<String, Fail> {
     let mut names = String::new(alloc);
     for (name, _) in map.iter() {
@@ -82,7 +82,7 @@ fn attributes_are_walked_by_their_names(rt: HostRuntime) -> Result<(), Fail> {
         (r#"{"a":{"S":"1"},"b":{"S":"2"},"a":{"S":"3"}}"#, "a b "),
         // By their bytes: capitals before small letters, a name before those that it begins, and ASCII before all else.
         (r#"{"é":{"S":""},"ab":{"S":""},"a":{"S":""},"B":{"S":""},"":{"S":""}}"#, " B a ab é "),
-        // UTF-16 has U+FFFD behind U+10000.
+        // UTF-16 has U+FFFD after U+10000.
         (r#"{"\ud800\udc00":{"S":""},"\ufffd":{"S":""}}"#, "\u{fffd} \u{10000} "),
     ];
     for (text, wanted) in rows {

@@ -1,4 +1,4 @@
-//! What stands in the tables of reading holds.
+//! What the tables of reading say holds.
 use crate::fixtures::at_type::Way;
 use crate::fixtures::notation;
 use crate::fixtures::readers::read;
@@ -16,7 +16,7 @@ use crate::tables::refusals::EXPECTED;
 use std::collections::HashMap;
 use std::test::Fail;
 
-// Each table, and how many answers stand in it.
+// Each table, and how many answers it has.
 const TABLES: [(&str, usize); 20] = [
     (INTEGERS, 81),
     (OTHER_DIGITS, 3),

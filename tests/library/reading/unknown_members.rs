@@ -9,7 +9,7 @@ use std::alloc::Global;
 use std::process::Abort;
 use std::test::Fail;
 
-// The struct of id `test-4` and value 42, whose map has the member on the left too, reads as what stands on the right.
+// The struct of id `test-4` and value 42, whose map has the member on the left too, reads as what is on the right.
 const MEMBERS: &str = r#"# What is let go.
   N "1565723640.315001" = Named { id: "test-4", value: 42, note: None }
   N "42" = Named { id: "test-4", value: 42, note: None }
@@ -67,7 +67,7 @@ fn reads(rt: &impl Abort, alloc: Global, source: &str, expected: &str) -> Result
     Ok(answers::<Named>(rt, alloc, read(alloc, value)?, expected)?)
 }
 
-// The member stands before the fields and after them.
+// The member comes before the fields and after them.
 fn among(rt: &impl Abort, alloc: Global, row: Row<'_>) -> Result<(), Fail> {
     let fields = r#""id": S "test-4", "value": N "42""#;
     let member = row.left;

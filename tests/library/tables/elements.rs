@@ -13,7 +13,7 @@ use std::alloc::Global;
 use std::process::Abort;
 use std::test::Fail;
 
-// Below each sequence stand calls on its elements, in turn, and the answer to the last of them.
+// Below each sequence are calls on its elements, in turn, and the answer to the last of them.
 const CALLS: &str = r#"# Past the end there is no element.
 L [N "1"]
   number = 1

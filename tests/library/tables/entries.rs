@@ -9,7 +9,7 @@ use std::alloc::Global;
 use std::process::Abort;
 use std::test::Fail;
 
-// Below each map stand calls on its entries, in turn, and the answer to the last of them.
+// Below each map are calls on its entries, in turn, and the answer to the last of them.
 const CALLS: &str = r#"# A value before a key is refused.
 M {}
   number = MapAccess::next_value called before MapAccess::next_key

@@ -1,5 +1,5 @@
 //! What each request shows of each source, or the fault, as the documents of the data model and of DynamoDB's kinds have it.
-//! Each part begins with its source. Below it stand requests, and behind ` = ` what is told, or how that begins where it ends
+//! Each part begins with its source. Below it are requests, and after ` = ` what is told, or how that begins where it ends
 //! in two points.
 
 /// All requests to an attribute value of each kind.

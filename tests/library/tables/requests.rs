@@ -29,7 +29,7 @@ fn around(alloc: Global, source: &str) -> Result<AttributeValue, Fail> {
     notation::value(alloc, text?.as_str())
 }
 
-// What the source of this text tells where it stands inside of a list, a set or a map.
+// What the source of this text tells where it is inside of a list, a set or a map.
 fn ask_inside(alloc: Global, source: &str, request: &'static str) -> Result<String, Fail> {
     let value = around(alloc, source)?;
     let first = Opener {
@@ -40,7 +40,7 @@ fn ask_inside(alloc: Global, source: &str, request: &'static str) -> Result<Stri
 }
 
 // What is expected at a request; nothing where no row names it. The first line is the text of the source; in
-// each of the others requests stand before ` = `.
+// each of the others requests come before ` = `.
 fn expected<'a>(rows: &'a str, request: &str) -> Option<&'a str> {
     for line in rows.lines() {
         if let Some((requests, expected)) = line.split_once(" = ")

@@ -10,7 +10,7 @@ use std::alloc::Global;
 use std::process::Abort;
 use std::test::Fail;
 
-// Below each source stand calls on its variant, and the answer to each of them.
+// Below each source are calls on its variant, and the answer to each of them.
 const MAPS: &str = r#"# A variant of one key has its value as its content.
 M {"a": N "5"}
   unit = a unit

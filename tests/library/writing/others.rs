@@ -37,7 +37,7 @@ fn structs_of_a_user_write_by_their_forms(rt: HostRuntime) -> Result<(), Fail> {
     writes(&rt, alloc, twice, r#"M {"a": N "2"}"#)
 }
 
-// A value that refuses is refused wherever it stands, also where another value would stay in its place.
+// A value that refuses is refused wherever it is, also where another value would stay in its place.
 #[test]
 fn the_first_faulty_element_is_the_fault(rt: HostRuntime) -> Result<(), Fail> {
     let alloc = rt.alloc();

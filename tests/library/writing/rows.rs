@@ -1,11 +1,11 @@
-//! What stands in the tables of writing holds.
+//! What the tables of writing say holds.
 use crate::fixtures::at_type::Way;
 use crate::fixtures::types::holds;
 use crate::json::attribute_values::INSIDE;
 use crate::writing::values::{DIRECTLY, LISTS, MAPS, SCALARS, STRUCTS};
 use std::test::Fail;
 
-// Each table, and how many answers stand in it.
+// Each table, and how many answers it has.
 const TABLES: [(&str, usize); 5] = [
     (SCALARS, 27),
     (LISTS, 10),

@@ -18,7 +18,7 @@ use user_types::forms::Name;
 // What a test answers.
 type Checked<T> = std::result::Result<T, Fail>;
 
-// The value of the head's type that reads from the left writes as the right where the head's set holds it. The sets stand
+// The value of the head's type that reads from the left writes as the right where the head's set holds it. The sets are
 // beside the calls that write them, too.
 const WRITTEN: &str = r#"StringSet of Vec<String>
   L [S "a", S "a"] = Ss ["a", "a"]

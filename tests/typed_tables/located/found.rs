@@ -5,7 +5,7 @@ use dynamo_value::AttributeValue;
 use std::alloc::{AllocError, Global};
 use std::test::Fail;
 
-// A step of a row: an element is its index behind a `#`, and an attribute is its name.
+// A step of a row: an element is its index after a `#`, and an attribute is its name.
 fn step_of(alloc: Global, step: &str) -> Result<Step, AllocError> {
     match step {
         "#0" => Ok(Step::Element(0)),

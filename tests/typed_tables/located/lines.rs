@@ -15,7 +15,7 @@ fn line(alloc: Global, from: &str, to: &str) -> Result<String, AllocError> {
     whole.replace(alloc, from, to)
 }
 
-// What is said of a line that is the third one, behind a blank one.
+// What is said of a line that is the third one, after a blank one.
 fn told(alloc: Global, line: &str) -> Result<String, AllocError> {
     let text = format!(in alloc; "{{\"Item\":{{{ORDER},{HOME}}}}}\n\n{line}\n")?;
     let mut lines = Lines::new(alloc, text.as_str().as_bytes());

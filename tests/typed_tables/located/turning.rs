@@ -193,7 +193,7 @@ impl Turning {
         value(self, At::Attribute(&within, field))
     }
 
-    // A field behind others that may be left out, so that its name isn't turned.
+    // A field after others that may be left out, so that its name isn't turned.
     pub(crate) fn optional(
         &mut self,
         within: At<'_>,

@@ -42,7 +42,7 @@ fn given<R: BufRead>(alloc: Global, lines: &mut Lines<R>) -> Result<String, Allo
     Ok(told)
 }
 
-// Texts of three lines: one of each length around the limit, alone, before and behind a short one, with and without a
+// Texts of three lines: one of each length around the limit, alone, before and after a short one, with and without a
 // line feed at the end, with a carriage return, and blank.
 fn texts(alloc: Global, length: usize) -> Result<Vec<String>, AllocError> {
     let long = "x".repeat(alloc, length)?;

@@ -3,7 +3,7 @@ use std::alloc::{AllocError, Global};
 
 // The hash of a map takes a name by blocks of 16 bytes. It multiplies the two halves of a block, each
 // mixed with a number that is known, so there are two blocks of each place with the same product. These
-// are such blocks, behind one that all names share.
+// are such blocks, after one that all names share.
 const FIRST: &str = "hapksvbnbydtsprq";
 
 const BLOCKS: [[&str; 2]; 14] = [

@@ -25,12 +25,12 @@ pub fn own_key(schema: &KeySchema, item: &Item) -> Result<Key, StoreError>
     }
 }
 
-/// Returns the items of a page if the key of each comes behind that of the item before it, and the
-/// first behind `start_after`. Otherwise no call of `TableStore` wrote one of the rows.
+/// Returns the items of a page if the key of each comes after that of the item before it, and the
+/// first after `start_after`. Otherwise no call of `TableStore` wrote one of the rows.
 ///
 /// # Errors
 ///
-/// Returns [`StoreError::Unreadable`] if an item has no key, or one that doesn't come behind.
+/// Returns [`StoreError::Unreadable`] if an item has no key, or one that doesn't come after.
 ///
 /// Returns [`StoreError::OutOfMemory`] if memory runs out.
 pub fn in_order(

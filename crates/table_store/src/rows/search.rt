@@ -77,7 +77,7 @@ pub fn find<S: Alter>(
     Ok(found)
 }
 
-/// Returns the items behind a key of a table, in the order of the keys, at most `limit`: the rest
+/// Returns the items after a key of a table, in the order of the keys, at most `limit`: the rest
 /// of its partition, and then the partitions that follow.
 ///
 /// # Errors
@@ -108,7 +108,7 @@ pub fn page<S: Alter>(
     Ok(items)
 }
 
-// The items behind a key in its partition.
+// The items after a key in its partition.
 fn rest<S: Alter>(
     alloc: Global,
     conn: &mut Connection<S>,

@@ -71,7 +71,7 @@ members-returns-clause-ok t c =
     let all : c.args.object.now.entries ≡ l.invariant.0 = l.invariant.1 ∙ ap (λ (es : List Entry). l.invariant.0 ++ es) c.in-None.ensures.steps.0 ∙ append-nil l.invariant.0 in
     rw all (members_read l.invariant.0 _ l.invariant.2)
 
--- ---- what stands under a prefix
+-- ---- what is under a prefix
 
 pub under-returns-in_err-members-in-M-Object-clause-err : goal.under-returns-in_err-members-in-M-Object-clause-err
 under-returns-in_err-members-in-M-Object-clause-err t c =

@@ -18,7 +18,7 @@ use Rattle.dynamo_json.proofs.ReadBack.{among}
 use Rattle.dynamo_json.proofs.Written.{elements_json-elements_of, elements_have_bytes, members_json-put, put_has_bytes}
 use Rattle.dynamo_json.proofs.from_text.+follow.Goals as goal
 
--- ---- what stands under a prefix
+-- ---- what is under a prefix
 
 pub content-returns-in_ok-from_str-in-N-String-clause-value : goal.content-returns-in_ok-from_str-in-N-String-clause-value
 content-returns-in_ok-from_str-in-N-String-clause-value t c =

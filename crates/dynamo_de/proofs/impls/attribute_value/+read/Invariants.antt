@@ -19,7 +19,7 @@ decreases-read_elements g l = 3 * sources_height (g.R.Reader.elements l.elements
 abbrev pub decreases-read_members : goal.decreases-read_members
 decreases-read_members g l = 3 * entries_height (g.R.Reader.entries l.entries) + 1
 
--- what is left nests no deeper; put behind what is read, it reads as the whole
+-- what is left nests no deeper; put after what is read, it reads as the whole
 abbrev pub invariant-read_elements-loop-values : goal.invariant-read_elements-loop-values
 invariant-read_elements-loop-values g l =
     (sources_height (g.R.Reader.elements l.elements) ≤ sources_height (g.R.Reader.elements l.initial.elements))

@@ -3,7 +3,7 @@ use Rattle.dynamo_de.specs.ReadAttribute.{read_each, read_blob}
 use Rattle.dynamo_de.proofs.Promises.{EachFrom}
 use Rattle.dynamo_de.proofs.impls.attribute_value.read_blobs.Given as goal
 
--- what is left, put behind what is read, reads as the whole
+-- what is left, put after what is read, reads as the whole
 abbrev pub invariant-loop-element : goal.invariant-loop-element
 invariant-loop-element g l = EachFrom (λ b. b.items) read_blob l.blobs.items (g.R.Reader.elements l.elements) ≡ read_each read_blob (g.R.Reader.elements l.initial.elements)
 

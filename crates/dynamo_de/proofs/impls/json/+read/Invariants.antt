@@ -15,7 +15,7 @@ decreases-read_elements g l = 2 * suc (sources_height (g.R.Reader.elements l.ele
 abbrev pub decreases-read_members : goal.decreases-read_members
 decreases-read_members g l = 2 * suc (entries_height (g.R.Reader.entries l.entries))
 
--- what is left nests no deeper; put behind what is read, it reads as the whole
+-- what is left nests no deeper; put after what is read, it reads as the whole
 abbrev pub invariant-read_elements-loop-element : goal.invariant-read_elements-loop-element
 invariant-read_elements-loop-element g l =
     (sources_height (g.R.Reader.elements l.elements) ≤ sources_height (g.R.Reader.elements l.initial.elements))

@@ -6,7 +6,7 @@ use Rattle.table_keys.specs.KeyOrder.{key_cmp}
 use Rattle.table_keys.specs.Queries.{in_direction, seen}
 use Rattle.memory_table.proofs.table.Table.between.Given as goal
 
--- what is on the page, and what comes behind it up to the limit, are all
+-- what is on the page, and what comes after it up to the limit, are all
 abbrev pub invariant-loop-key : goal.invariant-loop-key
 invariant-loop-key l = record {
   all : seen l.page.items ++ take (l.limit - vec_len l.page) (in_direction l.backward l.left)
