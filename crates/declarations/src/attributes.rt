@@ -1,5 +1,5 @@
-use crate::declaration::{Form, SetKind, StoredSet};
-use crate::failure::{Failure, Reason};
+use crate::declaration::{Form, Presence, SetKind, StoredSet};
+use crate::failure::{Failure, Reason, refused};
 use crate::parts::{bracketed, parts};
 use crate::rename::RenameRule;
 use crate::token::{Kind, Token};
@@ -33,48 +33,39 @@ pub struct Attributes {
 }
 
 impl Attributes {
-    /// Checks that no attribute is one for fields alone.
+    /// Checks that there is none of these attributes, which have no place here.
     ///
     /// # Errors
     ///
-    /// Returns [`Failure::Refused`] with the line if one is.
-    pub fn refuse_field_forms(&self) -> Result<(), Failure> {
-        if self.omitted.is_some() {
-            let reason = Reason::Misplaced("skip_serializing_if");
-            return Err(Failure::Refused(self.line, reason));
+    /// Returns [`Failure::Refused`] with the line and the first of them that there is.
+    pub fn refuse(&self, names: &[&'static str]) -> Result<(), Failure> {
+        match names.iter().find(|name| self.has(name)) {
+            Some(name) => Err(Failure::Refused(self.line, Reason::Misplaced(*name))),
+            None => Ok(()),
         }
-        if self.set.is_some() {
-            return Err(Failure::Refused(self.line, Reason::Misplaced("with")));
-        }
-        if !self.aliases.is_empty() {
-            return Err(Failure::Refused(self.line, Reason::Misplaced("alias")));
+    }
+
+    // Checks that there isn't already the attribute that is on this line.
+    fn refuse_again(&self, name: &'static str, line: u32) -> Result<(), Failure> {
+        if self.has(name) {
+            return Err(Failure::Refused(line, Reason::Twice(name)));
         }
         Ok(())
     }
 
-    /// Checks that there is no `deny_unknown_fields`, for anything but structs with named fields.
-    ///
-    /// # Errors
-    ///
-    /// Returns [`Failure::Refused`] with the line if there is one.
-    pub fn refuse_denial(&self) -> Result<(), Failure> {
-        if self.denies_unknown {
-            let reason = Reason::Misplaced("deny_unknown_fields");
-            return Err(Failure::Refused(self.line, reason));
+    fn has(&self, name: &str) -> bool {
+        match name {
+            "alias" => !self.aliases.is_empty(),
+            "default" => self.is_default,
+            "deny_unknown_fields" => self.denies_unknown,
+            "rename" => self.rename.is_some(),
+            "rename_all" => self.rename_all.is_some(),
+            "skip_serializing_if" => self.omitted.is_some(),
+            "tag" => self.tag.is_some(),
+            "transparent" => self.is_transparent,
+            "with" => self.set.is_some(),
+            _ => false,
         }
-        Ok(())
-    }
-
-    /// Checks that there is no `default`, for anything but named fields and structs that have them.
-    ///
-    /// # Errors
-    ///
-    /// Returns [`Failure::Refused`] with the line if there is one.
-    pub fn refuse_default(&self) -> Result<(), Failure> {
-        if self.is_default {
-            return Err(Failure::Refused(self.line, Reason::Misplaced("default")));
-        }
-        Ok(())
     }
 
     /// Returns whether each missing field of the struct with these attributes is read as its type's
@@ -85,46 +76,10 @@ impl Attributes {
     /// Returns [`Failure::Refused`] with the line if the struct has a default of its own.
     pub fn defaults_fields(&self) -> Result<bool, Failure> {
         if self.is_default && !self.derives_default {
-            return Err(Failure::Refused(self.line, Reason::OwnDefault));
+            let text = "`default` of a struct is described if it derives `Default`";
+            return Err(refused(self.line, text));
         }
         Ok(self.is_default)
-    }
-
-    /// Checks that there is no `transparent`, for anything but newtypes.
-    ///
-    /// # Errors
-    ///
-    /// Returns [`Failure::Refused`] with the line if there is one.
-    pub fn refuse_transparent(&self) -> Result<(), Failure> {
-        if self.is_transparent {
-            return Err(Failure::Refused(self.line, Reason::Misplaced("transparent")));
-        }
-        Ok(())
-    }
-
-    /// Checks that there is no rule for the names of fields or variants, for a declaration that has
-    /// none.
-    ///
-    /// # Errors
-    ///
-    /// Returns [`Failure::Refused`] with the line if there is one.
-    pub fn refuse_rename_all(&self) -> Result<(), Failure> {
-        match self.rename_all {
-            Some(_) => Err(Failure::Refused(self.line, Reason::Misplaced("rename_all"))),
-            None => Ok(()),
-        }
-    }
-
-    /// Checks that there is no `tag`, for anything but enums.
-    ///
-    /// # Errors
-    ///
-    /// Returns [`Failure::Refused`] with the line if there is one.
-    pub fn refuse_tag(&self) -> Result<(), Failure> {
-        match self.tag {
-            Some(_) => Err(Failure::Refused(self.line, Reason::Misplaced("tag"))),
-            None => Ok(()),
-        }
     }
 
     /// Returns how a field of this type with these attributes is stored.
@@ -139,18 +94,19 @@ impl Attributes {
                 return Err(Failure::Refused(self.line, Reason::OtherType(name)));
             }
             if name != "Option" && !self.is_default {
-                return Err(Failure::Refused(self.line, Reason::NoDefault));
+                let text = "a field that is skipped if it is empty needs `default` to be read";
+                return Err(refused(self.line, text));
             }
         }
         let is_rust_set = type_name(of).is_some_and(|token| is_set_type(token));
-        let set = self.set.map(|kind| StoredSet { kind, is_rust_set });
-        Ok(match (set, self.omitted, self.is_default) {
-            (Some(set), Some(_), _) => Form::OmittedSet(set),
-            (Some(set), None, true) => Form::DefaultedSet(set),
-            (Some(set), None, false) => Form::Set(set),
-            (None, Some(_), _) => Form::Omitted,
-            (None, None, true) => Form::Defaulted,
-            (None, None, false) => Form::Plain,
+        let presence = match (self.omitted, self.is_default) {
+            (Some(_), _) => Presence::Omitted,
+            (None, true) => Presence::Defaulted,
+            (None, false) => Presence::Required,
+        };
+        Ok(Form {
+            set: self.set.map(|kind| StoredSet { kind, is_rust_set }),
+            presence,
         })
     }
 }
@@ -189,7 +145,10 @@ pub fn read_attributes(alloc: Global, tokens: &[Token]) -> Result<Attributes, Fa
             continue;
         };
         if name.is("cfg") || name.is("cfg_attr") {
-            return Err(Failure::Refused(name.line, Reason::Conditional));
+            return Err(refused(
+                name.line,
+                "declarations that depend on `cfg` are not described",
+            ));
         }
         if name.is("serde_as") || name.is("serde_with") {
             unknown(alloc, name)?;
@@ -216,22 +175,15 @@ fn read_serde(alloc: Global, tokens: &[Token], found: &mut Attributes) -> Result
     for part in parts(alloc, inside)? {
         match part {
             [name] if name.is("default") => {
-                if found.is_default {
-                    return Err(Failure::Refused(name.line, Reason::Twice("default")));
-                }
+                found.refuse_again("default", name.line)?;
                 found.is_default = true;
             }
             [name] if name.is("transparent") => {
-                if found.is_transparent {
-                    return Err(Failure::Refused(name.line, Reason::Twice("transparent")));
-                }
+                found.refuse_again("transparent", name.line)?;
                 found.is_transparent = true;
             }
             [name] if name.is("deny_unknown_fields") => {
-                if found.denies_unknown {
-                    let reason = Reason::Twice("deny_unknown_fields");
-                    return Err(Failure::Refused(name.line, reason));
-                }
+                found.refuse_again("deny_unknown_fields", name.line)?;
                 found.denies_unknown = true;
             }
             [name, equals, text] if equals.is("=") && text.kind == Kind::Text => {
@@ -252,31 +204,21 @@ fn read_valued(
     found: &mut Attributes,
 ) -> Result<(), Failure> {
     if name.is("rename") {
-        if found.rename.is_some() {
-            return Err(Failure::Refused(name.line, Reason::Twice("rename")));
-        }
+        found.refuse_again("rename", name.line)?;
         found.rename = Some(plain_text(text)?);
     } else if name.is("alias") {
         found.aliases.push(plain_text(text)?)?;
     } else if name.is("tag") {
-        if found.tag.is_some() {
-            return Err(Failure::Refused(name.line, Reason::Twice("tag")));
-        }
+        found.refuse_again("tag", name.line)?;
         found.tag = Some(plain_text(text)?);
     } else if name.is("rename_all") {
-        if found.rename_all.is_some() {
-            return Err(Failure::Refused(name.line, Reason::Twice("rename_all")));
-        }
+        found.refuse_again("rename_all", name.line)?;
         found.rename_all = Some(rule(text)?);
     } else if name.is("with") {
-        if found.set.is_some() {
-            return Err(Failure::Refused(name.line, Reason::Twice("with")));
-        }
+        found.refuse_again("with", name.line)?;
         found.set = Some(set_kind(text)?);
     } else if name.is("skip_serializing_if") {
-        if found.omitted.is_some() {
-            return Err(Failure::Refused(name.line, Reason::Twice("skip_serializing_if")));
-        }
+        found.refuse_again("skip_serializing_if", name.line)?;
         found.omitted = Some(omitted_type(text)?);
     } else {
         return unknown(alloc, name);
@@ -287,7 +229,10 @@ fn read_valued(
 // A name that is printed as it is.
 fn plain_text(text: &Token) -> Result<String, Failure> {
     if !text.text.chars().all(is_plain) {
-        return Err(Failure::Refused(text.line, Reason::Text));
+        return Err(refused(
+            text.line,
+            "a name is plain ASCII without quotes and backslashes",
+        ));
     }
     Ok(text.text.clone()?)
 }

@@ -113,24 +113,26 @@ pub struct Field {
 
 /// How a field is stored.
 #[derive(Clone, Copy, PartialEq, Eq)]
-pub enum Form {
-    /// A field that is stored as its type is.
-    Plain,
+pub struct Form {
+    /// The set as which it is stored, or `None` if it is stored as its type is. If the type of a set
+    /// is `Vec<T>`, the text of the type is that of `T`.
+    pub set: Option<StoredSet>,
 
-    /// A field that may be absent, and then has its type's default.
+    /// Whether it may be absent.
+    pub presence: Presence,
+}
+
+/// Whether a field may be absent.
+#[derive(Clone, Copy, PartialEq, Eq)]
+pub enum Presence {
+    /// It may not, unless its type says otherwise.
+    Required,
+
+    /// It may, and then has its type's default.
     Defaulted,
 
-    /// A field that is left out if it has its type's default.
+    /// It may, and is left out if it has its type's default.
     Omitted,
-
-    /// A field that is stored as a set. If its type is `Vec<T>`, the text is that of `T`.
-    Set(StoredSet),
-
-    /// The same of a field that may be absent, and then is empty.
-    DefaultedSet(StoredSet),
-
-    /// The same of a field that is left out if it is empty.
-    OmittedSet(StoredSet),
 }
 
 /// How a field is stored as a set.

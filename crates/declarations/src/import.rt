@@ -1,4 +1,4 @@
-use crate::failure::{Failure, Reason};
+use crate::failure::{Failure, NO_IMPORT, refused};
 use crate::token::Token;
 use std::alloc::{AllocError, Global};
 
@@ -76,7 +76,7 @@ impl Reader {
     fn read(&mut self, token: &Token) -> Result<(), Failure> {
         let is_name = token.is("*") || (token.is_word() && !token.is("as"));
         if is_name != self.wants_name && (is_name || token.is("as") || token.is(";")) {
-            return Err(Failure::Refused(token.line, Reason::Import));
+            return Err(refused(token.line, NO_IMPORT));
         }
         self.wants_name = !is_name && !token.is("}") && !token.is(";");
         if is_name {
@@ -96,7 +96,7 @@ impl Reader {
         } else if token.is(":") || token.is(";") {
             Ok(())
         } else {
-            Err(Failure::Refused(token.line, Reason::Import))
+            Err(refused(token.line, NO_IMPORT))
         }
     }
 

@@ -1,4 +1,4 @@
-use crate::failure::{Failure, Reason};
+use crate::failure::{Failure, Reason, refused};
 use crate::token::{Kind, Token};
 use std::alloc::Global;
 use std::mem;
@@ -92,24 +92,18 @@ impl Lexer {
     fn read_between(&mut self, c: char) -> Result<(), Failure> {
         self.began = self.line;
         self.start = self.at;
-        match c {
-            ' ' | '\t' | '\r' | '\n' => Ok(()),
-            '"' => {
-                self.place = Place::Text;
-                Ok(())
-            }
-            '/' => {
-                self.place = Place::Slash;
-                Ok(())
-            }
-            '\'' => self.refuse(Reason::Lifetime),
+        self.place = match c {
+            ' ' | '\t' | '\r' | '\n' => Place::Between,
+            '"' => Place::Text,
+            '/' => Place::Slash,
+            '\'' => return self.refuse(Reason::Plain("types with lifetimes are not described")),
             _ if is_of_word(c) => {
                 self.text.push(c)?;
-                self.place = Place::Word;
-                Ok(())
+                Place::Word
             }
-            _ => self.read_mark(c),
-        }
+            _ => return self.read_mark(c),
+        };
+        Ok(())
     }
 
     fn read_mark(&mut self, c: char) -> Result<(), Failure> {
@@ -123,7 +117,7 @@ impl Lexer {
         match c {
             ')' | ']' | '}' | '>' => match self.open.pop() {
                 Some(open) if open.closing == c => {}
-                _ => return self.refuse(Reason::Unopened),
+                _ => return self.refuse(Reason::Plain("this bracket closes none that is open")),
             },
             '(' | '[' | '{' | '<' | '#' | ',' | ';' | ':' | '=' | '+' | '&' | '*' | '!' | '?' => {}
             _ => return self.refuse(Reason::Character(c)),
@@ -139,24 +133,20 @@ impl Lexer {
 
     fn read_text(&mut self, c: char) -> Result<(), Failure> {
         match c {
-            '"' => self.end(Kind::Text, self.at.saturating_add(1)),
-            '\\' => {
-                self.place = Place::Escape;
-                Ok(self.text.push(c)?)
-            }
-            _ => Ok(self.text.push(c)?),
+            '"' => return self.end(Kind::Text, self.at.saturating_add(1)),
+            '\\' => self.place = Place::Escape,
+            _ => {}
         }
+        Ok(self.text.push(c)?)
     }
 
     fn read_comment(&mut self, c: char) -> Result<(), Failure> {
         match c {
-            '/' => {
-                self.place = Place::Comment;
-                Ok(())
-            }
-            '*' => self.refuse(Reason::BlockComment),
-            _ => self.refuse(Reason::Character('/')),
+            '/' => self.place = Place::Comment,
+            '*' => return self.refuse(Reason::Plain("block comments are not read, write `//`")),
+            _ => return self.refuse(Reason::Character('/')),
         }
+        Ok(())
     }
 
     // Ends a token, whose text was read, before the character at this place.
@@ -187,11 +177,11 @@ impl Lexer {
             Place::Word => self.end(Kind::Word, at)?,
             Place::Slash => return Err(Failure::Refused(self.line, Reason::Character('/'))),
             Place::Text | Place::Escape => {
-                return Err(Failure::Refused(self.began, Reason::OpenText));
+                return Err(refused(self.began, "this text is not ended"));
             }
         }
         match self.open.pop() {
-            Some(open) => Err(Failure::Refused(open.line, Reason::Unclosed)),
+            Some(open) => Err(refused(open.line, "this bracket is not closed")),
             None => Ok(self.tokens),
         }
     }

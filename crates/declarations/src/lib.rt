@@ -17,7 +17,7 @@ mod types;
 mod variants;
 
 pub use declaration::{
-    Body, Contents, Declaration, Field, Form, Parameter, SetKind, StoredSet, Variant,
+    Body, Contents, Declaration, Field, Form, Parameter, Presence, SetKind, StoredSet, Variant,
 };
 pub use failure::{Failure, Reason};
 pub use import::Import;

@@ -9,6 +9,9 @@ use crate::tagged::refuse_tagged;
 use crate::token::Token;
 use std::alloc::{AllocError, Global};
 
+// What Rattle derives. It derives `Default` too, but not of strings and lists.
+const DERIVED: &str = "Clone Copy PartialEq Eq PartialOrd Ord Hash Debug Drop";
+
 /// A file of declarations.
 #[derive(Drop)]
 pub struct Module {
@@ -159,25 +162,14 @@ fn attribute_of<'a>(
     at: usize,
     name: &str,
 ) -> Option<(&'a [Token], &'a [Token])> {
-    let (attribute, inside) = attribute_at(tokens, at)?;
-    let (word, rest) = inside.split_first()?;
-    if word.is(name) {
-        Some((attribute, rest))
-    } else {
-        None
-    }
-}
-
-// The tokens of the attribute that begins at this place, and those inside of its brackets.
-fn attribute_at(item: &[Token], at: usize) -> Option<(&[Token], &[Token])> {
-    let tokens = item.get(at..)?;
+    let tokens = tokens.get(at..)?;
     let (mark, rest) = tokens.split_first()?;
-    if !mark.is("#") {
+    let (inside, _) = bracketed(rest, "[")?;
+    let (word, names) = inside.split_first()?;
+    if !mark.is("#") || !word.is(name) {
         return None;
     }
-    let (inside, _) = bracketed(rest, "[")?;
-    let attribute = tokens.get(..inside.len().saturating_add(3))?;
-    Some((attribute, inside))
+    Some((tokens.get(..inside.len().saturating_add(3))?, names))
 }
 
 // The last words of all paths that the attributes derive.
@@ -209,8 +201,9 @@ fn derive_text(alloc: Global, tokens: &[Token], wanted: &str) -> Result<String, 
     let mut text = String::new(alloc);
     for name in derived_by(alloc, tokens)? {
         let is_dropped = name.is("Drop") && wanted.ends_with("Copy");
-        if is_derived_in_rattle(name.text.as_str()) && !is_dropped {
-            push_name(&mut text, name.text.as_str())?;
+        let name = name.text.as_str();
+        if DERIVED.split(' ').any(|derived| derived == name) && !is_dropped {
+            push_name(&mut text, name)?;
         }
     }
     if !wanted.is_empty() {
@@ -227,12 +220,4 @@ fn push_name(text: &mut String, name: &str) -> Result<(), AllocError> {
         text.push_str(", ")?;
     }
     text.push_str(name)
-}
-
-// Rattle has `Default` too, but not of texts and lists.
-fn is_derived_in_rattle(name: &str) -> bool {
-    matches!(
-        name,
-        "Clone" | "Copy" | "PartialEq" | "Eq" | "PartialOrd" | "Ord" | "Hash" | "Debug" | "Drop"
-    )
 }

@@ -1,6 +1,8 @@
 use crate::attributes::{Attributes, read_attributes};
-use crate::declaration::{Body, Declaration, Field, Form, Parameter};
-use crate::failure::{Failure, Reason};
+use crate::declaration::{Body, Declaration, Field, Parameter};
+use crate::failure::{
+    Failure, NO_BODY, NO_END, NO_FIELDS, NO_NAME, NO_SET, NO_WHERE, Reason, refused,
+};
 use crate::lexer::tokens;
 use crate::module::imported;
 use crate::parts::{after_visibility, attributed, bracketed, line_of, parts, type_text};
@@ -77,7 +79,7 @@ pub fn read_declaration(alloc: Global, item: &[Token]) -> Result<Declaration, Fa
     let start = line_of(item, 1);
     let (above, rest) = attributed(item);
     let about = read_attributes(alloc, above)?;
-    about.refuse_field_forms()?;
+    about.refuse(&["skip_serializing_if", "with", "alias"])?;
     let rest = after_visibility(rest);
     let line = line_of(rest, start);
     let (is_struct, name, rest) = named_item(rest, line)?;
@@ -86,19 +88,18 @@ pub fn read_declaration(alloc: Global, item: &[Token]) -> Result<Declaration, Fa
         None => (Vec::new(alloc), rest),
     };
     let body = if is_struct {
-        about.refuse_tag()?;
+        about.refuse(&["tag"])?;
         struct_body(alloc, rest, &parameters, &about, line)?
     } else if parameters.is_empty() {
         enum_body(alloc, rest, &about, line)?
     } else {
-        return Err(Failure::Refused(line, Reason::GenericEnum));
+        return Err(refused(line, "enums with type parameters are not described"));
     };
     if !matches!(body, Body::Record(_)) {
-        about.refuse_default()?;
-        about.refuse_denial()?;
+        about.refuse(&["default", "deny_unknown_fields"])?;
     }
     if !matches!(body, Body::Newtype(_)) {
-        about.refuse_transparent()?;
+        about.refuse(&["transparent"])?;
     }
     let Attributes {
         is_key,
@@ -127,12 +128,12 @@ fn named_item(item: &[Token], line: u32) -> Result<(bool, &Token, &[Token]), Fai
     let (is_struct, name, rest) = match item {
         [keyword, name, rest @ ..] if keyword.is("struct") => (true, name, rest),
         [keyword, name, rest @ ..] if keyword.is("enum") => (false, name, rest),
-        _ => return Err(Failure::Refused(line, Reason::Item)),
+        _ => return Err(refused(line, "only structs and enums are described")),
     };
     if name.is_word() {
         Ok((is_struct, name, rest))
     } else {
-        Err(Failure::Refused(name.line, Reason::Name))
+        Err(refused(name.line, NO_NAME))
     }
 }
 
@@ -140,17 +141,17 @@ fn parameters(alloc: Global, inside: &[Token], line: u32) -> Result<Vec<Paramete
     let mut found = Vec::new(alloc);
     for part in parts(alloc, inside)? {
         if part.iter().any(|token| token.is("=")) {
-            return Err(Failure::Refused(line, Reason::ParameterDefault));
+            return Err(refused(line, "a default of a type parameter is not described"));
         }
         let (name, bounds) = match part {
             [name] => (name, String::new(alloc)),
             [name, colon, bounds @ ..] if colon.is(":") => {
                 (name, type_text(alloc, bounds, line)?)
             }
-            _ => return Err(Failure::Refused(line, Reason::ConstParameter)),
+            _ => return Err(refused(line, "const parameters are not described")),
         };
         if !name.is_word() {
-            return Err(Failure::Refused(name.line, Reason::Name));
+            return Err(refused(name.line, NO_NAME));
         }
         let name = name.text.clone()?;
         found.push(Parameter { name, bounds })?;
@@ -166,17 +167,17 @@ fn struct_body(
     line: u32,
 ) -> Result<Body, Failure> {
     match rest {
-        [] => Err(Failure::Refused(line, Reason::NoEnd)),
-        [word, ..] if word.is("where") => Err(Failure::Refused(word.line, Reason::Where)),
+        [] => Err(refused(line, NO_END)),
+        [word, ..] if word.is("where") => Err(refused(word.line, NO_WHERE)),
         [end] if end.is(";") => {
-            about.refuse_rename_all()?;
+            about.refuse(&["rename_all"])?;
             if !parameters.is_empty() {
-                return Err(Failure::Refused(line, Reason::GenericUnit));
+                return Err(refused(line, "a unit struct with type parameters is not described"));
             }
             Ok(Body::Unit)
         }
         [open, ..] if open.is("(") => {
-            about.refuse_rename_all()?;
+            about.refuse(&["rename_all"])?;
             unnamed_body(alloc, rest, parameters, line)
         }
         [open, ..] if open.is("{") => {
@@ -184,12 +185,12 @@ fn struct_body(
             let is_default = about.defaults_fields()?;
             let fields = named_fields(alloc, inside, about.rename_all, is_default, line)?;
             if fields.is_empty() {
-                return Err(Failure::Refused(line, Reason::NoFields));
+                return Err(refused(line, NO_FIELDS));
             }
             refuse_equal_names(alloc, &fields)?;
             Ok(Body::Record(fields))
         }
-        _ => Err(Failure::Refused(line, Reason::Body)),
+        _ => Err(refused(line, NO_BODY)),
     }
 }
 
@@ -221,23 +222,26 @@ fn unnamed_body(
     let inside = match bracketed(rest, "(") {
         Some((inside, [end])) if end.is(";") => inside,
         Some((_, [word, ..])) if word.is("where") => {
-            return Err(Failure::Refused(word.line, Reason::Where));
+            return Err(refused(word.line, NO_WHERE));
         }
-        _ => return Err(Failure::Refused(line, Reason::NoEnd)),
+        _ => return Err(refused(line, NO_END)),
     };
     let mut types = unnamed_fields(alloc, inside, line)?;
     if types.len() > 1 {
         return Ok(Body::Tuple(types));
     }
     let Some(of) = types.pop() else {
-        return Err(Failure::Refused(line, Reason::NoFields));
+        return Err(refused(line, NO_FIELDS));
     };
     let is_described = parameters.is_empty()
         || parameters
             .iter()
             .any(|parameter| parameter.name.as_str() == of.as_str());
     if !is_described {
-        return Err(Failure::Refused(line, Reason::WrappedType));
+        return Err(refused(
+            line,
+            "a generic newtype is described where its field is a parameter",
+        ));
     }
     Ok(Body::Newtype(of))
 }
@@ -255,7 +259,7 @@ pub fn unnamed_fields(alloc: Global, inside: &[Token], line: u32) -> Result<Vec<
         types.push(unnamed_field(alloc, part, line)?)?;
     }
     if types.len() > LETTERS {
-        return Err(Failure::Refused(line, Reason::ManyUnnamed));
+        return Err(refused(line, "at most 26 fields without names are described"));
     }
     Ok(types)
 }
@@ -264,7 +268,10 @@ fn unnamed_field(alloc: Global, tokens: &[Token], line: u32) -> Result<String, F
     let (above, rest) = attributed(tokens);
     let about = read_attributes(alloc, above)?;
     if about.line != 0 {
-        return Err(Failure::Refused(about.line, Reason::UnnamedAttribute));
+        return Err(refused(
+            about.line,
+            "serde attributes have no place at a field without a name",
+        ));
     }
     let of = after_visibility(rest);
     refuse_type(alloc, of)?;
@@ -304,27 +311,22 @@ fn named_field(
     let line = line_of(tokens, line);
     let (above, rest) = attributed(tokens);
     let mut about = read_attributes(alloc, above)?;
-    about.refuse_rename_all()?;
-    about.refuse_transparent()?;
-    about.refuse_tag()?;
-    about.refuse_denial()?;
+    about.refuse(&["rename_all", "transparent", "tag", "deny_unknown_fields"])?;
     about.is_default = about.is_default || all_default;
     let (name, of) = match after_visibility(rest) {
         [name, colon, of @ ..] if name.is_word() && colon.is(":") => (name, of),
-        _ => return Err(Failure::Refused(line_of(rest, line), Reason::Field)),
+        _ => return Err(refused(line_of(rest, line), "a field is written `name: Type`")),
     };
     let form = about.form(of)?;
     refuse_type(alloc, of)?;
-    let of = match (form, of) {
-        (Form::Plain | Form::Defaulted | Form::Omitted, _) => type_text(alloc, of, name.line)?,
-        (Form::Set(set) | Form::DefaultedSet(set) | Form::OmittedSet(set), _) if set.is_rust_set =>
-            type_text(alloc, of, name.line)?,
-        (_, [vec, ..]) if vec.is("Vec") => match bracketed(&of[1..], "<") {
-            Some((item, [])) => type_text(alloc, item, name.line)?,
-            _ => return Err(Failure::Refused(name.line, Reason::NoSet)),
-        },
-        _ => return Err(Failure::Refused(name.line, Reason::NoSet)),
+    let of = match form.set {
+        Some(set) if !set.is_rust_set => element_of(of),
+        _ => Some(of),
     };
+    let Some(of) = of else {
+        return Err(refused(name.line, NO_SET));
+    };
+    let of = type_text(alloc, of, name.line)?;
     let name = name.text.clone()?;
     let shown = stored_field(alloc, name.as_str(), about.rename, rule)?;
     Ok(Field {
@@ -335,4 +337,15 @@ fn named_field(
         of,
         form,
     })
+}
+
+// The `T` of a type `Vec<T>`.
+fn element_of(of: &[Token]) -> Option<&[Token]> {
+    match of {
+        [vec, rest @ ..] if vec.is("Vec") => match bracketed(rest, "<") {
+            Some((element, [])) => Some(element),
+            _ => None,
+        },
+        _ => None,
+    }
 }

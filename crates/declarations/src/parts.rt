@@ -1,7 +1,7 @@
 // Cuts of token lists, by the brackets that are open around each token.
 ghost use Rattle.std.specs.Prelude.{◌≡◌, ◌++◌};
 
-use crate::failure::{Failure, Reason};
+use crate::failure::{Failure, NO_TYPE, refused};
 use crate::token::{Kind, Token};
 use std::alloc::{AllocError, Global};
 
@@ -69,7 +69,7 @@ pub fn type_text(alloc: Global, tokens: &[Token], line: u32) -> Result<String, F
     let mut before: Option<&Token> = None;
     for token in tokens {
         if token.kind == Kind::Text || token.is("#") || token.is("{") {
-            return Err(Failure::Refused(token.line, Reason::Type));
+            return Err(refused(token.line, NO_TYPE));
         }
         if before.is_some_and(|before| are_spaced(before, token)) {
             text.push(' ')?;
@@ -78,7 +78,7 @@ pub fn type_text(alloc: Global, tokens: &[Token], line: u32) -> Result<String, F
         before = Some(token);
     }
     if text.is_empty() {
-        return Err(Failure::Refused(line, Reason::Type));
+        return Err(refused(line, NO_TYPE));
     }
     Ok(text)
 }

@@ -1,5 +1,5 @@
 use crate::declaration::{Body, Contents, Declaration, Field, Variant};
-use crate::failure::{Failure, Reason};
+use crate::failure::{Failure, Reason, refused};
 
 /// Returns the fields of the struct with this name, if it is one of the declarations, has named
 /// fields and no type parameters.
@@ -53,7 +53,10 @@ fn refuse_variant(
     let fields = match &variant.contents {
         Contents::Nothing => return Ok(()),
         Contents::Named(fields) => fields.as_slice(),
-        Contents::Several(_) => return Err(Failure::Refused(line, Reason::TaggedTuple)),
+        Contents::Several(_) => {
+            let text = "a variant of several fields without names has no place behind a tag";
+            return Err(refused(line, text));
+        }
         Contents::One(of) if is_by_rules(declarations, of.as_str()) => {
             return Err(Failure::Refused(line, Reason::RulesBehindTag(of.clone()?)));
         }

@@ -6,33 +6,9 @@ use std::alloc::Global;
 
 // Types and parts of types that no field has: those that DynamoDB's values don't hold, and those
 // that a description doesn't read.
-const REFUSED: [&str; 25] = [
-    "f32",
-    "f64",
-    "usize",
-    "isize",
-    "str",
-    "AttributeValue",
-    "IndexMap",
-    "IndexSet",
-    "VecDeque",
-    "LinkedList",
-    "BinaryHeap",
-    "Rc",
-    "Arc",
-    "Cow",
-    "RefCell",
-    "Mutex",
-    "RwLock",
-    "PhantomData",
-    "SystemTime",
-    "PathBuf",
-    "OsString",
-    "CString",
-    "dyn",
-    "impl",
-    "fn",
-];
+const REFUSED: &str = "f32 f64 usize isize str AttributeValue IndexMap IndexSet VecDeque \
+    LinkedList BinaryHeap Rc Arc Cow RefCell Mutex RwLock PhantomData SystemTime PathBuf OsString \
+    CString dyn impl fn";
 
 /// Checks that a field of a described type can have this type.
 ///
@@ -44,7 +20,7 @@ const REFUSED: [&str; 25] = [
 pub fn refuse_type(alloc: Global, tokens: &[Token]) -> Result<(), Failure> {
     for (at, token) in tokens.iter().enumerate() {
         let is_mark = token.is("&") || token.is("*") || token.is("!") || token.is("[");
-        let is_word = token.is_word() && REFUSED.iter().any(|name| token.is(name));
+        let is_word = token.is_word() && REFUSED.split(' ').any(|name| token.is(name));
         if is_mark || is_word || is_other_tuple(alloc, &tokens[at..])? {
             let text = String::from_str(alloc, token.text.as_str())?;
             return Err(Failure::Refused(token.line, Reason::FieldType(text)));

@@ -1,11 +1,22 @@
 use crate::attributes::{Attributes, read_attributes};
 use crate::declaration::{Body, Contents, Variant};
-use crate::failure::{Failure, Reason};
+use crate::failure::{Failure, NO_BODY, NO_CONTENTS, NO_NAME, NO_WHERE, Reason, refused};
 use crate::parser::{named_fields, unnamed_fields};
 use crate::parts::{attributed, bracketed, line_of, parts};
 use crate::rename::{RenameRule, stored_variant};
 use crate::token::Token;
 use std::alloc::Global;
+
+// The attributes that no variant has.
+const MISPLACED: [&str; 7] = [
+    "skip_serializing_if",
+    "with",
+    "alias",
+    "default",
+    "deny_unknown_fields",
+    "transparent",
+    "tag",
+];
 
 /// The body of an enum with these attributes. Where variants have no names of their own, those that
 /// they are written under go by its rule.
@@ -24,17 +35,17 @@ pub fn enum_body(
     if let [word, ..] = rest
         && word.is("where")
     {
-        return Err(Failure::Refused(word.line, Reason::Where));
+        return Err(refused(word.line, NO_WHERE));
     }
     let Some((inside, _)) = bracketed(rest, "{") else {
-        return Err(Failure::Refused(line, Reason::Body));
+        return Err(refused(line, NO_BODY));
     };
     let mut variants = Vec::new(alloc);
     for part in parts(alloc, inside)? {
         variants.push(read_variant(alloc, part, about.rename_all, line)?)?;
     }
     if variants.is_empty() {
-        return Err(Failure::Refused(line, Reason::NoVariants));
+        return Err(refused(line, "an enum without variants is not described"));
     }
     match &about.tag {
         Some(tag) => Ok(Body::Tagged(tag.clone()?, variants)),
@@ -52,18 +63,14 @@ fn read_variant(
     let line = line_of(tokens, line);
     let (above, rest) = attributed(tokens);
     let about = read_attributes(alloc, above)?;
-    about.refuse_field_forms()?;
-    about.refuse_default()?;
-    about.refuse_denial()?;
-    about.refuse_transparent()?;
-    about.refuse_tag()?;
+    about.refuse(&MISPLACED)?;
     let (name, rest) = match rest {
         [name, rest @ ..] if name.is_word() => (name, rest),
-        _ => return Err(Failure::Refused(line_of(rest, line), Reason::Name)),
+        _ => return Err(refused(line_of(rest, line), NO_NAME)),
     };
     let contents = read_contents(alloc, rest, about.rename_all, name.line)?;
     if !matches!(contents, Contents::Named(_)) {
-        about.refuse_rename_all()?;
+        about.refuse(&["rename_all"])?;
     }
     let name = name.text.clone()?;
     let shown = stored_variant(alloc, name.as_str(), about.rename, rule)?;
@@ -83,7 +90,7 @@ fn read_contents(
     if let Some((inside, [])) = bracketed(tokens, "{") {
         let fields = named_fields(alloc, inside, rule, false, line)?;
         if fields.is_empty() {
-            return Err(Failure::Refused(line, Reason::NoContents));
+            return Err(refused(line, NO_CONTENTS));
         }
         if let Some(field) = fields.iter().find(|field| !field.aliases.is_empty()) {
             return Err(Failure::Refused(field.line, Reason::Misplaced("alias")));
@@ -95,8 +102,10 @@ fn read_contents(
     }
     match tokens {
         [] => Ok(Contents::Nothing),
-        [equals, ..] if equals.is("=") => Err(Failure::Refused(line, Reason::Discriminant)),
-        _ => Err(Failure::Refused(line, Reason::Body)),
+        [equals, ..] if equals.is("=") => {
+            Err(refused(line, "variants with a number are not described"))
+        }
+        _ => Err(refused(line, NO_BODY)),
     }
 }
 
@@ -107,7 +116,7 @@ fn unnamed_contents(alloc: Global, inside: &[Token], line: u32) -> Result<Conten
     }
     match types.pop() {
         Some(of) => Ok(Contents::One(of)),
-        None => Err(Failure::Refused(line, Reason::NoContents)),
+        None => Err(refused(line, NO_CONTENTS)),
     }
 }
 

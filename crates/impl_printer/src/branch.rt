@@ -1,7 +1,7 @@
 // The tree of an enum's variants: the halves of a list are the sides of a choice, the left the
 // larger.
-use crate::case::Case;
 use std::alloc::{AllocError, Global};
+use std::fmt::Display;
 
 // The sides that lead to the variant at this index, of so many.
 fn sides(alloc: Global, index: usize, count: usize) -> Result<Vec<&'static str>, AllocError> {
@@ -54,31 +54,22 @@ pub fn ghost_branch(
     Ok(value)
 }
 
-/// The type of the list of variants.
-pub fn choice_type(alloc: Global, cases: &[Case]) -> Result<String, AllocError> {
-    match cases {
+/// What the variants have in the list of variants, from what each has: that of two sides is between
+/// these two texts.
+pub fn branches<T: Display>(
+    alloc: Global,
+    leaves: &[T],
+    before: &str,
+    after: &str,
+) -> Result<String, AllocError> {
+    match leaves {
         [] => Ok(String::new(alloc)),
-        [case] => case.listed_type(alloc),
+        [leaf] => leaf.to_string(alloc),
         _ => {
-            let (left, right) = cases.split_at(cases.len() - cases.len() / 2);
-            let left = choice_type(alloc, left)?;
-            let right = choice_type(alloc, right)?;
-            format!(in alloc; "Choice<{left}, {right}>")
-        }
-    }
-}
-
-/// Returns the proof in a ghost member that no two fields of a variant have the same name, variant
-/// by variant.
-pub fn ghost_named(alloc: Global, cases: &[Case]) -> Result<String, AllocError> {
-    match cases {
-        [] => String::from_str(alloc, "_"),
-        [case] => String::from_str(alloc, case.ghost_named()),
-        _ => {
-            let (left, right) = cases.split_at(cases.len() - cases.len() / 2);
-            let left = ghost_named(alloc, left)?;
-            let right = ghost_named(alloc, right)?;
-            format!(in alloc; "({left}, {right})")
+            let (left, right) = leaves.split_at(leaves.len() - leaves.len() / 2);
+            let left = branches(alloc, left, before, after)?;
+            let right = branches(alloc, right, before, after)?;
+            format!(in alloc; "{before}{left}, {right}{after}")
         }
     }
 }

@@ -1,7 +1,7 @@
-use crate::branch::{choice_type, ghost_branch, ghost_named, pattern_branch};
+use crate::branch::{branches, ghost_branch, pattern_branch};
 use crate::case::{Case, cases};
 use crate::heading::Heading;
-use crate::names::{codes, name_functions, names_function, shown_names, variant_names};
+use crate::names::{codes, names_function, shown_names, variant_names};
 use crate::traits::{BY_SHAPE, Traits, print_traits};
 use crate::tree::type_tree;
 use declarations::{Contents, Declaration, Field, Variant};
@@ -31,12 +31,16 @@ pub fn print_choices(
     }
     let cases = cases(alloc, name, variants, tag.map(|_| declarations))?;
     let cases = cases.as_slice();
-    let list = choice_type(alloc, cases)?;
+    let mut types = Vec::new(alloc);
+    for case in cases {
+        types.push(case.listed_type(alloc)?)?;
+    }
+    let list = branches(alloc, types.as_slice(), "Choice<", ">")?;
     writeln!(out, "\ntype {name}Variants = {list};")?;
     let names = variant_names(alloc, variants)?;
     print_description(alloc, out, heading, tag, names.as_slice(), cases, alias)?;
     let traits = traits(alloc, name, tag.is_some(), cases)?;
-    print_traits(alloc, out, heading, &traits)
+    print_traits(out, heading, &traits)
 }
 
 // Prints the list of the fields of a variant.
@@ -72,7 +76,7 @@ fn print_description(
     out: &mut String,
     heading: &Heading,
     tag: Option<&str>,
-    names: &[String],
+    names: &[&str],
     cases: &[Case],
     alias: &str,
 ) -> Result<(), AllocError> {
@@ -100,14 +104,14 @@ fn print_description(
     } else {
         "enum"
     };
-    let name_functions = name_functions(alloc, keyword, shown.as_str())?;
     let names_function = names_function(alloc, names)?;
     let arms = make_arms(alloc, cases)?;
     writeln!(
         out,
         "
 {head}
-{name_functions}
+    fn name() -> &'static str {{ \"{shown}\" }}
+    fn expecting() -> &'static str {{ \"{keyword} {shown}\" }}
 {names_function}
     fn make(variant: {name}Variants) -> {name} {{
         match variant {{
@@ -121,7 +125,7 @@ fn print_description(
 fn parts(alloc: Global, cases: &[Case], alias: &str) -> Result<String, AllocError> {
     let mut lines = String::new(alloc);
     for (index, case) in cases.iter().enumerate() {
-        let name = case.name.as_str();
+        let name = case.variant.name.as_str();
         let binders = case.ghost_binders(alloc)?;
         let parts = case.ghost_parts(alloc)?;
         let is = ghost_branch(alloc, index, cases.len(), parts.as_str())?;
@@ -174,21 +178,15 @@ fn traits(
     }
     write.push_str("        }")?;
     conforms.push_str("        }")?;
-    let named = ghost_named(alloc, cases)?;
-    let (kind, described, named) = if is_tagged {
-        let described = format!(in alloc; "⟦<{name} as TaggedEnum>⟧.about")?;
-        (
-            "tagged",
-            described,
-            format!(in alloc; "(refl, refl, {named})")?,
-        )
+    let named: Vec<&str> = cases.iter().map(|case| case.ghost_named()).collect(alloc)?;
+    let named = branches(alloc, named.as_slice(), "(", ")")?;
+    let (kind, of_trait, named) = if is_tagged {
+        let named = format!(in alloc; "(refl, refl, {named})")?;
+        ("tagged", "TaggedEnum", named)
     } else {
-        (
-            "enum",
-            format!(in alloc; "⟦<{name} as Enumeration>⟧.about")?,
-            named,
-        )
+        ("enum", "Enumeration", named)
     };
+    let described = format!(in alloc; "⟦<{name} as {of_trait}>⟧.about")?;
     Ok(Traits {
         tells: format!(in alloc; "{kind}_tells {described}")?,
         wants: String::new(alloc),

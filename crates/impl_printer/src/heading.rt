@@ -1,5 +1,6 @@
 use declarations::{Declaration, Parameter};
 use std::alloc::{AllocError, Global};
+use std::fmt::Write;
 
 /// How the impls of a type name it.
 #[derive(Drop)]
@@ -22,9 +23,11 @@ pub struct Heading {
     /// Whether an unknown field is an error.
     pub denies_unknown: bool,
 
-    // Its parameters with their bounds, where their types are shaped and where they are keys.
-    shaped: String,
-    keyed: String,
+    /// Its parameters with their bounds, where their types are shaped.
+    pub shaped: String,
+
+    /// The same, where they are keys.
+    pub keyed: String,
 }
 
 impl Heading {
@@ -32,7 +35,7 @@ impl Heading {
     pub fn of(alloc: Global, declaration: &Declaration) -> Result<Heading, AllocError> {
         let name = declaration.name.clone()?;
         let parameters = declaration.parameters.as_slice();
-        let arguments = type_arguments(alloc, parameters)?;
+        let arguments = listed(alloc, parameters, "")?;
         Ok(Heading {
             ty: format!(in alloc; "{name}{arguments}")?,
             name,
@@ -40,48 +43,26 @@ impl Heading {
             arguments,
             is_key: declaration.is_key,
             denies_unknown: declaration.denies_unknown,
-            shaped: bounded(alloc, parameters, "Shaped")?,
-            keyed: bounded(alloc, parameters, "ShapedKey")?,
+            shaped: listed(alloc, parameters, "Shaped")?,
+            keyed: listed(alloc, parameters, "ShapedKey")?,
         })
     }
-
-    /// What an impl of a trait for the type begins with, where its parameters are shaped.
-    pub fn head(&self, alloc: Global, of_trait: &str) -> Result<String, AllocError> {
-        let Heading { shaped, ty, .. } = self;
-        format!(in alloc; "impl{shaped} {of_trait} for {ty} {{")
-    }
-
-    /// What its impl of `ShapedKey` begins with.
-    pub fn key_head(&self, alloc: Global) -> Result<String, AllocError> {
-        let Heading { keyed, ty, .. } = self;
-        format!(in alloc; "impl{keyed} ShapedKey for {ty} {{")
-    }
 }
 
-fn type_arguments(alloc: Global, parameters: &[Parameter]) -> Result<String, AllocError> {
-    let mut names = Vec::new(alloc);
-    for parameter in parameters {
-        names.push(parameter.name.clone()?)?;
-    }
-    in_angles(alloc, names.as_slice())
-}
-
-fn bounded(alloc: Global, parameters: &[Parameter], bound: &str) -> Result<String, AllocError> {
-    let mut texts = Vec::new(alloc);
+// The parameters in angle brackets, each with its own bounds and this one, or by its name alone if
+// this one is empty. Nothing if there are none.
+fn listed(alloc: Global, parameters: &[Parameter], bound: &str) -> Result<String, AllocError> {
+    let mut text = String::new(alloc);
     for Parameter { name, bounds } in parameters {
-        texts.push(if bounds.is_empty() {
-            format!(in alloc; "{name}: {bound}")?
-        } else {
-            format!(in alloc; "{name}: {bounds} + {bound}")?
-        })?;
+        let before = if text.is_empty() { "<" } else { ", " };
+        match (bound, bounds.as_str()) {
+            ("", _) => write!(text, "{before}{name}")?,
+            (_, "") => write!(text, "{before}{name}: {bound}")?,
+            _ => write!(text, "{before}{name}: {bounds} + {bound}")?,
+        }
     }
-    in_angles(alloc, texts.as_slice())
-}
-
-fn in_angles(alloc: Global, texts: &[String]) -> Result<String, AllocError> {
-    if texts.is_empty() {
-        return Ok(String::new(alloc));
+    if !text.is_empty() {
+        text.push('>')?;
     }
-    let line = texts.join(alloc, ", ")?;
-    format!(in alloc; "<{line}>")
+    Ok(text)
 }

@@ -1,8 +1,8 @@
 // The imports that the printed impls need.
+use crate::case::listing;
 use crate::record_rules::has_aliases;
-use crate::tree::set_of;
 use crate::uses::Uses;
-use declarations::{Body, Contents, Declaration, Field, Form, SetKind, StoredSet, Variant};
+use declarations::{Body, Contents, Declaration, Field, Presence, SetKind, StoredSet, Variant};
 use std::alloc::{AllocError, Global};
 use std::fmt::Write;
 
@@ -82,8 +82,8 @@ impl Words {
 
     fn add_fields(&mut self, fields: &[Field]) -> Result<(), AllocError> {
         for field in fields {
-            self.add(words_of_form(field.form))?;
-            if let Some(set) = set_of(field.form) {
+            self.add(words_of_presence(field.form.presence))?;
+            if let Some(set) = field.form.set {
                 self.add(words_of_set(set))?;
             }
         }
@@ -95,9 +95,17 @@ impl Words {
             self.add("Left Right Choice")?;
         }
         for variant in variants {
-            self.add(words_of_contents(&variant.contents, are_tagged))?;
-            if let Contents::Named(fields) = &variant.contents {
-                self.add_fields(fields)?;
+            let (listed, write, conform) = listing(&variant.contents, are_tagged);
+            self.add(listed)?;
+            self.add(write)?;
+            self.add(conform)?;
+            match &variant.contents {
+                Contents::Several(_) => self.add("Field")?,
+                Contents::Named(fields) => {
+                    self.add("Field NamedFields")?;
+                    self.add_fields(fields)?;
+                }
+                _ => {}
             }
         }
         Ok(())
@@ -183,11 +191,11 @@ fn words_of_rules(deny_unknown: bool, have_aliases: bool) -> &'static str {
     }
 }
 
-fn words_of_form(form: Form) -> &'static str {
-    match form {
-        Form::Plain | Form::Set(_) => "",
-        Form::Defaulted | Form::DefaultedSet(_) => "WithDefault",
-        Form::Omitted | Form::OmittedSet(_) => "Omitted OmittedRef",
+fn words_of_presence(presence: Presence) -> &'static str {
+    match presence {
+        Presence::Required => "",
+        Presence::Defaulted => "WithDefault",
+        Presence::Omitted => "Omitted OmittedRef",
     }
 }
 
@@ -199,21 +207,5 @@ fn words_of_set(set: StoredSet) -> &'static str {
         (SetKind::Numbers, true) => "AsNumberSet serde_dynamo::NumberSet",
         (SetKind::Binaries, false) => "InBinarySet serde_dynamo::BinarySet",
         (SetKind::Binaries, true) => "AsBinarySet serde_dynamo::BinarySet",
-    }
-}
-
-fn words_of_contents(contents: &Contents, are_tagged: bool) -> &'static str {
-    match (contents, are_tagged) {
-        (Contents::Nothing, false) => "Nothing unit_conforms write_unit",
-        (Contents::Nothing, true) => "Nothing tagged_unit_conforms write_tagged_unit",
-        (Contents::One(_), false) => "One one_conforms write_one",
-        (Contents::Several(_), false) => "Field Several several_conform write_several",
-        (Contents::One(_) | Contents::Several(_), true) => {
-            "Inner tagged_inner_conforms write_tagged_inner"
-        }
-        (Contents::Named(_), false) => "Field Named NamedFields named_conform write_struct",
-        (Contents::Named(_), true) => {
-            "Field Named NamedFields tagged_struct_conforms write_tagged_struct"
-        }
     }
 }

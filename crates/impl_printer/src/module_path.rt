@@ -33,30 +33,23 @@ impl ModulePath {
     ///
     /// Returns [`AllocError`] if memory runs out.
     pub fn of(alloc: Global, text: &str) -> Result<Option<ModulePath>, AllocError> {
-        let mut krate = None;
+        if !text.split("::").all(|part| is_name(part)) {
+            return Ok(None);
+        }
+        let (krate, modules) = text.split_once("::").unwrap_or((text, ""));
         let mut inside = String::new(alloc);
-        for part in text.split("::") {
-            if part.is_empty() || !part.chars().all(is_of_name) {
-                return Ok(None);
-            }
-            if krate.is_none() {
-                krate = Some(String::from_str(alloc, part)?);
-            } else {
-                inside.push_str(part)?;
-                inside.push('.')?;
-            }
+        for part in modules.split("::").filter(|part| !part.is_empty()) {
+            inside.push_str(part)?;
+            inside.push('.')?;
         }
-        match krate {
-            Some(krate) => Ok(Some(ModulePath {
-                krate,
-                inside,
-                is_given: true,
-            })),
-            None => Ok(None),
-        }
+        Ok(Some(ModulePath {
+            krate: String::from_str(alloc, krate)?,
+            inside,
+            is_given: true,
+        }))
     }
 }
 
-fn is_of_name(c: char) -> bool {
-    c == '_' || c.is_ascii_alphanumeric()
+fn is_name(part: &str) -> bool {
+    !part.is_empty() && part.chars().all(|c| c == '_' || c.is_ascii_alphanumeric())
 }

@@ -23,7 +23,7 @@ pub fn print_newtype(
         by_shape: format!(in alloc; "newtype_by_shape {field} {known}")?,
         conforms: String::from_str(alloc, "self.0.conforms();")?,
     };
-    print_traits(alloc, out, heading, &traits)?;
+    print_traits(out, heading, &traits)?;
     if heading.is_key {
         print_newtype_key(alloc, out, heading, of, field.as_str())?;
     }
@@ -64,12 +64,12 @@ fn print_newtype_key(
 ) -> Result<(), AllocError> {
     if heading.arguments.is_empty() {
         let known = format!(in alloc; "key_newtype {field} ⟦<{of} as ShapedKey>⟧.about_key")?;
-        return print_key(alloc, out, heading, known.as_str(), "own_key _");
+        return print_key(out, heading, known.as_str(), "own_key _");
     }
     let known = format!(in alloc; "key_newtype {field} {of}.about_key")?;
     let laws = format!(in alloc; "{of}.about.tells {of}.eq {of}.cmp {of}.is_key")?;
     let is_key = format!(in alloc;
         "newtype_is_key {field} {of}.about_key {of}.about.shape {laws}"
     )?;
-    print_key(alloc, out, heading, known.as_str(), is_key.as_str())
+    print_key(out, heading, known.as_str(), is_key.as_str())
 }

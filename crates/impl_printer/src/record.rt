@@ -1,9 +1,9 @@
-use crate::fields::{ghost_parts, make_function, print_field_list};
+use crate::fields::make_function;
 use crate::heading::Heading;
-use crate::names::{codes, name_functions, names, names_function, shown_names};
+use crate::names::{codes, names, names_function, shown_names};
 use crate::record_rules::{has_rules, print_rules};
 use crate::traits::{BY_SHAPE, Traits, print_traits};
-use crate::tree::{ref_tree, type_tree};
+use crate::tree::{ref_tree, tree_of, type_tree};
 use declarations::Field;
 use std::alloc::{AllocError, Global};
 use std::fmt::Write;
@@ -15,7 +15,6 @@ pub fn print_record(
     heading: &Heading,
     fields: &[Field],
 ) -> Result<(), AllocError> {
-    print_field_list(out, heading, type_tree(alloc, fields)?.as_str())?;
     print_description(alloc, out, heading, fields)?;
     let is_ruled = has_rules(heading, fields);
     if is_ruled {
@@ -23,7 +22,7 @@ pub fn print_record(
     }
     let refs = ref_tree(alloc, fields, "&self.")?;
     let traits = traits(alloc, heading.ty.as_str(), refs.as_str(), is_ruled)?;
-    print_traits(alloc, out, heading, &traits)
+    print_traits(out, heading, &traits)
 }
 
 // Those of a struct with rules for the names of entries, or without.
@@ -63,15 +62,16 @@ fn print_description(
         name,
         shown,
         arguments,
+        ty,
+        shaped,
         ..
     } = heading;
-    let head = heading.head(alloc, "Record")?;
+    let types = type_tree(alloc, fields)?;
     let list = format!(in alloc; "{name}Fields{arguments}")?;
     let stored = shown_names(alloc, fields)?;
     let codes = codes(alloc, stored.as_slice())?;
     let names = names(alloc, fields)?;
-    let parts = ghost_parts(alloc, names.as_slice())?;
-    let name_functions = name_functions(alloc, "struct", shown.as_str())?;
+    let parts = tree_of(alloc, names.as_slice(), "record { 0 = s.", " }")?;
     let names_function = names_function(alloc, stored.as_slice())?;
     let own = names.join(alloc, ", ")?;
     let value = format!(in alloc; "{name} {{ {own} }}")?;
@@ -79,11 +79,14 @@ fn print_description(
     writeln!(
         out,
         "
-{head}
+type {list} = {types};
+
+impl{shaped} Record for {ty} {{
     type Fields = {list};
     ghost about = {{ record_of (codes \"{shown}\") ({codes}) (λ s. {parts}) ⟦<{list} as FieldList>⟧.about }};
     ghost named = {{ (refl, refl) }};
-{name_functions}
+    fn name() -> &'static str {{ \"{shown}\" }}
+    fn expecting() -> &'static str {{ \"struct {shown}\" }}
 {names_function}
 {make}
 }}"

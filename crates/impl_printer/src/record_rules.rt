@@ -21,7 +21,7 @@ pub fn print_rules(
     heading: &Heading,
     fields: &[Field],
 ) -> Result<(), AllocError> {
-    let head = heading.head(alloc, "RecordRules")?;
+    let Heading { ty, shaped, .. } = heading;
     let denies = heading.denies_unknown;
     let mut codes = String::new(alloc);
     let mut pairs = Vec::new(alloc);
@@ -36,7 +36,7 @@ pub fn print_rules(
     writeln!(
         out,
         "
-{head}
+impl{shaped} RecordRules for {ty} {{
     ghost rules = {{ record {{ aliases = {codes}[]; denies = {denies} }} }};
     fn aliases() -> &'static [(&'static str, &'static str)] {{ &[{pairs}] }}
     fn denies_unknown() -> bool {{ {denies} }}

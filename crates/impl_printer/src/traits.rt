@@ -1,5 +1,5 @@
 use crate::heading::Heading;
-use std::alloc::{AllocError, Global};
+use std::alloc::AllocError;
 use std::fmt::Write;
 
 /// The proof in `Shaped` for types that are read by their shape as they are described.
@@ -30,80 +30,39 @@ pub struct Traits {
 
 /// Prints the impls of `Serialize`, `Deserialize` and `Shaped`.
 pub fn print_traits(
-    alloc: Global,
     out: &mut String,
     heading: &Heading,
     traits: &Traits,
 ) -> Result<(), AllocError> {
-    print_serialize(alloc, out, heading, traits)?;
-    print_deserialize(alloc, out, heading, traits)?;
-    print_shaped(alloc, out, heading, traits)
-}
-
-fn print_serialize(
-    alloc: Global,
-    out: &mut String,
-    heading: &Heading,
-    traits: &Traits,
-) -> Result<(), AllocError> {
-    let head = heading.head(alloc, "Serialize")?;
+    let Heading { shaped, ty, .. } = heading;
     let Traits {
         tells,
         wants,
         write,
-        ..
+        reads,
+        read,
+        about,
+        by_shape,
+        conforms,
     } = traits;
     writeln!(
         out,
         "
-{head}
+impl{shaped} Serialize for {ty} {{
     ghost tells = {{ {tells} }};
 {wants}    fn serialize<S: Serializer>(&self, serializer: S) -> Result<S::Ok, S::Error> {{
         {write}
     }}
-}}"
-    )
-}
+}}
 
-fn print_deserialize(
-    alloc: Global,
-    out: &mut String,
-    heading: &Heading,
-    traits: &Traits,
-) -> Result<(), AllocError> {
-    let head = heading.head(alloc, "Deserialize")?;
-    let ty = heading.ty.as_str();
-    let Traits { reads, read, .. } = traits;
-    writeln!(
-        out,
-        "
-{head}
+impl{shaped} Deserialize for {ty} {{
     ghost reads = {{ {reads} }};
     fn deserialize<D: Deserializer>(alloc: Global, deserializer: D) -> Result<{ty}, D::Error> {{
         {read}
     }}
-}}"
-    )
-}
+}}
 
-fn print_shaped(
-    alloc: Global,
-    out: &mut String,
-    heading: &Heading,
-    traits: &Traits,
-) -> Result<(), AllocError> {
-    let head = heading.head(alloc, "Shaped")?;
-    let ty = heading.ty.as_str();
-    let Traits {
-        about,
-        by_shape,
-        conforms,
-        ..
-    } = traits;
-    writeln!(
-        out,
-        "
-{head}
+impl{shaped} Shaped for {ty} {{
     ghost about = {{ {about} }};
     ghost as_told = {{ refl }};
     ghost reads_by_shape = {{ {by_shape} }};
@@ -117,17 +76,16 @@ fn print_shaped(
 
 /// Prints the impl of `ShapedKey`, by its ghost members.
 pub fn print_key(
-    alloc: Global,
     out: &mut String,
     heading: &Heading,
     about_key: &str,
     is_key: &str,
 ) -> Result<(), AllocError> {
-    let head = heading.key_head(alloc)?;
+    let Heading { keyed, ty, .. } = heading;
     writeln!(
         out,
         "
-{head}
+impl{keyed} ShapedKey for {ty} {{
     ghost about_key = {{ {about_key} }};
     ghost is_key = {{ {is_key} }};
 }}"

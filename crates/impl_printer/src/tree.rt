@@ -1,14 +1,20 @@
 ghost use Rattle.std.specs.Prelude.{◌≤◌, ◌<◌};
 
-use declarations::{Field, Form, SetKind, StoredSet};
+use declarations::{Field, Presence, SetKind, StoredSet};
 use std::alloc::{AllocError, Global};
+use std::fmt::Display;
 
-/// The list of these fields, as `dynamo_record` groups them: one is alone, and more are a pair,
-/// four or eight groups, of which the first are the larger.
-pub fn tree(alloc: Global, leaves: &[String]) -> Result<String, AllocError> {
+/// The list of these fields, each between two texts, as `dynamo_record` groups them: one is alone,
+/// and more are a pair, four or eight groups, of which the first are the larger.
+pub fn tree_of<T: Display>(
+    alloc: Global,
+    leaves: &[T],
+    before: &str,
+    after: &str,
+) -> Result<String, AllocError> {
     let groups = match leaves {
         [] => return Ok(String::new(alloc)),
-        [leaf] => return leaf.clone(),
+        [leaf] => return format!(in alloc; "{before}{leaf}{after}"),
         _ if leaves.len() < 4 => 2,
         _ if leaves.len() < 8 => 4,
         _ => 8,
@@ -16,9 +22,9 @@ pub fn tree(alloc: Global, leaves: &[String]) -> Result<String, AllocError> {
     let mut items = Vec::new(alloc);
     let mut rest = leaves;
     for done in 0..groups {
-        let (group, after) = rest.split_at(share(rest.len(), groups - done));
-        items.push(tree(alloc, group)?)?;
-        rest = after;
+        let (group, others) = rest.split_at(share(rest.len(), groups - done));
+        items.push(tree_of(alloc, group, before, after)?)?;
+        rest = others;
     }
     let items = items.join(alloc, ", ")?;
     format!(in alloc; "({items})")
@@ -34,20 +40,15 @@ fn share(leaves: usize, groups: usize) -> usize
     leaves.div_ceil(groups)
 }
 
-/// The list of these fields, each between these two texts.
-pub fn tree_of(
-    alloc: Global,
-    texts: &[String],
-    before: &str,
-    after: &str,
-) -> Result<String, AllocError> {
-    tree(alloc, wrapped(alloc, texts, before, after)?.as_slice())
+/// The list of these fields.
+pub fn tree<T: Display>(alloc: Global, leaves: &[T]) -> Result<String, AllocError> {
+    tree_of(alloc, leaves, "", "")
 }
 
 /// Each text between these two.
-pub fn wrapped(
+pub fn wrapped<T: Display>(
     alloc: Global,
-    texts: &[String],
+    texts: &[T],
     before: &str,
     after: &str,
 ) -> Result<Vec<String>, AllocError> {
@@ -68,7 +69,7 @@ pub fn type_tree(alloc: Global, fields: &[Field]) -> Result<String, AllocError> 
 }
 
 fn leaf_type(alloc: Global, field: &Field) -> Result<String, AllocError> {
-    let of = match set_of(field.form) {
+    let of = match field.form.set {
         Some(set) => {
             let prefix = if set.is_rust_set { "As" } else { "In" };
             let (name, member) = (set_name(set), field.of.as_str());
@@ -76,10 +77,10 @@ fn leaf_type(alloc: Global, field: &Field) -> Result<String, AllocError> {
         }
         None => field.of.clone()?,
     };
-    match field.form {
-        Form::Plain | Form::Set(_) => format!(in alloc; "Field<{of}>"),
-        Form::Defaulted | Form::DefaultedSet(_) => format!(in alloc; "Field<WithDefault<{of}>>"),
-        Form::Omitted | Form::OmittedSet(_) => format!(in alloc; "Field<Omitted<{of}>>"),
+    match field.form.presence {
+        Presence::Required => format!(in alloc; "Field<{of}>"),
+        Presence::Defaulted => format!(in alloc; "Field<WithDefault<{of}>>"),
+        Presence::Omitted => format!(in alloc; "Field<Omitted<{of}>>"),
     }
 }
 
@@ -94,24 +95,16 @@ pub fn ref_tree(alloc: Global, fields: &[Field], before: &str) -> Result<String,
 
 fn leaf_ref(alloc: Global, field: &Field, before: &str) -> Result<String, AllocError> {
     let name = field.name.as_str();
-    let value = match set_of(field.form) {
+    let value = match field.form.set {
         Some(set) => {
             let wrapper = set_name(set);
             format!(in alloc; "{wrapper}({before}{name})")?
         }
         None => format!(in alloc; "{before}{name}")?,
     };
-    match field.form {
-        Form::Omitted | Form::OmittedSet(_) => format!(in alloc; "OmittedRef({value})"),
+    match field.form.presence {
+        Presence::Omitted => format!(in alloc; "OmittedRef({value})"),
         _ => Ok(value),
-    }
-}
-
-/// The set as which a field of this form is stored.
-pub fn set_of(form: Form) -> Option<StoredSet> {
-    match form {
-        Form::Set(set) | Form::DefaultedSet(set) | Form::OmittedSet(set) => Some(set),
-        _ => None,
     }
 }
 

@@ -1,6 +1,6 @@
-use crate::fields::{ghost_parts, make_function, print_field_list};
+use crate::fields::make_function;
 use crate::heading::Heading;
-use crate::names::{letters, name_functions, places};
+use crate::names::letters;
 use crate::traits::{Traits, print_traits};
 use crate::tree::tree_of;
 use std::alloc::{AllocError, Global};
@@ -13,12 +13,11 @@ pub fn print_tuple_struct(
     heading: &Heading,
     types: &[String],
 ) -> Result<(), AllocError> {
-    let places = places(alloc, types.len())?;
-    print_field_list(out, heading, tree_of(alloc, types, "Field<", ">")?.as_str())?;
-    print_description(alloc, out, heading, places.as_slice())?;
+    print_description(alloc, out, heading, types)?;
+    let places: Vec<usize> = (0..types.len()).collect(alloc)?;
     let refs = tree_of(alloc, places.as_slice(), "&self.", "")?;
     let traits = traits(alloc, heading.ty.as_str(), refs.as_str())?;
-    print_traits(alloc, out, heading, &traits)
+    print_traits(out, heading, &traits)
 }
 
 fn traits(alloc: Global, ty: &str, refs: &str) -> Result<Traits, AllocError> {
@@ -39,19 +38,21 @@ fn print_description(
     alloc: Global,
     out: &mut String,
     heading: &Heading,
-    places: &[String],
+    types: &[String],
 ) -> Result<(), AllocError> {
     let Heading {
         name,
         shown,
         arguments,
+        ty,
+        shaped,
         ..
     } = heading;
-    let head = heading.head(alloc, "TupleStruct")?;
+    let count = types.len();
+    let types = tree_of(alloc, types, "Field<", ">")?;
     let list = format!(in alloc; "{name}Fields{arguments}")?;
-    let parts = ghost_parts(alloc, places)?;
-    let name_functions = name_functions(alloc, "tuple struct", shown.as_str())?;
-    let count = places.len();
+    let places: Vec<usize> = (0..count).collect(alloc)?;
+    let parts = tree_of(alloc, places.as_slice(), "record { 0 = s.", " }")?;
     let names = letters(alloc, count)?;
     let all = names.join(alloc, ", ")?;
     let value = format!(in alloc; "{name}({all})")?;
@@ -59,10 +60,13 @@ fn print_description(
     writeln!(
         out,
         "
-{head}
+type {list} = {types};
+
+impl{shaped} TupleStruct for {ty} {{
     type Fields = {list};
     ghost about = {{ tuple_struct_of (codes \"{shown}\") (λ s. {parts}) ⟦<{list} as FieldList>⟧.about }};
-{name_functions}
+    fn name() -> &'static str {{ \"{shown}\" }}
+    fn expecting() -> &'static str {{ \"tuple struct {shown}\" }}
     fn count() -> usize {{ {count} }}
 {make}
 }}"

@@ -1,5 +1,5 @@
 use crate::heading::Heading;
-use crate::names::{codes, name_functions, names_function, variant_names};
+use crate::names::{codes, names_function, variant_names};
 use crate::traits::{BY_SHAPE, Traits, print_key, print_traits};
 use declarations::Variant;
 use std::alloc::{AllocError, Global};
@@ -27,10 +27,10 @@ pub fn print_units(
         by_shape: String::from_str(alloc, BY_SHAPE)?,
         conforms: String::from_str(alloc, "conform_unit_enum(self);")?,
     };
-    print_traits(alloc, out, heading, &traits)?;
+    print_traits(out, heading, &traits)?;
     if heading.is_key {
         let known = format!(in alloc; "key_units {described}")?;
-        print_key(alloc, out, heading, known.as_str(), "own_key _")?;
+        print_key(out, heading, known.as_str(), "own_key _")?;
     }
     Ok(())
 }
@@ -51,14 +51,14 @@ fn print_description(
     }
     let paths = paths.join(alloc, ", ")?;
     let codes = codes(alloc, names.as_slice())?;
-    let name_functions = name_functions(alloc, "enum", shown.as_str())?;
     let names_function = names_function(alloc, names.as_slice())?;
     writeln!(
         out,
         "
 impl UnitEnum for {name} {{
     ghost about = {{ units_of {alias} (codes \"{shown}\") ({codes}) refl }};
-{name_functions}
+    fn name() -> &'static str {{ \"{shown}\" }}
+    fn expecting() -> &'static str {{ \"enum {shown}\" }}
 {names_function}
     fn number(&self) -> u32 {{ *self as u32 }}
     fn variant(number: usize) -> Option<{name}> {{ variant_at(&[{paths}], number) }}

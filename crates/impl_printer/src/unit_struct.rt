@@ -18,5 +18,5 @@ pub fn print_unit(alloc: Global, out: &mut String, heading: &Heading) -> Result<
         by_shape: format!(in alloc; "unit_struct_by_shape (codes \"{shown}\")")?,
         conforms: String::new(alloc),
     };
-    print_traits(alloc, out, heading, &traits)
+    print_traits(out, heading, &traits)
 }

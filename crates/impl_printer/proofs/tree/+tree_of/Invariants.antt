@@ -1,11 +1,11 @@
 use Rattle.std.proofs.Common.{length, ◌≤◌, ◌<◌}
-use Rattle.impl_printer.proofs.tree.+tree.Given as goal
+use Rattle.impl_printer.proofs.tree.+tree_of.Given as goal
 
-abbrev pub decreases-tree : goal.decreases-tree
-decreases-tree l = length l.leaves.now
+abbrev pub decreases-tree_of : goal.decreases-tree_of
+decreases-tree_of g l = length l.leaves.now
 
 abbrev pub invariant-loop-done : goal.invariant-loop-done
-invariant-loop-done l = record {
+invariant-loop-done g l = record {
   several : 1 < l.groups;
   leaves : 1 < length l.fn.leaves;
   rest : length l.rest ≤ length l.fn.leaves;
