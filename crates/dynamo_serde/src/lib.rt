@@ -3,7 +3,7 @@
 //! A type derives the two traits of the kit's crate `serde`. [`to_item`] and [`to_attribute_value`]
 //! write it, [`from_item`], [`from_items`] and [`from_attribute_value`] read it, and [`read_item`]
 //! and [`read_attribute_value`] borrow what they read. Floats and serde's attributes work:
-//! renaming, defaults, skipping, flattening, and all four forms of enums.
+//! renaming, defaults, skipping, flattening, and all four enum representations.
 //!
 //! [`from_item_located`] and its namesakes also say where an error was found, as in
 //! `orders[3].price: Expected num`.
