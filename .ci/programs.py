@@ -67,6 +67,13 @@ def lay_crates(room):
     write(f"{room}/crates.txt", read(f"{TOP}/crates.txt"))
 
 
+def add_line(file, crate, libraries):
+    """Adds the line of a crate that is only tried to a crates.txt, with `anyhow` twice. Beside each try `rt try` checks the names of the
+    crate, which takes up to three minutes of a processor and says what a proof would refuse. A library that is there twice ends it at
+    once, and the try itself doesn't mind."""
+    write(file, read(file) + f"{crate}: {' '.join(dict.fromkeys([*libraries, 'anyhow']))} anyhow\n".encode())
+
+
 def sources_of(names):
     """The sources, the specs and the proofs of these crates."""
     found = []
