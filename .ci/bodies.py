@@ -9,6 +9,8 @@ import re
 import shutil
 from collections import Counter
 
+from programs import read, write
+
 # The line that a function begins with: its columns and its name. The body of a `const fn` stays, since a crate may need its value.
 FUNCTION = re.compile(r"( *)(?:pub(?:\([\w:]+\))? )?(?:final )?fn (\w+)")
 # The line that an `impl` or a trait begins with, and a line that ends one, or begins another item.
@@ -40,7 +42,7 @@ class Function:
         for folder in (name, f"+{name}"):
             shutil.rmtree("/".join([proofs, *above, folder]), ignore_errors=True)
         module = ".".join(["Rattle", crate, "proofs", *above, name])
-        write("/".join([proofs, *above, name, "Proof.antt"]), HOLE.format(module=module, name=name))
+        write("/".join([proofs, *above, name, "Proof.antt"]), HOLE.format(module=module, name=name).encode())
 
 
 def leave_out(room, crate, is_kept):
@@ -48,16 +50,16 @@ def leave_out(room, crate, is_kept):
     proof, and stay if one of them is kept. What a macro writes stays, too, and what isn't the only function with its path."""
     files = sorted(f"{at}/{name}" for at, _, names in os.walk(f"{room}/src") for name in names if name.endswith(".rt"))
     # A function of a type's own has its path below the type, whichever file it is in.
-    types = [(name, module_of(room, file)) for file in files for name in TYPE.findall(read(file))]
+    types = [(name, module_of(room, file)) for file in files for name in TYPE.findall(read(file).decode())]
     found = [it for file in files for it in functions_of(file, module_of(room, file), types)]
     cycles = {it.cycle for it in found if it.cycle and is_kept(it.path)}
     counts = Counter(it.path for it in found)
     for file in files:
-        lines = read(file).split("\n")
+        lines = read(file).decode().split("\n")
         for it in found:
             if it.file == file and not is_kept(it.path) and it.cycle not in cycles and counts[it.path] == 1:
                 it.leave_out(lines, f"{room}/proofs", crate)
-        write(file, "\n".join(it for it in lines if it is not None))
+        write(file, "\n".join(it for it in lines if it is not None).encode())
 
 
 def module_of(room, file):
@@ -69,7 +71,7 @@ def module_of(room, file):
 def functions_of(file, module, types):
     """The functions with bodies of a file that are in its module itself, in an `impl` or in a trait. `rt fmt` has laid the file out."""
     # The lines of a string may look like code.
-    lines = LITERAL.sub(lambda it: re.sub(r"[^\n]", "_", it[0]) if "\n" in it[0] else it[0], read(file)).split("\n")
+    lines = LITERAL.sub(lambda it: re.sub(r"[^\n]", "_", it[0]) if "\n" in it[0] else it[0], read(file).decode()).split("\n")
     block, first, found = "", 0, []
     for at, line in enumerate(lines):
         if BLOCK.match(line):
@@ -144,16 +146,3 @@ def words(text, parameters):
     text = re.sub(r"^\((.*)\)$", lambda it: f"Tuple{it[1].count(',') + 1} {it[1]}" if it[1] else "Unit", text)
     text = text.replace("&mut ", "RefMut ").replace("&", "Ref ")
     return "".join(it[0].upper() + it[1:] for it in re.findall(r"\w+", text) if it not in parameters)
-
-
-def read(file):
-    """The text of a file."""
-    with open(file, encoding="utf-8") as it:
-        return it.read()
-
-
-def write(file, text):
-    """Writes a file, and makes its folder."""
-    os.makedirs(os.path.dirname(file), exist_ok=True)
-    with open(file, "w", encoding="utf-8") as it:
-        it.write(text)

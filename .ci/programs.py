@@ -69,8 +69,8 @@ def lay_crates(room):
 
 def add_line(file, crate, libraries):
     """Adds the line of a crate that is only tried to a crates.txt, with `anyhow` twice. Beside each try `rt try` checks the names of the
-    crate, which takes up to three minutes of a processor and says what a proof would refuse. A library that is there twice ends it at
-    once, and the try itself doesn't mind."""
+    crate, which takes minutes of a processor and says what a proof would refuse. A library that is there twice ends that check at once,
+    and doesn't stop the try."""
     write(file, read(file) + f"{crate}: {' '.join(dict.fromkeys([*libraries, 'anyhow']))} anyhow\n".encode())
 
 
