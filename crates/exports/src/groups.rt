@@ -12,7 +12,7 @@ use std::string::ToString;
 /// How many lines have the same error at the same place, where the indexes of elements don't
 /// matter.
 ///
-/// It is printed as a line for each group, in the order of the places: `1204 lines at
+/// It is printed as a line for each group, in the order of the places: `1,204 lines at
 /// orders[].price: Expected num`. It has up to a given number of groups, so that a file of any
 /// length takes bounded memory if its lines are bounded. Lines of further groups are counted
 /// together.
@@ -124,15 +124,25 @@ impl fmt::Display for Groups {
     }
 }
 
-// A number of lines.
+// A number of lines, as in `1,204 lines`.
 #[derive(Clone, Copy, Drop)]
 struct LineCount(u64);
 
 impl fmt::Display for LineCount {
     fn fmt<W: fmt::Write>(&self, f: &mut fmt::Formatter<W>) -> fmt::Result {
-        match self.0 {
-            1 => f.write_str("1 line"),
-            count => write!(f, "{count} lines"),
+        if self.0 == 1 {
+            return f.write_str("1 line");
         }
+        write_count(self.0, f)?;
+        f.write_str(" lines")
     }
+}
+
+// Writes a number with its digits in groups of three, as in `1,204`.
+fn write_count<W: fmt::Write>(count: u64, f: &mut fmt::Formatter<W>) -> fmt::Result {
+    if count < 1_000 {
+        return write!(f, "{count}");
+    }
+    write_count(count / 1_000, f)?;
+    write!(f, ",{:03}", count % 1_000)
 }

@@ -134,9 +134,10 @@ fn findings_are_grouped_by_place_and_kind(rt: HostRuntime) -> Result<(), Fail> {
     let other_count = line(alloc, r#"{"N":"1"}"#, r#"{"N":"two"}"#)?;
     let mut export = String::new(alloc);
     push_lines(&mut export, 3, &[good.as_str(), tag.as_str(), first_tag.as_str(), "{}", "no JSON", "[1"])?;
+    push_lines(&mut export, 1_201, &["{}"])?;
     push_lines(&mut export, 1, &[count.as_str(), other_count.as_str(), count.as_str(), count.as_str()])?;
     let wanted = "4 lines at count: Failed to parse an integer\n6 lines at tags[]: Expected string\n\
-        3 lines: it has no Item\n6 lines: it is not JSON\n";
+        1,204 lines: it has no Item\n6 lines: it is not JSON\n";
     let told = groups(alloc, export.as_str().as_bytes(), 10)?;
     assert_eq!(rt; told.to_string(alloc)?.as_str(), wanted);
     assert_eq!(rt; told.others(), 0);
