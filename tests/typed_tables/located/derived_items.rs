@@ -1,5 +1,5 @@
 //! Structs, lists, maps and scalars that derive serde's traits, with one fault each.
-use super::derived_rows::{holds, told};
+use super::derived_rows::{holds, print};
 use dynamo_json::DynamoJson;
 use dynamo_serde::{from_attribute_value_located, from_items_located};
 use dynamo_value::{AttributeValue, Item, Items};
@@ -229,7 +229,7 @@ fn items_are_elements(rt: HostRuntime) -> Result<(), Fail> {
         for text in [r#"{"city": {"S": "a"}}"#, r#"{"city": {"S": "b"}}"#, *text].iter() {
             maps.push(Item::from_json_text(alloc, text)?.into_inner())?;
         }
-        let read = told(alloc, &from_items_located::<Home>(alloc, Items::from(maps)))?;
+        let read = print(alloc, &from_items_located::<Home>(alloc, Items::from(maps)).err())?;
         assert_eq!(rt; read.as_str(), *wanted);
     }
     Ok(())
@@ -242,7 +242,7 @@ fn a_value_that_is_too_deep_has_no_place(rt: HostRuntime) -> Result<(), Fail> {
     for _ in 0..128 {
         value = AttributeValue::L(vec![in alloc; value]?);
     }
-    let read = told(alloc, &from_attribute_value_located::<Vec<u8>>(alloc, value))?;
+    let read = print(alloc, &from_attribute_value_located::<Vec<u8>>(alloc, value).err())?;
     assert_eq!(rt; read.as_str(), "lists and maps nest more than 127 levels");
     Ok(())
 }

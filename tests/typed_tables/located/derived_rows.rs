@@ -8,46 +8,63 @@ use std::alloc::{AllocError, Global};
 use std::process::Abort;
 use std::test::Fail;
 
+// An error and its place, or none where a value is read.
+type Fault = Option<LocatedError<Error>>;
+
+// What is said of an attribute value, and of the item of its map, borrowed and owned, where it is a map.
+#[derive(Drop)]
+struct Said {
+    plain: Option<Error>,
+    located: Fault,
+    of_items: Option<(Fault, Fault)>,
+}
+
+fn said_of<T: DeserializeOwned>(alloc: Global, text: &str) -> anyhow::Result<Said> {
+    let value = AttributeValue::from_json_text(alloc, text)?;
+    let plain = read_attribute_value::<T>(alloc, &value).err();
+    let of_items = match &value {
+        AttributeValue::M(map) => {
+            let item = Item::from(map.clone()?);
+            let borrowed = read_item_located::<T>(alloc, &item).err();
+            Some((borrowed, from_item_located::<T>(alloc, item).err()))
+        }
+        _ => None,
+    };
+    let located = from_attribute_value_located::<T>(alloc, value).err();
+    Ok(Said { plain, located, of_items })
+}
+
 // The place and the error, or that it reads.
-pub(crate) fn told<T>(alloc: Global, read: &Result<T, LocatedError<Error>>) -> Result<String, AllocError> {
-    match read {
-        Ok(_) => String::from_str(alloc, "read"),
-        Err(error) => error.to_string(alloc),
+pub(crate) fn print(alloc: Global, fault: &Fault) -> Result<String, AllocError> {
+    match fault {
+        None => String::from_str(alloc, "read"),
+        Some(error) => error.to_string(alloc),
     }
 }
 
 // Whether the plain call returns the same error, or a value too.
-fn is_plain<T>(
-    alloc: Global,
-    plain: &Result<T, Error>,
-    located: &Result<T, LocatedError<Error>>,
-) -> Result<bool, AllocError> {
+fn is_plain(alloc: Global, plain: &Option<Error>, located: &Fault) -> Result<bool, AllocError> {
     match (plain, located) {
-        (Ok(_), Ok(_)) => Ok(true),
-        (Err(plain), Err(located)) => {
+        (None, None) => Ok(true),
+        (Some(plain), Some(located)) => {
             Ok(plain.to_string(alloc)?.as_str() == located.error.to_string(alloc)?.as_str())
         }
         _ => Ok(false),
     }
 }
 
-// What reading an attribute value says, and reading the item of its map, borrowed and owned, where it is a map.
-fn of_value<T: DeserializeOwned>(alloc: Global, text: &str) -> anyhow::Result<String> {
-    let value = AttributeValue::from_json_text(alloc, text)?;
-    let plain = read_attribute_value::<T>(alloc, &value);
-    if let AttributeValue::M(map) = &value {
-        let item = Item::from(map.clone()?);
-        let borrowed = told(alloc, &read_item_located::<T>(alloc, &item))?;
-        let owned = told(alloc, &from_item_located::<T>(alloc, item))?;
+// What reading says of an attribute value. The item of its map has to be read in one way.
+fn agreed(alloc: Global, said: Said) -> anyhow::Result<String> {
+    if let Some((borrowed, owned)) = &said.of_items {
+        let (borrowed, owned) = (print(alloc, borrowed)?, print(alloc, owned)?);
         if owned != borrowed {
             return Ok(format!(in alloc; "{owned}, but {borrowed} of the borrowed item")?);
         }
     }
-    let located = from_attribute_value_located::<T>(alloc, value);
-    if !is_plain(alloc, &plain, &located)? {
+    if !is_plain(alloc, &said.plain, &said.located)? {
         anyhow::bail!("the plain call returns something else");
     }
-    Ok(told(alloc, &located)?)
+    Ok(print(alloc, &said.located)?)
 }
 
 // Each row is a value as DynamoDB JSON, and how what is said of it begins.
@@ -57,8 +74,8 @@ pub(crate) fn holds<T: DeserializeOwned>(
     rows: &[(&str, &str)],
 ) -> Result<(), Fail> {
     for (text, wanted) in rows {
-        let told = of_value::<T>(alloc, text)?;
-        assert!(rt; told.as_str().starts_with(*wanted), "{text}: {told}, not {wanted}");
+        let said = agreed(alloc, said_of::<T>(alloc, text)?)?;
+        assert!(rt; said.as_str().starts_with(*wanted), "{text}: {said}, not {wanted}");
     }
     Ok(())
 }

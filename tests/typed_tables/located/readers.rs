@@ -11,67 +11,78 @@ use std::alloc::{AllocError, Global};
 use std::process::Abort;
 use std::test::Fail;
 
+// An error and its place, or none where a value is read.
+type Fault = Option<LocatedError<Error>>;
+
+// What is said of a value. The part of this that depends on the type is small, since it is compiled
+// for each type.
+#[derive(Drop)]
+struct Said {
+    lent: Fault,
+    plain: Option<Error>,
+    others: Vec<(&'static str, Fault)>,
+}
+
+// What all readers say of an attribute value, and of the item of a map, borrowed and owned.
+fn said_of<T: Deserialize + Drop>(alloc: Global, text: &str) -> anyhow::Result<Said> {
+    let value = AttributeValue::from_json_text(alloc, text)?;
+    let lent = from_attribute_value_located::<T>(alloc, value.clone()?).err();
+    let plain = from_attribute_value::<T>(alloc, value.clone()?).err();
+    let mut others = Vec::new(alloc);
+    if let AttributeValue::M(map) = &value {
+        let item = Item::from(map.clone()?);
+        let borrowed = from_item_ref_located::<T>(alloc, &item).err();
+        others.push(("of the borrowed item", borrowed))?;
+        others.push(("of the item", from_item_located::<T>(alloc, item).err()))?;
+    }
+    let reader = Deserializer::from_attribute_value(alloc, value);
+    let owned = read_located::<T, Deserializer>(alloc, reader).err();
+    others.push(("by the owned reader", owned))?;
+    Ok(Said { lent, plain, others })
+}
+
 // The place and the error, or that it read.
-fn told<T>(alloc: Global, read: &Result<T, LocatedError<Error>>) -> Result<String, AllocError> {
-    match read {
-        Ok(_) => String::from_str(alloc, "read"),
-        Err(error) => error.to_string(alloc),
+fn print(alloc: Global, fault: &Fault) -> Result<String, AllocError> {
+    match fault {
+        None => String::from_str(alloc, "read"),
+        Some(error) => error.to_string(alloc),
     }
 }
 
 // Whether the plain call returns the same error, or a value too.
-fn is_plain<T>(plain: &Result<T, Error>, located: &Result<T, LocatedError<Error>>) -> bool {
+fn is_plain(plain: &Option<Error>, located: &Fault) -> bool {
     match (plain, located) {
-        (Ok(_), Ok(_)) => true,
-        (Err(plain), Err(located)) => *plain == located.error,
+        (None, None) => true,
+        (Some(plain), Some(located)) => *plain == located.error,
         _ => false,
     }
 }
 
-// What the owned reader says, and what is said of the item of a map, borrowed and owned.
-fn others<T: Deserialize + Drop>(
-    alloc: Global,
-    value: AttributeValue,
-) -> Result<Vec<(&'static str, String)>, AllocError> {
-    let mut said = Vec::new(alloc);
-    if let AttributeValue::M(map) = &value {
-        let item = Item::from(map.clone()?);
-        let borrowed = told(alloc, &from_item_ref_located::<T>(alloc, &item))?;
-        said.push(("of the borrowed item", borrowed))?;
-        said.push(("of the item", told(alloc, &from_item_located::<T>(alloc, item))?))?;
+// What the lent reader says. All others have to say the same.
+fn agreed(alloc: Global, said: anyhow::Result<Said>) -> anyhow::Result<String> {
+    let said = said?;
+    let lent = print(alloc, &said.lent)?;
+    if !is_plain(&said.plain, &said.lent) {
+        return Ok(format!(in alloc; "{lent}, but something else by the plain call")?);
     }
-    let reader = Deserializer::from_attribute_value(alloc, value);
-    let owned = told(alloc, &read_located::<T, Deserializer>(alloc, reader))?;
-    said.push(("by the owned reader", owned))?;
-    Ok(said)
-}
-
-// What is said of an attribute value by the lent reader. All others have to say the same.
-fn said_of<T: Deserialize + Drop>(alloc: Global, text: &str) -> anyhow::Result<String> {
-    let value = AttributeValue::from_json_text(alloc, text)?;
-    let lent = from_attribute_value_located::<T>(alloc, value.clone()?);
-    let said = told(alloc, &lent)?;
-    let plain = from_attribute_value::<T>(alloc, value.clone()?);
-    if !is_plain(&plain, &lent) {
-        return Ok(format!(in alloc; "{said}, but something else by the plain call")?);
-    }
-    let by_others = others::<T>(alloc, value)?;
-    for (how, other) in &by_others {
-        if *other != said {
-            return Ok(format!(in alloc; "{said}, but {other} {how}")?);
+    for (how, other) in &said.others {
+        let other = print(alloc, other)?;
+        if other != lent {
+            return Ok(format!(in alloc; "{lent}, but {other} {how}")?);
         }
     }
-    Ok(said)
+    Ok(lent)
 }
 
 // Adds what is wrong with a row, if anything is.
-fn check<T: Deserialize + Drop>(
+fn check(
     alloc: Global,
     wrong: &mut String,
     text: &str,
     wanted: &str,
+    said: anyhow::Result<Said>,
 ) -> Result<(), AllocError> {
-    let said = match said_of::<T>(alloc, text) {
+    let said = match agreed(alloc, said) {
         Ok(said) => said,
         Err(error) => format!(in alloc; "{error}")?,
     };
@@ -90,7 +101,7 @@ pub(crate) fn holds<T: Deserialize + Drop>(
 ) -> Result<(), Fail> {
     let mut wrong = String::new(alloc);
     for (text, wanted) in rows {
-        check::<T>(alloc, &mut wrong, text, wanted)?;
+        check(alloc, &mut wrong, text, wanted, said_of::<T>(alloc, text))?;
     }
     assert!(rt; wrong.is_empty(), "{wrong}");
     Ok(())
@@ -104,10 +115,11 @@ pub(crate) fn holds_of<T: Deserialize + Drop>(
     rows: &[(&str, &str, &str)],
 ) -> Result<(), Fail> {
     let mut wrong = String::new(alloc);
-    check::<T>(alloc, &mut wrong, whole, "read")?;
+    check(alloc, &mut wrong, whole, "read", said_of::<T>(alloc, whole))?;
     for (from, to, wanted) in rows {
         let text = whole.replace(alloc, *from, *to)?;
-        check::<T>(alloc, &mut wrong, text.as_str(), wanted)?;
+        let said = said_of::<T>(alloc, text.as_str());
+        check(alloc, &mut wrong, text.as_str(), wanted, said)?;
     }
     assert!(rt; wrong.is_empty(), "{wrong}");
     Ok(())

@@ -61,6 +61,8 @@ pub(crate) struct Turning {
     pub(crate) alloc: Global,
     pub(crate) draw: Draw,
     text: String,
+    // Whether the text is written. Otherwise the parts are only counted.
+    writes: bool,
     // How many parts there are so far, and which one is turned.
     parts: usize,
     turned: usize,
@@ -71,11 +73,12 @@ pub(crate) struct Turning {
 pub(crate) type Done = Result<(), AllocError>;
 
 impl Turning {
-    fn new(alloc: Global, seed: u64, turned: usize) -> Turning {
+    fn new(alloc: Global, seed: u64, turned: usize, writes: bool) -> Turning {
         Turning {
             alloc,
             draw: Draw { state: seed },
             text: String::new(alloc),
+            writes,
             parts: 0,
             turned,
             at: None,
@@ -96,7 +99,10 @@ impl Turning {
     }
 
     pub(crate) fn push(&mut self, text: &str) -> Done {
-        self.text.push_str(text)
+        if self.writes {
+            self.text.push_str(text)?;
+        }
+        Ok(())
     }
 
     // A value with this text, or another one if it is turned.
@@ -230,16 +236,17 @@ fn turn(
     seed: u64,
     write: &impl Fn(&mut Turning, At<'_>) -> Done,
 ) -> anyhow::Result<Turned> {
-    let mut whole = Turning::new(alloc, seed, usize::MAX);
+    let is_read_whole = seed % 5 == 0;
+    let mut whole = Turning::new(alloc, seed, usize::MAX, is_read_whole);
     write(&mut whole, At::Whole)?;
-    let mut turning = Turning::new(alloc, seed, (seed as usize * 7_919) % whole.parts);
+    let mut turning = Turning::new(alloc, seed, (seed as usize * 7_919) % whole.parts, true);
     write(&mut turning, At::Whole)?;
     let turned = item(alloc, turning.text.as_str())?;
     let Some(at) = turning.at else {
         anyhow::bail!("{}: nothing was turned", turning.text);
     };
     let (place, part) = at;
-    let whole = if seed % 5 == 0 { Some(item(alloc, whole.text.as_str())?) } else { None };
+    let whole = if is_read_whole { Some(item(alloc, whole.text.as_str())?) } else { None };
     Ok(Turned { whole, turned, place, part })
 }
 

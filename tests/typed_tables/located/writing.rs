@@ -1,31 +1,37 @@
 //! Values with one fault each, and the place that is said of it.
 use super::kinds::{Event, KeyByKey, Lenient, Pair, Refuses, Tupled, UnitKey};
-use dynamo_place::{Place, to_attribute_value_located, to_item_located};
+use dynamo_place::{LocatedError, Place, to_attribute_value_located, to_item_located};
 use dynamo_ser::Serialize;
-use dynamo_value::{Error, ErrorImpl};
+use dynamo_value::{AttributeValue, Error, ErrorImpl};
 use serde_dynamo::{
     BinarySet, Bytes, NumberSet, StringSet, Text, to_attribute_value, to_item,
 };
 use serde_json::Value;
-use std::alloc::Global;
+use std::alloc::{AllocError, Global};
 use std::collections::BTreeMap;
 use std::process::Abort;
 
+type Located = Result<AttributeValue, LocatedError<Error>>;
+
 // What is said of writing a value: the place and the error. The plain call has to return the same error.
-fn told<T: Serialize>(alloc: Global, value: &T) -> anyhow::Result<String> {
-    let located = to_attribute_value_located(alloc, value);
-    match (located, to_attribute_value(alloc, value)) {
-        (Ok(located), Ok(plain)) if located == plain => Ok(String::from_str(alloc, "written")?),
-        (Err(located), Err(plain)) if located.error == plain => Ok(located.to_string(alloc)?),
-        _ => Ok(String::from_str(alloc, "something else than by the plain call")?),
+fn told(alloc: Global, located: Located, plain: Result<AttributeValue, Error>) -> Result<String, AllocError> {
+    match (located, plain) {
+        (Ok(located), Ok(plain)) if located == plain => String::from_str(alloc, "written"),
+        (Err(located), Err(plain)) if located.error == plain => located.to_string(alloc),
+        _ => String::from_str(alloc, "something else than by the plain call"),
+    }
+}
+
+fn check(rt: &impl Abort, told: Result<String, AllocError>, wanted: &str) {
+    match told {
+        Ok(told) => assert!(rt; told.as_str() == wanted, "{told}, not {wanted}"),
+        Err(_) => assert!(rt; false, "{wanted}: out of memory"),
     }
 }
 
 fn holds<T: Serialize>(rt: &impl Abort, alloc: Global, value: &T, wanted: &str) {
-    match told(alloc, value) {
-        Ok(told) => assert!(rt; told.as_str() == wanted, "{told}, not {wanted}"),
-        Err(error) => assert!(rt; false, "{wanted}: {error}"),
-    }
+    let located = to_attribute_value_located(alloc, value);
+    check(rt, told(alloc, located, to_attribute_value(alloc, value)), wanted);
 }
 
 // A map whose key is a list.
