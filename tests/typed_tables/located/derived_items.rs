@@ -1,5 +1,6 @@
 //! Structs, lists, maps and scalars that derive serde's traits, with one fault each.
-use super::derived_rows::{holds, print};
+use super::derived_rows::holds;
+use super::readers::print;
 use dynamo_json::DynamoJson;
 use dynamo_serde::{from_attribute_value_located, from_items_located};
 use dynamo_value::{AttributeValue, Item, Items};

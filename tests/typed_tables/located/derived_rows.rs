@@ -1,15 +1,12 @@
 //! What reading derived types says of a value with a fault: the place of the fault, and the error that the plain calls return.
+use super::readers::{Fault, print};
 use dynamo_json::DynamoJson;
-use dynamo_place::LocatedError;
 use dynamo_serde::{from_attribute_value_located, from_item_located, read_attribute_value, read_item_located};
 use dynamo_value::{AttributeValue, Error, Item};
 use serde::DeserializeOwned;
 use std::alloc::{AllocError, Global};
 use std::process::Abort;
 use std::test::Fail;
-
-// An error and its place, or none where a value is read.
-type Fault = Option<LocatedError<Error>>;
 
 // What is said of an attribute value, and of the item of its map, borrowed and owned, where it is a map.
 #[derive(Drop)]
@@ -32,14 +29,6 @@ fn said_of<T: DeserializeOwned>(alloc: Global, text: &str) -> anyhow::Result<Sai
     };
     let located = from_attribute_value_located::<T>(alloc, value).err();
     Ok(Said { plain, located, of_items })
-}
-
-// The place and the error, or that it reads.
-pub(crate) fn print(alloc: Global, fault: &Fault) -> Result<String, AllocError> {
-    match fault {
-        None => String::from_str(alloc, "read"),
-        Some(error) => error.to_string(alloc),
-    }
 }
 
 // Whether the plain call returns the same error, or a value too.

@@ -11,11 +11,10 @@ use std::alloc::{AllocError, Global};
 use std::process::Abort;
 use std::test::Fail;
 
-// An error and its place, or none where a value is read.
-type Fault = Option<LocatedError<Error>>;
+/// An error and its place, or none where a value is read.
+pub(crate) type Fault = Option<LocatedError<Error>>;
 
-// What is said of a value. The part of this that depends on the type is small, since it is compiled
-// for each type.
+// What is said of a value by each reader.
 #[derive(Drop)]
 struct Said {
     lent: Fault,
@@ -23,7 +22,8 @@ struct Said {
     others: Vec<(&'static str, Fault)>,
 }
 
-// What all readers say of an attribute value, and of the item of a map, borrowed and owned.
+// What all readers say of an attribute value, and of the item of a map, borrowed and owned. This is
+// compiled for each type, so it only reads.
 fn said_of<T: Deserialize + Drop>(alloc: Global, text: &str) -> anyhow::Result<Said> {
     let value = AttributeValue::from_json_text(alloc, text)?;
     let lent = from_attribute_value_located::<T>(alloc, value.clone()?).err();
@@ -41,8 +41,8 @@ fn said_of<T: Deserialize + Drop>(alloc: Global, text: &str) -> anyhow::Result<S
     Ok(Said { lent, plain, others })
 }
 
-// The place and the error, or that it read.
-fn print(alloc: Global, fault: &Fault) -> Result<String, AllocError> {
+/// The place and the error, or that a value is read.
+pub(crate) fn print(alloc: Global, fault: &Fault) -> Result<String, AllocError> {
     match fault {
         None => String::from_str(alloc, "read"),
         Some(error) => error.to_string(alloc),
