@@ -1,12 +1,12 @@
 //! A service that keeps its bookings in a table, and its test on a table in memory.
-//! In crates.txt: `service_test: dynamo_serde dynamo_value serde typed_table memory_table anyhow`
+//! In crates.txt: `service_test: dynamo_serde dynamo_value serde table_typed table_memory anyhow`
 #![tactic(auto)]
 
 use dynamo_value::{Item, Result};
-use memory_table::{Condition, Key, KeySchema, Query, TableError};
 use serde::{Deserialize, Serialize};
 use std::alloc::{AllocError, Global};
-use typed_table::{AsItem, Keyed, TypedTable};
+use table_memory::{Condition, Key, KeySchema, Query, TableError};
+use table_typed::{AsItem, Keyed, TypedTable};
 
 #[derive(Drop, Serialize, Deserialize)]
 pub struct Booking {

@@ -1,9 +1,9 @@
 //! Changes of a table of members, and its scans.
 use crate::member::Member;
 use crate::members::member;
-use memory_table::{Condition, Key, TableError};
 use std::io;
-use typed_table::{TypedTable, TypedTableError};
+use table_memory::{Condition, Key, TableError};
+use table_typed::{TypedTable, TypedTableError};
 
 // Why a member isn't changed.
 #[derive(Debug, Drop)]

@@ -4,8 +4,8 @@ use crate::members::member;
 use sqlite::{Alter, Connection, MemStore};
 use table_keys::Query;
 use table_store::create_in_memory_file;
-use typed_store::TypedStore;
-use typed_table::Keyed;
+use table_typed::Keyed;
+use table_typed_store::TypedStore;
 
 // A member that is put, found and taken out.
 fn print_life<S: Alter + Drop>(

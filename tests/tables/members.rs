@@ -1,10 +1,10 @@
 //! A table of members.
 use crate::member::Member;
-use memory_table::{Key, KeyAttribute, KeyKind, KeySchema, Query};
 use std::alloc::{AllocError, Global};
 use std::io;
-use typed_table::laws::put_then_get;
-use typed_table::{Keyed, TypedTable, TypedTableError};
+use table_memory::{Key, KeyAttribute, KeyKind, KeySchema, Query};
+use table_typed::laws::put_then_get;
+use table_typed::{Keyed, TypedTable, TypedTableError};
 
 impl Keyed for Member {
     fn key_schema(alloc: Global) -> Result<KeySchema, AllocError> {

@@ -4,9 +4,9 @@
 //! and how the two compare. The rows that differ are printed, and how many there are. Each line of `calls.txt` is a call on a
 //! table, or makes another one, and what it answers is printed. Calls drawn at random are in `drawn`.
 use crate::{numbers, script};
-use memory_table::Table;
 use std::alloc::AllocError;
 use std::{fs, io};
+use table_memory::Table;
 
 fn number_rows(rt: &HostRuntime) -> io::Result<()> {
     let rows = fs::read_to_string(rt, "numbers.tsv")?;

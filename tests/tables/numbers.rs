@@ -43,8 +43,8 @@
 //!         x, y = kept(a), kept(b)
 //!         order = "no number" if x is None or y is None else "<" if x < y else ">" if x > y else "="
 //!         print(a, x is not None, b, y is not None, order, sep="\t")
-use memory_table::Number;
 use std::cmp::Ordering;
+use table_memory::Number;
 
 fn order_of(text: &str, other: &str) -> &'static str {
     match (Number::parse(text), Number::parse(other)) {

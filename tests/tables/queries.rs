@@ -4,12 +4,12 @@ use crate::pools::{COUNT, Value, misplaced, pooled};
 use crate::question::{Pair, Question, draw_one};
 use crate::tables::Calls;
 use dynamo_value::{AttributeValue, Item};
-use memory_table::Table;
 use sqlite::{Connection, FileStore};
 use sqlite_disk::Memory;
 use std::alloc::{AllocError, Global};
 use std::io;
 use table_keys::{Key, KeyKind, Query};
+use table_memory::Table;
 use table_store::{StoreError, TableStore, create_in_memory_file};
 
 // How many queries are asked of each pair of tables.

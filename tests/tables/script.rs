@@ -1,8 +1,8 @@
 //! A table that follows a script, line by line. Spaces separate the words of a line.
 use crate::values::{key_value, note, reading, schema};
 use dynamo_value::Item;
-use memory_table::{Condition, Key, KeyValue, Query, SortCondition, Table, TableError};
 use std::alloc::{AllocError, Global};
+use table_memory::{Condition, Key, KeyValue, Query, SortCondition, Table, TableError};
 
 /// The word of a line at a place, empty where the line has fewer.
 fn word(line: &str, place: usize) -> &str {

@@ -1,10 +1,10 @@
 //! The calls on the table in memory and on the one in a database, as one trait.
 use crate::calls::{Asked, Call, Row, Shape, updated};
 use dynamo_value::Item;
-use memory_table::Table;
 use sqlite::Alter;
 use std::alloc::{AllocError, Global};
 use table_keys::{Condition, Key, Query, TableError};
+use table_memory::Table;
 use table_store::{StoreError, TableStore};
 
 /// A table on which the calls are made.

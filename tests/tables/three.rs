@@ -3,10 +3,10 @@ use crate::calls::{Call, Row, Shape};
 use crate::list::List;
 use crate::tables::{Calls, answer};
 use dynamo_value::Item;
-use memory_table::Table;
 use sqlite::Alter;
 use std::alloc::{AllocError, Global};
 use table_keys::TableError;
+use table_memory::Table;
 use table_store::{StoreError, TableStore};
 
 /// A plain list, a table in memory and one in a database.

@@ -1,7 +1,7 @@
 //! Values, items and keys by words: `n:1.0`, `s:text` and `b:bytes` are values, any other word is none.
 use dynamo_value::{AttributeValue, Item};
-use memory_table::{KeyAttribute, KeyKind, KeySchema, KeyValue, Number, TableError};
 use std::alloc::{AllocError, Global};
+use table_memory::{KeyAttribute, KeyKind, KeySchema, KeyValue, Number, TableError};
 
 /// The value of a word.
 pub fn value(alloc: Global, word: &str) -> Result<Option<AttributeValue>, AllocError> {

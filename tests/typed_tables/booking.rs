@@ -1,10 +1,10 @@
 //! A booking: a type that derives serde's traits.
 use dynamo_place::LocatedError;
 use dynamo_value::{Error, Item, Result};
-use memory_table::{KeyAttribute, KeyKind, KeySchema};
 use serde::{Deserialize, Serialize};
 use std::alloc::{AllocError, Global};
-use typed_table::{AsItem, Keyed};
+use table_memory::{KeyAttribute, KeyKind, KeySchema};
+use table_typed::{AsItem, Keyed};
 
 #[derive(Drop, PartialEq, Serialize, Deserialize)]
 pub enum State {

@@ -3,7 +3,7 @@ use dynamo_place::LocatedError;
 use dynamo_value::{Error, Item, Result};
 use std::alloc::{AllocError, Global};
 use table_keys::KeySchema;
-use typed_table::{AsItem, Keyed};
+use table_typed::{AsItem, Keyed};
 
 /// An item of any form that is put, or a value of the type that is read from one.
 #[derive(Drop)]

@@ -3,12 +3,12 @@ ghost use Rattle.std.specs.Prelude.{[], ◌∷◌, codes, refl};
 ghost use Rattle.dynamo_record.specs.Records.{record_of, record_tells, record_reads, about_record};
 
 use dynamo_record::{Field, FieldList, Record, read_record, record_conforms, write_record};
-use memory_table::{KeyAttribute, KeyKind, KeySchema};
 use serde_dynamo::Shaped;
 use serde_dynamo::de::{Deserialize, Deserializer, Error};
 use serde_dynamo::ser::{Serialize, Serializer};
 use std::alloc::{AllocError, Global};
-use typed_table::Keyed;
+use table_memory::{KeyAttribute, KeyKind, KeySchema};
+use table_typed::Keyed;
 
 #[derive(Debug, Drop, PartialEq, Eq)]
 pub struct Guest {

@@ -8,8 +8,8 @@ use std::process::Abort;
 use std::test::Fail;
 use table_keys::{Condition, Query, TableError};
 use table_store::StoreError;
-use typed_store::{TypedStore, TypedStoreError};
-use typed_table::{AsItem, Keyed};
+use table_typed::{AsItem, Keyed};
+use table_typed_store::{TypedStore, TypedStoreError};
 
 // A table in a database that keeps its rows in one list.
 fn listed<T: AsItem + Keyed>(alloc: Global) -> anyhow::Result<TypedStore<T, MemStore>> {

@@ -2,11 +2,11 @@
 use crate::booking::{Booking, State};
 use crate::guest::Guest;
 use crate::texts::{bookings, guests, passes};
-use memory_table::{Condition, Query, TableError};
 use std::alloc::Global;
 use std::process::Abort;
 use std::test::Fail;
-use typed_table::{AsItem, TypedTable, TypedTableError};
+use table_memory::{Condition, Query, TableError};
+use table_typed::{AsItem, TypedTable, TypedTableError};
 
 // What a service does with its guests. It has no error type of its own.
 fn serve(rt: &impl Abort, alloc: Global) -> anyhow::Result<()> {

@@ -13,8 +13,8 @@ use std::fmt::Display;
 use std::process::Abort;
 use std::test::Fail;
 use table_keys::{Key, Query};
-use typed_store::TypedStore;
-use typed_table::{AsItem, Keyed, TypedTable, place_of_error};
+use table_typed::{AsItem, Keyed, TypedTable, place_of_error};
+use table_typed_store::TypedStore;
 
 // The table of a type in memory that has these items.
 fn table_of<T: AsItem + Keyed>(

@@ -13,8 +13,8 @@ use std::alloc::{AllocError, Global};
 use std::process::Abort;
 use std::test::Fail;
 use table_keys::{Condition, Key, KeyAttribute, KeyKind, KeySchema, KeyValue, Query, SortCondition};
-use typed_store::TypedStore;
-use typed_table::TypedTable;
+use table_typed::TypedTable;
+use table_typed_store::TypedStore;
 
 mod room {
     use dynamo_record::{
@@ -25,7 +25,7 @@ mod room {
     use serde_dynamo::{Shaped, StringSet};
     use std::alloc::{AllocError, Global};
     use table_keys::KeySchema;
-    use typed_table::Keyed;
+    use table_typed::Keyed;
 
     /// A room of a hotel.
     #[derive(Debug, Drop)]
@@ -131,7 +131,7 @@ mod booking {
     use serde::{Deserialize, Serialize};
     use std::alloc::{AllocError, Global};
     use table_keys::KeySchema;
-    use typed_table::{AsItem, Keyed};
+    use table_typed::{AsItem, Keyed};
 
     /// A booking of a room of a hotel.
     #[derive(Drop, Serialize, Deserialize)]

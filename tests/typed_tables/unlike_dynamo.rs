@@ -1,14 +1,14 @@
 //! What DynamoDB refuses, and typed tables take.
 use crate::texts::passes;
 use dynamo_value::{AttributeValue, Item, Result};
-use memory_table::{KeySchema, KeyValue, Query, SortCondition, TableError};
 use serde::{Deserialize, Serialize};
 use sqlite::{Connection, MemStore};
 use std::alloc::{AllocError, Global};
 use std::process::Abort;
 use std::test::Fail;
-use typed_store::TypedStore;
-use typed_table::{AsItem, Keyed, TypedTable};
+use table_memory::{KeySchema, KeyValue, Query, SortCondition, TableError};
+use table_typed::{AsItem, Keyed, TypedTable};
+use table_typed_store::TypedStore;
 
 // Any attribute value, under a key of two strings.
 #[derive(Drop, PartialEq, Serialize, Deserialize)]

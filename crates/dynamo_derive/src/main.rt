@@ -3,8 +3,8 @@
 //! `rt fmt`.
 #![tactic(auto)]
 
-use declarations::{Failure, read_declarations, read_module};
-use impl_printer::{ModulePath, file_of, impls_of};
+use derive_declarations::{Failure, read_declarations, read_module};
+use derive_impls::{ModulePath, file_of, impls_of};
 use std::alloc::Global;
 use std::process::ExitCode;
 use std::{env, io};

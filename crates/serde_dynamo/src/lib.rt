@@ -308,15 +308,16 @@
 //!
 //! # Tables
 //!
-//! The crate `typed_table` has tables in memory of values of one type, for a service and its tests.
-//! `typed_store` keeps the same in a database file. The key is one attribute of the item, or two.
+//! The crate `table_typed` has tables in memory of values of one type, for a service and its tests.
+//! `table_typed_store` keeps the same in a database file. The key is one attribute of the item, or
+//! two.
 //!
 //! ```rust
 //! use serde::{Deserialize, Serialize};
 //! use serde_dynamo::{Item, Result};
 //! use std::alloc::{AllocError, Global};
-//! use memory_table::{KeyAttribute, KeyKind, KeySchema};
-//! use typed_table::{AsItem, Keyed, TypedTable};
+//! use table_memory::{KeyAttribute, KeyKind, KeySchema};
+//! use table_typed::{AsItem, Keyed, TypedTable};
 //!
 //! #[derive(Drop, Serialize, Deserialize)]
 //! struct Room {

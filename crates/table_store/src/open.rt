@@ -77,7 +77,7 @@ fn connect_in_memory(alloc: Global) -> Result<Connection<FileStore<Memory>>, Sto
 /// Returns an empty table in a database in memory that keeps its rows in one list.
 ///
 /// A put that replaces an item, an update and a delete visit all rows of the database. Prefer
-/// [`create_in_memory_file`], or `memory_table` if no database is needed.
+/// [`create_in_memory_file`], or `table_memory` if no database is needed.
 ///
 /// # Errors
 ///

@@ -1,8 +1,8 @@
 // An order is written and read.
-use derived_types::known::Any;
-use derived_types::{Order, known, known_read};
 use dynamo_serde::{from_attribute_value, from_items, to_attribute_value, to_item};
 use dynamo_value::{AttributeValue, Items};
+use example_derived::known::Any;
+use example_derived::{Order, known, known_read};
 use serde_dynamo::DynamoJson;
 use serde_json::Value;
 use std::alloc::Global;

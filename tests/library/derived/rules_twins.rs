@@ -1,8 +1,8 @@
 // Derived twins of described types whose fields have other names, and whose unknown fields are errors.
 use crate::derived::random::Random;
 use crate::derived::twins::{alike, reads_as_twin};
-use described_types as own;
 use dynamo_value::Result;
+use example_described as own;
 use serde::{Deserialize, Serialize};
 use std::alloc::Global;
 use std::test::Fail;

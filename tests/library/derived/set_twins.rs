@@ -2,8 +2,8 @@
 // strings as lists, since that is what the module `binary_set` of `dynamo_serde` takes.
 use crate::derived::random::Random;
 use crate::derived::twins::reads_as_twin;
-use described_types as own;
 use dynamo_value::{ByteBuf, Result};
+use example_described as own;
 use serde::{Deserialize, Serialize};
 use std::alloc::Global;
 use std::collections::{BTreeSet, HashSet};

@@ -116,14 +116,14 @@ fn sets_pair(alloc: Global, random: &mut Random) -> Result<(Sets, samples::Sets)
     }, own))
 }
 
-fn station_pair(alloc: Global, random: &mut Random) -> Result<(Station, described_types::Station)> {
+fn station_pair(alloc: Global, random: &mut Random) -> Result<(Station, example_described::Station)> {
     let (id, tags) = (random.text(alloc)?, random.texts(alloc)?);
     let reading = if random.count() == 0 {
         None
     } else {
         Some(random.byte())
     };
-    let own = described_types::Station {
+    let own = example_described::Station {
         id: id.clone()?,
         reading,
         tags: tags.clone()?,
@@ -230,7 +230,7 @@ fn refusals_are_alike(rt: HostRuntime) -> std::result::Result<(), Fail> {
         r#"{"M":{"names":{"SS":[]},"numbers":{"NS":["x"]},"blobs":{"BS":[]}}}"#,
         r#"{"M":{"names":{"SS":[]},"numbers":{"N":"1"},"blobs":{"BS":[]}}}"#,
     ])?;
-    alike::<Station, described_types::Station>(&rt, alloc, &[
+    alike::<Station, example_described::Station>(&rt, alloc, &[
         r#"{"M":{"id":{"S":"a"},"tags":{"SS":["b"]}}}"#,
         r#"{"M":{"id":{"S":"a"},"reading":{"NULL":true},"tags":{"L":[]}}}"#,
         r#"{"M":{"id":{"S":"a"},"reading":{"NULL":false},"tags":{"L":[]}}}"#,

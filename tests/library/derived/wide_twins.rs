@@ -1,8 +1,8 @@
-// The derived twin of the wide type of `described_types`.
+// The derived twin of the wide type of `example_described`.
 use crate::derived::random::Random;
 use crate::derived::twins::reads_as_twin;
-use described_types as own;
 use dynamo_value::Result;
+use example_described as own;
 use serde::{Deserialize, Serialize};
 use std::alloc::Global;
 use std::test::Fail;

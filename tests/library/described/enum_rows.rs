@@ -1,6 +1,6 @@
 // Enums, keys of maps, newtypes and unit structs: what is written of them, and what reads as them.
 use super::rows::{reads, rereads};
-use described_types::{Address, Code, Lots, Parcel, Sealed, Shelf, Shipment, Side, Weight};
+use example_described::{Address, Code, Lots, Parcel, Sealed, Shelf, Shipment, Side, Weight};
 use std::collections::{BTreeMap, HashMap};
 use std::test::Fail;
 

@@ -1,6 +1,6 @@
 // Fields that are left out if they hold their default: what is written of them, and what reads as them.
 use super::rows::{reads, rereads};
-use described_types::{Notice, Ticket};
+use example_described::{Notice, Ticket};
 use std::alloc::Global;
 use std::collections::{BTreeMap, HashMap};
 use std::test::Fail;

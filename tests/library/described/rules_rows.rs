@@ -1,6 +1,6 @@
 // A struct whose fields have other names, and whose unknown fields are errors: what is written of it, and what reads as it.
 use super::rows::{reads, rereads};
-use described_types::Contact;
+use example_described::Contact;
 use std::alloc::Global;
 use std::test::Fail;
 

@@ -1,6 +1,6 @@
 // Sets of Rust in described types: what is written of them, and what reads as them.
 use super::rows::{reads, rereads};
-use described_types::Roster;
+use example_described::Roster;
 use serde_dynamo::ByteBuf;
 use std::alloc::Global;
 use std::collections::{BTreeSet, HashSet};

@@ -1,6 +1,6 @@
 // Structs of several fields: what is written of them, and what reads as them.
 use super::rows::{reads, rereads};
-use described_types::{Address, Order, Page, Reading, Sensor, Settings, Station};
+use example_described::{Address, Order, Page, Reading, Sensor, Settings, Station};
 use std::collections::HashMap;
 use std::test::Fail;
 

@@ -1,6 +1,6 @@
 // An internally tagged enum: what is written of each variant, and what reads as them.
 use super::rows::{reads, rereads};
-use described_types::{Customer, Entity};
+use example_described::{Customer, Entity};
 use std::alloc::Global;
 use std::test::Fail;
 

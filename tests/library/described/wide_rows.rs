@@ -1,6 +1,6 @@
 // A struct of many fields: what is written of it, and what reads as it.
 use super::rows::{reads, rereads};
-use described_types::Wide40;
+use example_described::Wide40;
 use std::test::Fail;
 
 const JSON_40: &str =

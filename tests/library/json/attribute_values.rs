@@ -4,6 +4,7 @@ use crate::fixtures::answers::{item, prints, shows, tells};
 use crate::fixtures::rows::{Row, counted};
 use crate::fixtures::writes::writes;
 use crate::fixtures::{notation, show};
+use example_types::own_types::{both_item_json, both_json, item_json_and_back, json_and_back};
 use serde_dynamo::{
     AttributeValue, DynamoJson, Item, from_attribute_value, from_item, to_attribute_value, to_item,
 };
@@ -11,7 +12,6 @@ use std::alloc::{AllocError, Global};
 use std::collections::HashMap;
 use std::process::Abort;
 use std::test::Fail;
-use user_types::own_types::{both_item_json, both_json, item_json_and_back, json_and_back};
 
 // Attribute values, what is written of each as a value of a program, and after ` | ` its DynamoDB JSON.
 const WRITTEN: &str = r#"  Null(false) = M {"NULL": Bool(false)} | {"NULL":false}

@@ -2,11 +2,11 @@
 use crate::fixtures::answers::{fault, is, tells};
 use crate::fixtures::notation;
 use crate::fixtures::rows::counted;
+use example_types::own_types::json_value_and_back;
 use serde_dynamo::{Result, from_attribute_value, is_without_floats};
 use serde_json::Value;
 use std::alloc::Global;
 use std::test::Fail;
-use user_types::own_types::json_value_and_back;
 
 // Attribute values, and the compact JSON text of what a JSON value reads of each, or the fault.
 const READ: &str = r#"  N "+5" = 5

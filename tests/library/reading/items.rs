@@ -1,6 +1,9 @@
 //! Items and lists of items are read as maps and lists of maps, at a type and at its shape.
 use crate::fixtures::answers::{answers, item, items};
 use crate::fixtures::notation;
+use example_types::at_shapes::{item_at_shape, items_at_shape, value_at_shape};
+use example_types::forms::Point;
+use example_types::station::Station;
 use serde_dynamo::de::Deserialize;
 use serde_dynamo::samples::User;
 use serde_dynamo::{Item, Items, from_item, from_item_ref, from_items, to_item};
@@ -8,9 +11,6 @@ use std::alloc::Global;
 use std::fmt::Debug;
 use std::process::Abort;
 use std::test::Fail;
-use user_types::at_shapes::{item_at_shape, items_at_shape, value_at_shape};
-use user_types::forms::Point;
-use user_types::station::Station;
 
 // Both calls that read an item answer so, the one that is lent it twice. The item that is lent stays as it is.
 fn reads<T: Deserialize + Debug>(

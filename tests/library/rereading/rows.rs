@@ -3,13 +3,13 @@ use crate::fixtures::answers::{answers, is, shows};
 use crate::fixtures::at_type::Way;
 use crate::fixtures::notation;
 use crate::fixtures::types::holds;
+use example_types::at_shapes::read_twice;
 use serde_dynamo::{Shaped, reread};
 use std::alloc::Global;
 use std::collections::HashMap;
 use std::fmt::Debug;
 use std::process::Abort;
 use std::test::Fail;
-use user_types::at_shapes::read_twice;
 
 const LIBRARY: &str = r#"u128
   340282366920938463463374607431768211455 = N "340282366920938463463374607431768211455" | {"N":"340282366920938463463374607431768211455"}

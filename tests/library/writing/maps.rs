@@ -1,6 +1,8 @@
 //! Maps write as maps, whose keys have to be texts.
 use crate::fixtures::refuses::Refuses;
 use crate::fixtures::writes::writes;
+use example_types::forms::UnitStruct;
+use example_types::kinds::{Empty, EmptyMap, Pair};
 use serde_dynamo::samples::Event;
 use serde_dynamo::ser::Serialize;
 use serde_dynamo::{ByteBuf, NumberSet};
@@ -9,8 +11,6 @@ use std::collections::{BTreeMap, HashMap};
 use std::hash::Hash;
 use std::process::Abort;
 use std::test::Fail;
-use user_types::forms::UnitStruct;
-use user_types::kinds::{Empty, EmptyMap, Pair};
 
 // A map of this key alone, to the number 1, answers this.
 fn key_writes<K: Serialize + Eq + Hash + Drop>(

@@ -2,13 +2,13 @@
 use crate::fixtures::answers::is;
 use crate::fixtures::refuses::Refuses;
 use crate::fixtures::writes::{writes, writes_directly};
+use example_types::forms::UnitStruct;
+use example_types::kinds::{Pair, Twice};
+use example_types::tree::Tree;
 use serde_dynamo::samples::Event;
 use serde_dynamo::{Bytes, Item, Text, to_item};
 use std::alloc::Global;
 use std::test::Fail;
-use user_types::forms::UnitStruct;
-use user_types::kinds::{Pair, Twice};
-use user_types::tree::Tree;
 
 #[test]
 fn what_is_lent_writes_as_itself(rt: HostRuntime) -> Result<(), Fail> {

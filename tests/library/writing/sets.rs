@@ -4,6 +4,7 @@ use crate::fixtures::refuses::Refuses;
 use crate::fixtures::rows::{Row, counted};
 use crate::fixtures::writes::writes_directly;
 use crate::fixtures::{notation, show};
+use example_types::forms::Name;
 use serde_dynamo::de::Deserialize;
 use serde_dynamo::ser::Serialize;
 use serde_dynamo::{
@@ -13,7 +14,6 @@ use serde_dynamo::{
 use std::alloc::Global;
 use std::fmt::Debug;
 use std::test::Fail;
-use user_types::forms::Name;
 
 // What a test answers.
 type Checked<T> = std::result::Result<T, Fail>;

@@ -1,6 +1,6 @@
 //! An order that derives serde's traits, with a field of each kind, and one fault each.
 use super::derived_rows::holds;
-use derived_types::Order;
+use example_derived::Order;
 use std::test::Fail;
 
 // An order that reads.

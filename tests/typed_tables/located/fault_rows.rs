@@ -1,7 +1,7 @@
 //! Each kind of fault that reading has, with its place.
 use super::checks::ValueFirst;
 use super::readers::holds;
-use described_types::{Order, Page, Parcel, Settings, Shipment};
+use example_described::{Order, Page, Parcel, Settings, Shipment};
 use serde_dynamo::ByteBuf;
 use serde_dynamo::de::IgnoredAny;
 use std::collections::BTreeMap;

@@ -1,8 +1,8 @@
 //! Lists of items with one fault each: its place begins with the index of the item.
 use super::readers::fits;
-use described_types::Station;
 use dynamo_json::DynamoJson;
 use dynamo_value::{Item, Items};
+use example_described::Station;
 use serde_dynamo::de::Deserialize;
 use serde_dynamo::{from_items, from_items_located};
 use std::alloc::Global;

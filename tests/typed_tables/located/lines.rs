@@ -1,5 +1,5 @@
 //! Lines of exports and request files with one fault each, and what is said of it.
-use described_types::Order;
+use example_described::Order;
 use exports::{Groups, Lines, next_value, requests_in_file, value_of};
 use std::alloc::{AllocError, Global};
 use std::io::{self, BufRead, BufReader, Read};

@@ -1,6 +1,6 @@
 //! Values and items with one fault each, and the place that is said of it, by both readers.
 use super::readers::{holds, holds_of};
-use described_types::{Lots, Order, Page, Shelf, Shipment, Station};
+use example_described::{Lots, Order, Page, Shelf, Shipment, Station};
 use serde_dynamo::de::IgnoredAny;
 use std::collections::BTreeMap;
 use std::test::Fail;

@@ -1,6 +1,6 @@
 //! Sets of described types with one fault each, and the place that is said of it.
 use super::readers::{holds, holds_of};
-use described_types::{Roster, Sensor};
+use example_described::{Roster, Sensor};
 use std::collections::{BTreeSet, HashSet};
 use std::test::Fail;
 

@@ -1,6 +1,6 @@
 //! Values of an internally tagged enum with one fault each, and the place that is said of it.
 use super::readers::holds;
-use described_types::Entity;
+use example_described::Entity;
 use std::test::Fail;
 
 const UNKNOWN: &str =

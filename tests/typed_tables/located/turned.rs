@@ -4,9 +4,9 @@ use super::turned_texts::{
     order, page_of_entities, page_of_lots, page_of_orders, page_of_shipments, roster,
 };
 use super::turning::{Told, Turned, first_wrong, none_wrong, told_place};
-use described_types::{Entity, Lots, Order, Page, Roster, Shipment};
 use dynamo_place::{from_item_located, from_item_ref_located, from_items_located, read_located};
 use dynamo_value::{AttributeValue, Items};
+use example_described::{Entity, Lots, Order, Page, Roster, Shipment};
 use serde_dynamo::Deserializer;
 use serde_dynamo::de::Deserialize;
 use std::alloc::Global;

@@ -1,12 +1,12 @@
 //! Values of several kinds of types with one fault each, and the place that is said of it.
 use super::readers::holds;
-use described_types::{Contact, Parcel, Reading, Settings};
+use example_described::{Contact, Parcel, Reading, Settings};
+use example_types::by_hand::Gauge;
+use example_types::forms::{Count, Name, Point};
+use example_types::tree::Tree;
 use serde_dynamo::ByteBuf;
 use std::collections::BTreeMap;
 use std::test::Fail;
-use user_types::by_hand::Gauge;
-use user_types::forms::{Count, Name, Point};
-use user_types::tree::Tree;
 
 #[test]
 fn a_struct_with_a_visitor_by_hand(rt: HostRuntime) -> Result<(), Fail> {

@@ -1,7 +1,0 @@
-use Rattle.std.proofs.Common.{◌≡◌, ◌++◌, string_bytes}
-use Rattle.std.specs.Str.Iter.{chars_rest}
-use Rattle.declarations.specs.Renamed.{kebab}
-use Rattle.declarations.proofs.rename.kebab.Given as goal
-
-abbrev pub invariant-loop-c : goal.invariant-loop-c
-invariant-loop-c l = string_bytes l.name ++ kebab (chars_rest l.c-iterator) ≡ kebab l.fn.snake

@@ -1,5 +1,0 @@
-use Rattle.std.proofs.Common.{length}
-use Rattle.impl_printer.proofs.branch.+branches.Given as goal
-
-abbrev pub decreases-branches : goal.decreases-branches
-decreases-branches g l = length l.leaves.now

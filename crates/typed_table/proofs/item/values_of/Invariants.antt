@@ -1,7 +1,0 @@
-use Rattle.std.proofs.Common.{take}
-use Rattle.table_keys.specs.Queries.{seen}
-use Rattle.typed_table.specs.Stored.{ReadEach}
-use Rattle.typed_table.proofs.item.values_of.Given as goal
-
-abbrev pub invariant-loop-item : goal.invariant-loop-item
-invariant-loop-item g l = ReadEach g.T.AsItem.reads_item (seen (take l.item-index l.found)) l.values.items
