@@ -9,9 +9,9 @@ use Rattle.dynamo_value.specs.Item.{map_of}
 use Rattle.dynamo_value.specs.View.{view, members_view}
 use Rattle.dynamo_value.specs.declared.item.Item.{Item}
 use Rattle.dynamo_value.proofs.Members.{found_at}
-use Rattle.serde_dynamo.specs.Samples.{user_datum}
-use Rattle.serde_dynamo.specs.Written.{item_written}
+use Rattle.dynamo_write.specs.Written.{item_written}
 use Rattle.tool_commands.specs.Lines.{field_line, line_at, user_lines}
+use Rattle.tool_commands.specs.User.{user_datum}
 
 abbrev user_entries : List ℕ → List ℕ → ℕ → List (List ℕ × Av)
 user_entries id name age = (codes "age", av.N (decimal age)) ∷ (codes "id", av.S id) ∷ (codes "name", av.S name) ∷ []

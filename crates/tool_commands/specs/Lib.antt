@@ -9,4 +9,5 @@ pub mod Printed
 pub mod Reading
 pub mod Runs
 pub mod StoredValue
+pub mod User
 pub mod Words

@@ -1,7 +1,8 @@
 ghost use Rattle.std.specs.Prelude.{◌≡◌};
 ghost use Rattle.tool_commands.specs.Failed.{no_memory, reason, reason_text};
 
-use serde_dynamo::{Error, ErrorImpl, TextError};
+use dynamo_json::TextError;
+use dynamo_value::{Error, ErrorImpl};
 use std::alloc::{AllocError, AllocFailed};
 use std::fmt;
 

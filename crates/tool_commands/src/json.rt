@@ -14,7 +14,8 @@ ghost use Rattle.tool_commands.specs.Reading.{Reads, calls};
 use crate::failure::Failure;
 use crate::input::Input;
 use crate::read_to_end::read_to_end;
-use serde_dynamo::{AttributeValue, DynamoJson};
+use dynamo_json::DynamoJson;
+use dynamo_value::AttributeValue;
 use serde_json::Value;
 use std::alloc::{AllocError, Global};
 
@@ -61,8 +62,8 @@ pub fn json_line(alloc: Global, json: &Value) -> Result<String, AllocError>
 ///
 /// # Errors
 ///
-/// Returns [`ErrorImpl::OutOfMemory`](serde_dynamo::ErrorImpl::OutOfMemory) if memory runs out.
-pub fn dynamo_line(alloc: Global, value: &AttributeValue) -> serde_dynamo::Result<String>
+/// Returns [`ErrorImpl::OutOfMemory`](dynamo_value::ErrorImpl::OutOfMemory) if memory runs out.
+pub fn dynamo_line(alloc: Global, value: &AttributeValue) -> dynamo_value::Result<String>
     ensures { MatchResult result
         (λ line. string_bytes line ≡ text.json_line (json_of (av.view value.now)))
         (λ e. fault_of e ≡ out_of_memory) }

@@ -9,7 +9,8 @@ ghost use Rattle.tool_commands.specs.StoredValue.{Stands};
 use crate::failure::Failure;
 use crate::input::Input;
 use crate::read_to_end::read_to_end;
-use serde_dynamo::{AttributeValue, DynamoJson};
+use dynamo_json::DynamoJson;
+use dynamo_value::AttributeValue;
 use std::alloc::Global;
 use std::str;
 

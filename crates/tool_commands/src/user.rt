@@ -6,12 +6,34 @@ ghost use Rattle.dynamo_value.specs.View.{view};
 ghost use Rattle.tool_commands.specs.Failed.{reason};
 ghost use Rattle.tool_commands.specs.Lines.{line_at};
 ghost use Rattle.tool_commands.specs.Runs.{AnswersUser};
+ghost use Rattle.tool_commands.specs.User.{user_told};
 
 use crate::failure::Failure;
-use serde_dynamo::samples::User;
-use serde_dynamo::{AttributeValue, Item, to_item};
+use dynamo_ser::{Serialize, SerializeStruct, Serializer};
+use dynamo_value::{AttributeValue, Item};
+use dynamo_write::to_item;
 use std::alloc::{AllocError, Global};
 use std::fmt::Write;
+
+/// A user of some service.
+#[derive(Drop)]
+struct User {
+    id: String,
+    name: String,
+    age: u8,
+}
+
+impl Serialize for User {
+    ghost tells = { user_told };
+
+    fn serialize<S: Serializer>(&self, serializer: S) -> Result<S::Ok, S::Error> {
+        let mut state = serializer.serialize_struct("User", 3)?;
+        state.serialize_field("id", &self.id)?;
+        state.serialize_field("name", &self.name)?;
+        state.serialize_field("age", &self.age)?;
+        state.end()
+    }
+}
 
 /// Returns the lines of a user's item, in the order of the names of its fields.
 ///
