@@ -65,6 +65,6 @@ fn main(rt: HostRuntime) -> io::Result<()> {
     let seed = words.next().and_then(|word| word.parse::<u64>().ok());
     match (rounds, seed) {
         (Some(rounds), Some(seed)) => print(&rt, job.as_str(), rounds, seed),
-        _ => println!(rt; "usage: example_jobs [JOB ROUNDS SEED]"),
+        _ => println!(rt; "usage: speed_jobs [JOB ROUNDS SEED]"),
     }
 }
