@@ -160,12 +160,6 @@ word_other c rest h = ⊎_elim
     ∙ ap (λ d. encode_utf8 d ++ flat_map worded rest) (sym (lower_wide c m)))
     (ascii_or_wide c)
 
-pub pascal_mark : (begins : Bool) (c : ℕ) (rest : List ℕ) → c ≡ 95
-    → pascal_from begins (encode_utf8 c ++ rest) ≡ pascal_from true rest
-pascal_mark begins c rest h =
-    ap (λ d. pascal_from begins (encode_utf8 d ++ rest)) h
-    ∙ ap (λ xs. pascal_from begins (xs ++ rest)) (encode_ascii 95 (omega arith))
-
 pub pascal_char : (begins : Bool) (c : ℕ) (rest : List ℕ) → c ≢ 95
     → pascal_from begins (encode_utf8 c ++ rest) ≡ encode_utf8 (if begins then upper c else c) ++ pascal_from false rest
 pascal_char begins c rest h = ⊎_elim

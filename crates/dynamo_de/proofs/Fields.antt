@@ -1,14 +1,13 @@
 -- The fields of a struct, one after another: lemmas for types that are read by hand.
-use Rattle.std.proofs.Common.{◌≡◌, ◌⊎◌, ℕ, List, [], ◌∷◌, map, Option, Some, None, Result, Ok, Err, length, ◌<◌, ap, sym, subst, inl, inr, arith, ◌∙◌}
+use Rattle.std.proofs.Common.{◌≡◌, ◌⊎◌, ℕ, List, [], ◌∷◌, Option, Some, None, Result, Ok, Err, length, ◌<◌, ap, sym, subst, inl, inr, arith, ◌∙◌}
 use Rattle.dynamo_value.specs.Av.{Av}
 use Rattle.dynamo_value.specs.Fault.{Fault, out_of_memory}
 use Rattle.dynamo_de.specs.Access.{NextElement, MapLeft, KeyOf, NextKey, ValueOf, NextValue}
 use Rattle.dynamo_de.specs.Answer as answer
-use Rattle.dynamo_de.specs.Answer.{Answer, After, Is, Gives}
+use Rattle.dynamo_de.specs.Answer.{Answer, After, Gives}
 use Rattle.dynamo_value.specs.Steps.{◌>>=◌}
-use Rattle.dynamo_de.specs.Fields.{NamesOne, read_first, read_fields, read_all, LeadsTo}
+use Rattle.dynamo_de.specs.Fields.{NamesOne, read_first, read_fields, LeadsTo}
 use Rattle.dynamo_de.specs.Meets.{IsMessage}
-use Rattle.dynamo_de.specs.Reads.{ReadsEach}
 use Rattle.dynamo_de.specs.Source.{Source, Entry, attribute}
 use Rattle.dynamo_de.proofs.Meets.{meets_more}
 
@@ -57,19 +56,6 @@ module _ {T A B V E : Type 0} (fault : E → Fault) (seen : T → A) (reads : So
       along : (l : List Source) → NextElement fault (λ s. Gives seen (reads s)) l new (Err e) → (fault e ≡ out_of_memory) ⊎ After (read_first reads l rest) next (Err (fault e))
       along [] a = cc
       along (s ∷ ss) a = elim a.1 [ inl lacks ↦ inl lacks | inr failed ↦ inr (stops seen (reads s) (λ x. rest x ss) next (fault e) failed) ]
-
--- a list of sources
-each_gives : {T A : Type 0} (seen : T → A) (reads : Source → Answer A) (ss : List Source) (r : Result (List T) Fault) → ReadsEach (λ s. Gives seen (reads s)) ss r → Gives (λ vs. map seen vs) (read_all reads ss) r
-each_gives seen reads [] (Ok vs) h = ap (map seen) h
-each_gives seen reads [] (Err f) h = absurd h
-each_gives seen reads (s ∷ ss) (Ok vs) h =
-    goes_on seen (reads s) (λ x. read_all reads ss >>= λ xs. answer.value (x ∷ xs)) (Is (λ vs. map seen vs)) h.0 (Ok vs) h.3
-    (goes_on (λ ws. map seen ws) (read_all reads ss) (λ xs. answer.value (seen h.0 ∷ xs)) (Is (λ vs. map seen vs)) h.1 (Ok vs) (each_gives seen reads ss (Ok h.1) h.4) (ap (map seen) h.2))
-each_gives {T} seen reads (s ∷ ss) (Err f) h = elim h [
-  | inl failed ↦ stops seen (reads s) (λ x. read_all reads ss >>= λ xs. answer.value (x ∷ xs)) (Is (λ (vs : List T). map seen vs)) f failed
-  | inr later ↦ goes_on seen (reads s) (λ x. read_all reads ss >>= λ xs. answer.value (x ∷ xs)) (Is (λ (vs : List T). map seen vs)) later.0 (Err f) later.1
-      (stops (λ (ws : List T). map seen ws) (read_all reads ss) (λ xs. answer.value (seen later.0 ∷ xs)) (Is (λ (vs : List T). map seen vs)) f (each_gives seen reads ss (Err f) later.2))
-]
 
 -- what permits less permits as much, in an access
 pub element_more : {T E : Type 0} (fault : E → Fault) (P Q : Source → Result T Fault → Type 0) → ((s : Source) (r : Result T Fault) → P s r → Q s r) → (left new : List Source) (r : Result (Option T) E) → NextElement fault P left new r → NextElement fault Q left new r

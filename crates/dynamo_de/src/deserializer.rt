@@ -46,6 +46,14 @@ fn offer<R: Reader, V: Visitor>(
     }
 }
 
+/// Asks a reader, and calls the visitor with what it shows.
+fn ask<R: Reader, V: Visitor>(reader: R, request: Request, visitor: V) -> Result<V::Value, R::Error>
+    ensures { Asks R.Error.fault (V.claimed visitor) (V.takes visitor) request (R.source reader)
+        result }
+{
+    offer::<R, V>(reader.show(request)?, visitor)
+}
+
 /// A deserializer, as serde's. Every [`Reader`] is one.
 ///
 /// Each method asks for one kind of data, and calls the visitor with what the source holds. It
@@ -61,7 +69,7 @@ pub trait Deserializer: Reader {
         ensures { Asks Self.Error.fault (V.claimed visitor) (V.takes visitor) request.Any
             (Self.source self) result }
     {
-        offer::<Self, V>(self.show(Request::Any)?, visitor)
+        ask(self, Request::Any, visitor)
     }
 
     /// Asks for a boolean.
@@ -74,7 +82,7 @@ pub trait Deserializer: Reader {
         ensures { Asks Self.Error.fault (V.claimed visitor) (V.takes visitor) request.Bool
             (Self.source self) result }
     {
-        offer::<Self, V>(self.show(Request::Bool)?, visitor)
+        ask(self, Request::Bool, visitor)
     }
 
     /// Asks for an `i8`.
@@ -87,7 +95,7 @@ pub trait Deserializer: Reader {
         ensures { Asks Self.Error.fault (V.claimed visitor) (V.takes visitor)
             (request.Integer types.I8) (Self.source self) result }
     {
-        offer::<Self, V>(self.show(Request::Integer(IntegerKind::I8))?, visitor)
+        ask(self, Request::Integer(IntegerKind::I8), visitor)
     }
 
     /// Asks for an `i16`.
@@ -100,7 +108,7 @@ pub trait Deserializer: Reader {
         ensures { Asks Self.Error.fault (V.claimed visitor) (V.takes visitor)
             (request.Integer types.I16) (Self.source self) result }
     {
-        offer::<Self, V>(self.show(Request::Integer(IntegerKind::I16))?, visitor)
+        ask(self, Request::Integer(IntegerKind::I16), visitor)
     }
 
     /// Asks for an `i32`.
@@ -113,7 +121,7 @@ pub trait Deserializer: Reader {
         ensures { Asks Self.Error.fault (V.claimed visitor) (V.takes visitor)
             (request.Integer types.I32) (Self.source self) result }
     {
-        offer::<Self, V>(self.show(Request::Integer(IntegerKind::I32))?, visitor)
+        ask(self, Request::Integer(IntegerKind::I32), visitor)
     }
 
     /// Asks for an `i64`.
@@ -126,7 +134,7 @@ pub trait Deserializer: Reader {
         ensures { Asks Self.Error.fault (V.claimed visitor) (V.takes visitor)
             (request.Integer types.I64) (Self.source self) result }
     {
-        offer::<Self, V>(self.show(Request::Integer(IntegerKind::I64))?, visitor)
+        ask(self, Request::Integer(IntegerKind::I64), visitor)
     }
 
     /// Asks for an `i128`.
@@ -139,7 +147,7 @@ pub trait Deserializer: Reader {
         ensures { Asks Self.Error.fault (V.claimed visitor) (V.takes visitor)
             (request.Integer types.I128) (Self.source self) result }
     {
-        offer::<Self, V>(self.show(Request::Integer(IntegerKind::I128))?, visitor)
+        ask(self, Request::Integer(IntegerKind::I128), visitor)
     }
 
     /// Asks for a `u8`.
@@ -152,7 +160,7 @@ pub trait Deserializer: Reader {
         ensures { Asks Self.Error.fault (V.claimed visitor) (V.takes visitor)
             (request.Integer types.U8) (Self.source self) result }
     {
-        offer::<Self, V>(self.show(Request::Integer(IntegerKind::U8))?, visitor)
+        ask(self, Request::Integer(IntegerKind::U8), visitor)
     }
 
     /// Asks for a `u16`.
@@ -165,7 +173,7 @@ pub trait Deserializer: Reader {
         ensures { Asks Self.Error.fault (V.claimed visitor) (V.takes visitor)
             (request.Integer types.U16) (Self.source self) result }
     {
-        offer::<Self, V>(self.show(Request::Integer(IntegerKind::U16))?, visitor)
+        ask(self, Request::Integer(IntegerKind::U16), visitor)
     }
 
     /// Asks for a `u32`.
@@ -178,7 +186,7 @@ pub trait Deserializer: Reader {
         ensures { Asks Self.Error.fault (V.claimed visitor) (V.takes visitor)
             (request.Integer types.U32) (Self.source self) result }
     {
-        offer::<Self, V>(self.show(Request::Integer(IntegerKind::U32))?, visitor)
+        ask(self, Request::Integer(IntegerKind::U32), visitor)
     }
 
     /// Asks for a `u64`.
@@ -191,7 +199,7 @@ pub trait Deserializer: Reader {
         ensures { Asks Self.Error.fault (V.claimed visitor) (V.takes visitor)
             (request.Integer types.U64) (Self.source self) result }
     {
-        offer::<Self, V>(self.show(Request::Integer(IntegerKind::U64))?, visitor)
+        ask(self, Request::Integer(IntegerKind::U64), visitor)
     }
 
     /// Asks for a `u128`.
@@ -204,7 +212,7 @@ pub trait Deserializer: Reader {
         ensures { Asks Self.Error.fault (V.claimed visitor) (V.takes visitor)
             (request.Integer types.U128) (Self.source self) result }
     {
-        offer::<Self, V>(self.show(Request::Integer(IntegerKind::U128))?, visitor)
+        ask(self, Request::Integer(IntegerKind::U128), visitor)
     }
 
     /// Asks for a character.
@@ -217,7 +225,7 @@ pub trait Deserializer: Reader {
         ensures { Asks Self.Error.fault (V.claimed visitor) (V.takes visitor) request.Char
             (Self.source self) result }
     {
-        offer::<Self, V>(self.show(Request::Char)?, visitor)
+        ask(self, Request::Char, visitor)
     }
 
     /// Asks for a string.
@@ -230,7 +238,7 @@ pub trait Deserializer: Reader {
         ensures { Asks Self.Error.fault (V.claimed visitor) (V.takes visitor) request.Str
             (Self.source self) result }
     {
-        offer::<Self, V>(self.show(Request::Str)?, visitor)
+        ask(self, Request::Str, visitor)
     }
 
     /// Asks for an owned string.
@@ -243,7 +251,7 @@ pub trait Deserializer: Reader {
         ensures { Asks Self.Error.fault (V.claimed visitor) (V.takes visitor) request.String
             (Self.source self) result }
     {
-        offer::<Self, V>(self.show(Request::String)?, visitor)
+        ask(self, Request::String, visitor)
     }
 
     /// Asks for a byte string.
@@ -256,7 +264,7 @@ pub trait Deserializer: Reader {
         ensures { Asks Self.Error.fault (V.claimed visitor) (V.takes visitor) request.Bytes
             (Self.source self) result }
     {
-        offer::<Self, V>(self.show(Request::Bytes)?, visitor)
+        ask(self, Request::Bytes, visitor)
     }
 
     /// Asks for an owned byte string.
@@ -269,7 +277,7 @@ pub trait Deserializer: Reader {
         ensures { Asks Self.Error.fault (V.claimed visitor) (V.takes visitor) request.ByteBuf
             (Self.source self) result }
     {
-        offer::<Self, V>(self.show(Request::ByteBuf)?, visitor)
+        ask(self, Request::ByteBuf, visitor)
     }
 
     /// Asks for an option.
@@ -282,7 +290,7 @@ pub trait Deserializer: Reader {
         ensures { Asks Self.Error.fault (V.claimed visitor) (V.takes visitor) request.Option
             (Self.source self) result }
     {
-        offer::<Self, V>(self.show(Request::Option)?, visitor)
+        ask(self, Request::Option, visitor)
     }
 
     /// Asks for a unit.
@@ -295,7 +303,7 @@ pub trait Deserializer: Reader {
         ensures { Asks Self.Error.fault (V.claimed visitor) (V.takes visitor) request.Unit
             (Self.source self) result }
     {
-        offer::<Self, V>(self.show(Request::Unit)?, visitor)
+        ask(self, Request::Unit, visitor)
     }
 
     /// Asks for a unit struct. The name isn't used.
@@ -312,7 +320,7 @@ pub trait Deserializer: Reader {
         ensures { Asks Self.Error.fault (V.claimed visitor) (V.takes visitor) request.UnitStruct
             (Self.source self) result }
     {
-        offer::<Self, V>(self.show(Request::UnitStruct)?, visitor)
+        ask(self, Request::UnitStruct, visitor)
     }
 
     /// Asks for a newtype struct. The name isn't used.
@@ -329,7 +337,7 @@ pub trait Deserializer: Reader {
         ensures { Asks Self.Error.fault (V.claimed visitor) (V.takes visitor) request.NewtypeStruct
             (Self.source self) result }
     {
-        offer::<Self, V>(self.show(Request::NewtypeStruct)?, visitor)
+        ask(self, Request::NewtypeStruct, visitor)
     }
 
     /// Asks for a sequence.
@@ -342,7 +350,7 @@ pub trait Deserializer: Reader {
         ensures { Asks Self.Error.fault (V.claimed visitor) (V.takes visitor) request.Seq
             (Self.source self) result }
     {
-        offer::<Self, V>(self.show(Request::Seq)?, visitor)
+        ask(self, Request::Seq, visitor)
     }
 
     /// Asks for a tuple. The length isn't used.
@@ -359,7 +367,7 @@ pub trait Deserializer: Reader {
         ensures { Asks Self.Error.fault (V.claimed visitor) (V.takes visitor) request.Tuple
             (Self.source self) result }
     {
-        offer::<Self, V>(self.show(Request::Tuple)?, visitor)
+        ask(self, Request::Tuple, visitor)
     }
 
     /// Asks for a tuple struct. The name and the length aren't used.
@@ -377,7 +385,7 @@ pub trait Deserializer: Reader {
         ensures { Asks Self.Error.fault (V.claimed visitor) (V.takes visitor) request.TupleStruct
             (Self.source self) result }
     {
-        offer::<Self, V>(self.show(Request::TupleStruct)?, visitor)
+        ask(self, Request::TupleStruct, visitor)
     }
 
     /// Asks for a map.
@@ -390,7 +398,7 @@ pub trait Deserializer: Reader {
         ensures { Asks Self.Error.fault (V.claimed visitor) (V.takes visitor) request.Map
             (Self.source self) result }
     {
-        offer::<Self, V>(self.show(Request::Map)?, visitor)
+        ask(self, Request::Map, visitor)
     }
 
     /// Asks for a struct. The names aren't used.
@@ -408,7 +416,7 @@ pub trait Deserializer: Reader {
         ensures { Asks Self.Error.fault (V.claimed visitor) (V.takes visitor) request.Struct
             (Self.source self) result }
     {
-        offer::<Self, V>(self.show(Request::Struct)?, visitor)
+        ask(self, Request::Struct, visitor)
     }
 
     /// Asks for an enum. The names aren't used.
@@ -426,7 +434,7 @@ pub trait Deserializer: Reader {
         ensures { Asks Self.Error.fault (V.claimed visitor) (V.takes visitor) request.Enum
             (Self.source self) result }
     {
-        offer::<Self, V>(self.show(Request::Enum)?, visitor)
+        ask(self, Request::Enum, visitor)
     }
 
     /// Asks for the name of a field or a variant.
@@ -439,7 +447,7 @@ pub trait Deserializer: Reader {
         ensures { Asks Self.Error.fault (V.claimed visitor) (V.takes visitor) request.Identifier
             (Self.source self) result }
     {
-        offer::<Self, V>(self.show(Request::Identifier)?, visitor)
+        ask(self, Request::Identifier, visitor)
     }
 
     /// Asks for whatever the source holds, to drop it.
@@ -452,7 +460,7 @@ pub trait Deserializer: Reader {
         ensures { Asks Self.Error.fault (V.claimed visitor) (V.takes visitor) request.IgnoredAny
             (Self.source self) result }
     {
-        offer::<Self, V>(self.show(Request::IgnoredAny)?, visitor)
+        ask(self, Request::IgnoredAny, visitor)
     }
 }
 

@@ -1,33 +1,13 @@
-//! Sets that are left out of an item if they are empty. DynamoDB has no empty set.
+//! References to sets that are left out of an item if they are empty. DynamoDB has no empty set.
 ghost use Rattle.std.specs.Prelude.{◌∷◌};
 ghost use Rattle.dynamo_ser.specs.Datum as datum;
 ghost use Rattle.dynamo_ser.specs.Symbols.{symbol, strings, numbers, blobs};
 ghost use Rattle.dynamo_shape.specs.Absence.{left_out};
-ghost use Rattle.dynamo_record.specs.FieldTypes.{about_set, empty_set, set_permitted};
+ghost use Rattle.dynamo_record.specs.FieldTypes.{empty_set};
 
 use crate::names::first_of;
-use crate::{
-    FieldType, InBinarySet, InNumberSet, InStringSet, Omitted, OmittedRef, RefList, SetValue,
-    Shaped,
-};
-use dynamo_de::Error;
+use crate::{OmittedRef, RefList, SetValue};
 use dynamo_ser::{BinarySet, ListBuilder, NumberSet, Serializer, StringSet, StructBuilder};
-use std::alloc::Global;
-
-impl<T: Shaped> FieldType for Omitted<InStringSet<T>> {
-    type Value = Vec<T>;
-
-    ghost about = { about_set strings T.about };
-
-    ghost default = { left_out (empty_set strings) };
-
-    ghost reads_by_shape = { set_permitted strings T.about.shape T.about.tells T.reads
-        T.reads_by_shape };
-
-    fn absent<E: Error>(alloc: Global) -> Result<Option<Vec<T>>, E> {
-        Ok(Some(Vec::new(alloc)))
-    }
-}
 
 impl<'a, M: SetValue> RefList for OmittedRef<StringSet<&'a M>> {
     ghost shapes = { λ ss. (M.about_set strings).shape ∷ ss };
@@ -61,21 +41,6 @@ impl<'a, M: SetValue> RefList for OmittedRef<StringSet<&'a M>> {
     }
 }
 
-impl<T: Shaped> FieldType for Omitted<InNumberSet<T>> {
-    type Value = Vec<T>;
-
-    ghost about = { about_set numbers T.about };
-
-    ghost default = { left_out (empty_set numbers) };
-
-    ghost reads_by_shape = { set_permitted numbers T.about.shape T.about.tells T.reads
-        T.reads_by_shape };
-
-    fn absent<E: Error>(alloc: Global) -> Result<Option<Vec<T>>, E> {
-        Ok(Some(Vec::new(alloc)))
-    }
-}
-
 impl<'a, M: SetValue> RefList for OmittedRef<NumberSet<&'a M>> {
     ghost shapes = { λ ss. (M.about_set numbers).shape ∷ ss };
 
@@ -105,21 +70,6 @@ impl<'a, M: SetValue> RefList for OmittedRef<NumberSet<&'a M>> {
 
     fn conform(&self) {
         self.0.0.conforms();
-    }
-}
-
-impl<T: Shaped> FieldType for Omitted<InBinarySet<T>> {
-    type Value = Vec<T>;
-
-    ghost about = { about_set blobs T.about };
-
-    ghost default = { left_out (empty_set blobs) };
-
-    ghost reads_by_shape = { set_permitted blobs T.about.shape T.about.tells T.reads
-        T.reads_by_shape };
-
-    fn absent<E: Error>(alloc: Global) -> Result<Option<Vec<T>>, E> {
-        Ok(Some(Vec::new(alloc)))
     }
 }
 

@@ -63,13 +63,6 @@ put_other l e (pair k d ps) x z n h = elim (same_key l k) as (λ c. same_key l k
   | false ↦ λ q. elim h [ inl a ↦ inl a | inr b ↦ inr (put_other l e ps x z n b) ]
 ] refl
 
-pub put_data : (l e : Datum) (ps : Pairs) → IsKeyDatum l → KeyData ps → KeyData (put_pair l e ps)
-put_data l e no_pairs n h = (n, tt)
-put_data l e (pair k d ps) n h = elim (same_key l k) as (λ c. KeyData (cond c (pair k e ps) (pair k d (put_pair l e ps)))) [
-  | true ↦ h
-  | false ↦ (h.0, put_data l e ps n h.1)
-]
-
 -- rs are qs with this pair in the place of its key's
 pub record Replaces (l e : Datum) (qs rs : Pairs) : Type 0 where
   pub here : Has l e rs
