@@ -25,14 +25,15 @@ pub use Rattle.dynamo_json.specs.Plain.{plain_elements, plain_pairs, plain_field
 pub use Rattle.dynamo_json.specs.StoredText.{Prints, behind, stored, stored_members, tokens_within}
 pub use Rattle.dynamo_json.specs.StoredText.{plain_members, plain_number, plain_numbers, tokens_in}
 pub use Rattle.dynamo_json.specs.StoredText.{stored_items}
-pub use Rattle.dynamo_json.specs.Tokens.{Lent, lent_view, tokens_of, shown}
+pub use Rattle.dynamo_json.specs.Tokens.{lent_view, tokens_of}
 pub use Rattle.dynamo_ser.specs.Datum.{Datum, variant}
 pub use Rattle.dynamo_ser.specs.JsonValue.{json_datum, json_elements, json_pairs}
-pub use Rattle.dynamo_value.proofs.Members.{Entry, entries-push, apart, HasAll, same_from_all}
+pub use Rattle.dynamo_value.proofs.Members.{Entry, entries-push, apart}
 pub use Rattle.dynamo_value.proofs.Members.{view_sorted, inserted, copied}
 pub use Rattle.dynamo_value.proofs.Steps.{ok_same, err_ok, bind_ok}
 pub use Rattle.dynamo_value.specs.Av.{Av, members_of, elements_of, element, member, Members}
 pub use Rattle.dynamo_value.specs.Base64.{base64_text, bytes_of_base64, not_base64}
+pub use Rattle.dynamo_value.specs.Entries.{Lent}
 pub use Rattle.dynamo_value.specs.Fault.{Fault, failed_to_parse_float, out_of_memory, message}
 pub use Rattle.dynamo_value.specs.Fault.{key_must_be_a_string}
 pub use Rattle.dynamo_value.specs.HasBytes.{HasBytes, ElementsHaveBytes, MembersHaveBytes}
@@ -66,9 +67,9 @@ pub use Rattle.std.proofs.lemmas.List.{at_drop_more, map-append, drop_all}
 pub use Rattle.std.proofs.lemmas.Result.{err_from_is_err_and}
 pub use Rattle.std.specs.FinMap.Entries.{is_sorted, put, by_order, below_all}
 pub use Rattle.std.specs.Fmt.{decimal, signed_decimal}
-pub use Rattle.std.specs.List.{AllByRecursion, IsDistinct, list_all, list_any, Contains}
+pub use Rattle.std.specs.List.{AllByRecursion, IsDistinct, list_all, list_any}
 pub use Rattle.std.specs.List.Sorted.{IsStrictlySortedBy, IsPermutation}
 pub use Rattle.std.specs.Map.{keys_of}
 pub use Rattle.std.specs.Ordering.{match_ordering, is_eq, ordering_reverse, is_lt}
 pub use Rattle.std.specs.Prelude.{T, codes}
-pub use Rattle.std.specs.String.{string_eq, string_cmp, string_eq_equiv}
+pub use Rattle.std.specs.String.{string_eq, string_cmp}

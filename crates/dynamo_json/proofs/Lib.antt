@@ -10,7 +10,6 @@ pub mod EveryValue
 pub mod Floats
 mod Followed
 mod InText
-mod InTurn
 pub mod JsonBack
 pub mod Messages
 pub mod Objects

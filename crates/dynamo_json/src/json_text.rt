@@ -1,6 +1,6 @@
 //! Writes attribute values as the text of their DynamoDB JSON, without a JSON value in between.
 
-ghost use Rattle.std.specs.Prelude.{◌≡◌, [], ◌++◌, IfOk, OnOk, IsUtf8, MatchResult, length, map};
+ghost use Rattle.std.specs.Prelude.{◌≡◌, [], ◌++◌, OnOk, IsUtf8, MatchResult, length, map};
 ghost use Rattle.std.specs.Prelude.{string_bytes, if◌then◌else◌};
 ghost use Rattle.json.specs.Print.{print};
 ghost use Rattle.serde_json.specs.Written.{compact_text};
@@ -9,14 +9,14 @@ ghost use Rattle.dynamo_value.specs.Prefix as kind;
 ghost use Rattle.dynamo_value.specs.PrefixView.{prefix_view};
 ghost use Rattle.dynamo_value.specs.View.{view, elements_view, members_view};
 ghost use Rattle.dynamo_json.specs.Json.{json_of, item_json, elements_json, strings, under};
-ghost use Rattle.dynamo_json.specs.Tokens.{tokens_of, begun, ended, lent_view};
+ghost use Rattle.dynamo_json.specs.Tokens.{tokens_of, begun, ended};
 ghost use Rattle.serde_json.specs.Data as json;
 
 mod plain;
 mod stored;
 
 use base64::engine::general_purpose::STANDARD;
-use dynamo_value::{AttributeValue, Prefix};
+use dynamo_value::{AttributeValue, Prefix, entries_by_key};
 use json::Writer;
 pub use plain::plain_text;
 use std::alloc::{AllocError, Global};
@@ -130,7 +130,7 @@ impl Printer {
             ≡ self.old.out.tokens ++ tokens_of (item_json (members_view map.now.entries))) }
         ensures before { self.new.out.before ≡ self.old.out.before }
     {
-        let members = by_key(*self.room.allocator(), map)?;
+        let members = entries_by_key(*self.room.allocator(), map)?;
         self.out.begin_object()?;
         for member in members.iter() {
             self.out.key(member.0.as_str())?;
@@ -273,20 +273,4 @@ impl Printer {
     {
         self.out.end_object()
     }
-}
-
-// The borrowed entries of a map, in the order of the bytes of their keys.
-#[inline(never)]
-fn by_key<'a>(
-    alloc: Global,
-    map: &'a HashMap<String, AttributeValue>,
-) -> Result<Vec<(&'a String, &'a AttributeValue)>, AllocError>
-    ensures { IfOk result (λ v. lent_view v.items ≡ members_view map.now.entries) }
-{
-    let mut entries = Vec::with_capacity(alloc, map.len())?;
-    for (key, value) in map.iter() {
-        entries.push((key, value))?;
-    }
-    entries.sort_unstable_by_key(|entry| entry.0);
-    Ok(entries)
 }

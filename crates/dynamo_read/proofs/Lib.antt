@@ -1,4 +1,3 @@
 pub mod Characters
 pub mod Single
-pub mod Sorted
 pub mod Views

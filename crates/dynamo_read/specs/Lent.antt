@@ -6,7 +6,7 @@ use Rattle.std.specs.Slice.Iter.{iter_rest}
 use Rattle.std.specs.Vec.Iter.{into_iter_items}
 use Rattle.std.specs.declared.alloc.Global.{Global}
 use Rattle.dynamo_value.specs.Av as av
-use Rattle.dynamo_value.specs.Av.{Members}
+use Rattle.dynamo_value.specs.Entries.{entry_of, seen_entries}
 use Rattle.dynamo_value.specs.Fault.{Fault}
 use Rattle.dynamo_value.specs.Kind.{fault_of}
 use Rattle.dynamo_value.specs.View.{view, elements_view, members_view}
@@ -19,7 +19,6 @@ use Rattle.dynamo_de.specs.Source as of
 use Rattle.dynamo_de.specs.Source.{Entry, attribute, values_of, each, plain_text, number_text}
 use Rattle.dynamo_de.specs.Source.{byte_string}
 use Rattle.dynamo_de.specs.declared.showing.Showing.{Showing as ShowingOf}
-use Rattle.dynamo_read.specs.Entries.{seen_entries}
 use Rattle.dynamo_read.specs.Reader.{IsCounted}
 use Rattle.dynamo_read.specs.declared.lent_deserializer.LentDeserializer.{LentDeserializer}
 use Rattle.dynamo_read.specs.declared.lent_deserializer.LentSource.{LentSource}
@@ -31,13 +30,6 @@ use Rattle.dynamo_read.specs.declared.lent_unread.LentRest.{LentRest}
 use Rattle.dynamo_read.specs.declared.lent_unread.LentRest.TheVariants as rest
 use Rattle.dynamo_read.specs.declared.lent_unread.LentForm.{LentForm}
 use Rattle.dynamo_read.specs.declared.lent_unread.LentForm.TheVariants as form
-
--- an entry of a map that is lent
-abbrev pub Lent : Type 0
-Lent = Bor (String Global) × Bor AttributeValue
-
-abbrev pub entry_of : Lent → String Global × AttributeValue
-entry_of e = (e.0.now, e.1.now)
 
 abbrev pub seen_lent : LentSource → of.Source
 seen_lent (source.AttributeValue a) = of.attribute (view a.now)
@@ -90,8 +82,3 @@ IsLentShown shown r = Shows fault_of lent_source lent_elements lent_entries lent
 -- the elements of a list are counted, those of a set are not
 abbrev pub LentCounted : of.Source → LentElements → Type 0
 LentCounted s e = IsCounted s (lent_counted e)
-
--- the one entry of the members, lent, or the fault of there being none or more
-abbrev pub IsLentSingle : Members → Result Lent ErrorImpl → Type 0
-IsLentSingle ms (Ok e) = only_entry ms ≡ Ok (string_bytes e.0.now, Some (attribute (view e.1.now)))
-IsLentSingle ms (Err e) = only_entry ms ≡ Err (fault_of e)

@@ -10,8 +10,8 @@ pub use Rattle.dynamo_de.specs.Shown
 pub use Rattle.dynamo_de.specs.Showing
 pub use Rattle.dynamo_de.specs.Source
 pub mod Accesses
-pub mod Entries
 pub mod Lent
 pub mod Outright
 pub mod Reader
+pub mod Single
 pub mod Unread

@@ -2,12 +2,12 @@
 use Rattle.std.specs.Prelude.{ℕ, Bool, true, false, List, map, Option, None, Result, Ok}
 use Rattle.std.specs.Prelude.{string_bytes}
 use Rattle.std.specs.Vec.Iter.{into_iter_items}
+use Rattle.dynamo_value.specs.Entries.{seen_entries}
 use Rattle.dynamo_value.specs.Fault.{Fault}
 use Rattle.dynamo_value.specs.View.{elements_view, members_view}
 use Rattle.dynamo_de.specs.Showing.{only_entry}
 use Rattle.dynamo_de.specs.Source.{Source, Entry, values_of, each, plain_text, number_text}
 use Rattle.dynamo_de.specs.Source.{byte_string}
-use Rattle.dynamo_read.specs.Entries.{seen_entries}
 use Rattle.dynamo_read.specs.declared.unread.Elements.{Elements}
 use Rattle.dynamo_read.specs.declared.unread.Rest.{Rest}
 use Rattle.dynamo_read.specs.declared.unread.Rest.TheVariants as rest

@@ -3,8 +3,9 @@ ghost use Rattle.std.specs.List.{IsDistinct};
 ghost use Rattle.std.specs.Map.{keys_of};
 ghost use Rattle.std.specs.String.{string_eq};
 ghost use Rattle.std.specs.Vec.{vec_capacity};
+ghost use Rattle.dynamo_value.specs.Entries.{seen_entries};
 ghost use Rattle.dynamo_value.specs.View.{entries_view, members_view};
-ghost use Rattle.dynamo_read.specs.Entries.{seen_entries, IsSingle};
+ghost use Rattle.dynamo_read.specs.Single.{IsLentSingle, IsSingle};
 
 use dynamo_value::{AttributeValue, Error, ErrorImpl, Result};
 use std::collections::HashMap;
@@ -32,6 +33,22 @@ pub(crate) fn single_entry(map: HashMap<String, AttributeValue>) -> Result<(Stri
     ensures { IsSingle (members_view map.entries) result }
 {
     let mut entries = map.into_iter();
+    let Some(entry) = entries.next() else {
+        return Err(Error::from(ErrorImpl::ExpectedSingleKey));
+    };
+    match entries.next() {
+        None => Ok(entry),
+        Some(_) => Err(Error::from(ErrorImpl::ExpectedSingleKey)),
+    }
+}
+
+// The one key of the borrowed map, and its value. A map of no key, or of two and more, is refused.
+pub(crate) fn only_lent<'a>(
+    members: &'a HashMap<String, AttributeValue>,
+) -> Result<(&'a String, &'a AttributeValue)>
+    ensures { IsLentSingle (members_view members.now.entries) result }
+{
+    let mut entries = members.iter();
     let Some(entry) = entries.next() else {
         return Err(Error::from(ErrorImpl::ExpectedSingleKey));
     };

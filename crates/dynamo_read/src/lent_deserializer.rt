@@ -12,7 +12,7 @@ ghost use Rattle.dynamo_read.specs.Lent.{lent_elements, lent_entries, lent_sourc
 ghost use Rattle.dynamo_read.specs.Outright.{OutrightButCopies};
 ghost use Rattle.dynamo_read.specs.Reader.{asks_elements, IfElements};
 
-use crate::lent_entries::only_lent;
+use crate::entries::only_lent;
 use crate::lent_show::{self, LentShown};
 use crate::lent_unread::{LentChoice, LentElements, LentEntries, LentForm, LentRest};
 use dynamo_de::{Inside, Reader, Request, Showing, Surface};

@@ -7,8 +7,7 @@ ghost use Rattle.dynamo_de.specs.Source.{entries_of, values_of, each, plain_text
 ghost use Rattle.dynamo_de.specs.Source.{byte_string};
 ghost use Rattle.dynamo_read.specs.Lent.{lent_chosen, lent_counted, lent_elements, lent_entries};
 
-use crate::lent_entries::by_key;
-use dynamo_value::{AttributeValue, Result};
+use dynamo_value::{AttributeValue, Result, entries_by_key};
 use std::alloc::Global;
 use std::collections::HashMap;
 use std::slice::Iter;
@@ -94,7 +93,7 @@ impl<'a> LentEntries<'a> {
             (λ entries. lent_entries entries ≡ entries_of (members_view map.now.entries)) }
         ensures err { IfErr result (λ e. fault_of e ≡ out_of_memory) }
     {
-        let rest = by_key(alloc, map)?.into_iter();
+        let rest = entries_by_key(alloc, map)?.into_iter();
         Ok(LentEntries { alloc, rest })
     }
 }

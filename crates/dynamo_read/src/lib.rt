@@ -30,7 +30,6 @@ mod deserializer_map;
 mod deserializer_seq;
 mod entries;
 mod lent_deserializer;
-mod lent_entries;
 mod lent_show;
 mod lent_unread;
 mod show;

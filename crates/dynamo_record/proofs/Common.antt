@@ -25,7 +25,7 @@ pub use Rattle.dynamo_record.specs.Fields.{ConformEach, SameData, Defaults, firs
 pub use Rattle.dynamo_record.specs.Fields.{other_defaults, field_shapes, named_fields, read_fields}
 pub use Rattle.dynamo_record.specs.Fields.{read_nth, unread, complete, shapes_of, missed_name}
 pub use Rattle.dynamo_record.specs.Held.{FieldAnswers, IsLast, ReadsFields}
-pub use Rattle.dynamo_record.specs.InOrder.{each_element, elements_same, ReadsInOrder}
+pub use Rattle.dynamo_record.specs.InOrder.{ReadsInOrder}
 pub use Rattle.dynamo_record.specs.InOrder.{elements_conform, elements_in_order}
 pub use Rattle.dynamo_record.specs.Listed.{Shapes, Data, Makes, AboutList, Holds, Fills, IfRead}
 pub use Rattle.dynamo_record.specs.Listed.{Completes, MakesOrFails, both_shapes, both_told}
@@ -57,7 +57,7 @@ pub use Rattle.dynamo_record.specs.Variants.{choice_told, right_conforms}
 pub use Rattle.dynamo_ser.specs.Datum.{Datum, Fields, Variant, elements_of, no_fields, Elements}
 pub use Rattle.dynamo_ser.specs.Datum.{Pairs, pairs_of}
 pub use Rattle.dynamo_ser.specs.Parts.{fields_in, content_in, elements_in}
-pub use Rattle.dynamo_shape.proofs.Answered.{after, stops, made}
+pub use Rattle.dynamo_shape.proofs.Answered.{after, stops}
 pub use Rattle.dynamo_shape.proofs.ByHand.{same_next, into_into, read_itself, Both}
 pub use Rattle.dynamo_shape.proofs.FieldsByName.{Slots, first_slot, other_slots, fill_slot, empty}
 pub use Rattle.dynamo_shape.proofs.FieldsByName.{close, NamesDiffer, behind, fill, Reads, all_named}

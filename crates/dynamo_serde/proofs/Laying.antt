@@ -4,11 +4,10 @@ use Rattle.std.proofs.Common.{◌≡◌, ℕ, suc, ◌+◌, ◌<◌, ◌≤◌, 
 use Rattle.std.proofs.lemmas.List.{take_more, take_all, drop_all}
 use Rattle.dynamo_value.specs.Av as av
 use Rattle.dynamo_value.specs.Av.{Av, elements_of, members_of}
+use Rattle.dynamo_value.specs.Entries.{Lent, entry_of, seen_entry, seen_entries}
 use Rattle.dynamo_value.specs.View.{view, elements_view, entries_view, members_view}
 use Rattle.dynamo_value.specs.declared.attribute_value.AttributeValue.{AttributeValue}
 use Rattle.dynamo_value.proofs.Members.{Entry}
-use Rattle.dynamo_read.specs.Entries.{seen_entry, seen_entries}
-use Rattle.dynamo_read.specs.Lent.{Lent, entry_of}
 use Rattle.dynamo_serde.specs.Laid.{Token, laid, members_laid, elements_laid, key, begin_list, end_seq, begin_map, end_map}
 use Rattle.dynamo_serde.specs.Tape.{row, token_of}
 use Rattle.dynamo_serde.specs.declared.tape.Token as tape

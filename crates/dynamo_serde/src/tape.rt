@@ -7,7 +7,7 @@ ghost use Rattle.dynamo_serde.specs.Laid.{Token as Laid, Takes, TakesText, IsLai
 ghost use Rattle.dynamo_serde.specs.Tape.{token_of, row, ahead, place};
 
 use crate::fault::{LEVELS, fault, too_deep};
-use dynamo_value::{AttributeValue, ErrorImpl, Result};
+use dynamo_value::{AttributeValue, ErrorImpl, Result, entries_by_key};
 use dynamo_write::SetKind;
 use std::alloc::Global;
 use std::collections::HashMap;
@@ -170,11 +170,7 @@ fn lay_map<'v>(
         return Err(too_deep(alloc));
     };
     lay_one(Token::BeginMap(map.len() == 1), tokens)?;
-    let mut entries = Vec::with_capacity(alloc, map.len())?;
-    for entry in map.iter() {
-        entries.push(entry)?;
-    }
-    entries.sort_unstable_by(|a, b| a.0.cmp(b.0));
+    let entries = entries_by_key(alloc, map)?;
     for (key, value) in entries {
         lay_one(Token::Key(key.as_str()), tokens)?;
         lay(alloc, value, levels, tokens)?;

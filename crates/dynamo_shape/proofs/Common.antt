@@ -4,7 +4,7 @@ pub use Rattle.dynamo_de.specs.Answer.{Answer, value, fault, refused, value_or, 
 pub use Rattle.dynamo_de.specs.Reading.{taken, read_content, read_elements, read_bool, read_integer}
 pub use Rattle.dynamo_de.specs.Reading.{read_char, read_string, read_bytes, read_unit, read_entries}
 pub use Rattle.dynamo_de.specs.Reading.{read_newtype, read_parts}
-pub use Rattle.dynamo_de.specs.Reads.{ReadsOption, ReadsTwo, ReadsThree, ReadsFour, Through}
+pub use Rattle.dynamo_de.specs.Reads.{ReadsOption, Through}
 pub use Rattle.dynamo_de.specs.Reads.{ReadsEach, ReadsList}
 pub use Rattle.dynamo_de.specs.Source.{Text, key_text, attribute, Source, plain_text, number_text}
 pub use Rattle.dynamo_de.specs.Source.{byte_string, each, entries_of, Entry, values_of}

@@ -84,7 +84,8 @@ pub found_at : {S : Type 0} (m : HashMap (String Global) AttributeValue S) (es :
 found_at m es is q = sym (found-view m.entries q)
     ∙ ap (find text_cmp q) (sym (entries_in-members_of (entries_view m.entries)) ∙ ap entries_in is ∙ entries_in-members_of es)
 
-entries_alike : (es fs : List (String Global × AttributeValue)) → members_view es ≡ members_view fs → entries_view es ≡ entries_view fs
+-- maps with the same members have the same entries in order
+pub entries_alike : (es fs : List (String Global × AttributeValue)) → members_view es ≡ members_view fs → entries_view es ≡ entries_view fs
 entries_alike es fs e = sym (entries_in-members_of (entries_view es)) ∙ ap entries_in e ∙ entries_in-members_of (entries_view fs)
 
 -- ---- a map that is copied entry by entry

@@ -2,6 +2,7 @@ pub mod Av
 pub mod Base64
 pub mod Bytes
 pub mod Contents
+pub mod Entries
 pub mod Equal
 pub mod Fault
 pub mod HasBytes

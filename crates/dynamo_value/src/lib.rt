@@ -5,6 +5,7 @@
 mod attribute_value;
 pub mod base64_text;
 mod bytes;
+mod entries;
 mod error;
 mod integer;
 mod item;
@@ -15,6 +16,7 @@ mod text;
 
 pub use attribute_value::AttributeValue;
 pub use bytes::{ByteBuf, Bytes};
+pub use entries::entries_by_key;
 pub use error::{Error, ErrorImpl, Result};
 pub use integer::{Integer, IntegerKind};
 pub use item::{Item, Items};

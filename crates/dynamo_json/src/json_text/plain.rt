@@ -11,9 +11,9 @@ ghost use Rattle.dynamo_de.specs.ReadJson.{read_value};
 ghost use Rattle.dynamo_json.specs.StoredText.{Prints, plain, plain_elements, plain_members};
 ghost use Rattle.dynamo_json.specs.StoredText.{plain_number, plain_numbers, plain_blobs};
 
-use super::{Printer, by_key};
+use super::Printer;
 use crate::from_text::Stop;
-use dynamo_value::AttributeValue;
+use dynamo_value::{AttributeValue, entries_by_key};
 use std::alloc::{AllocError, Global};
 use std::collections::HashMap;
 
@@ -86,7 +86,7 @@ impl Printer {
             (plain_members self.old.out.tokens (members_view map.now.entries)) self.new.out.tokens }
         ensures before { self.new.out.before ≡ self.old.out.before }
     {
-        let members = by_key(*self.room.allocator(), map)?;
+        let members = entries_by_key(*self.room.allocator(), map)?;
         self.out.begin_object()?;
         for member in members.iter() {
             self.out.key(member.0.as_str())?;

@@ -1,14 +1,7 @@
-use Rattle.std.proofs.Common.{rules, ◌≡◌, List, [], ◌∷◌, ◌++◌, map, length, arith, refl, sym, ap, ◌∙◌, subst, append_assoc, append-nil}
+use Rattle.std.proofs.Common.{◌≡◌, List, [], ◌∷◌, ◌++◌, map, length, arith, refl, sym, ap, ◌∙◌, append_assoc, append-nil}
 use Rattle.std.proofs.lemmas.Result.{on_ok_weaker}
-use Rattle.std.specs.List.{IsDistinct}
-use Rattle.std.specs.Map.{keys_of}
-use Rattle.std.specs.String.{string_eq}
 use Rattle.std.specs.Vec.Iter.{into_iter_items}
-use Rattle.dynamo_value.proofs.Members.{Entry}
-use Rattle.dynamo_value.specs.View.{entries_view}
-use Rattle.dynamo_read.proofs.Sorted.{sorted_lent}
-use Rattle.dynamo_read.specs.Entries.{seen_entries}
-use Rattle.dynamo_read.specs.Lent.{Lent, entry_of}
+use Rattle.dynamo_value.specs.Entries.{Lent, entry_of, seen_entries}
 use Rattle.dynamo_serde.specs.Laid.{key}
 use Rattle.dynamo_serde.specs.Tape.{row}
 use Rattle.dynamo_serde.proofs.Laying.{list_more, list_all, map_more, map_all}
@@ -39,7 +32,7 @@ lay_map-loop-key-preserved t c =
     let l = c.loop-key in
     let done = l.invariant.0 in
     let e : Lent = (c.in-Some-2.key, c.in-Some-2.value) in
-    let left = into_iter_items c.next-in-loop-key.new.self in (
+    let left = into_iter_items c.next.new.self in (
       done ++ e ∷ [],
       append_assoc done (e ∷ []) left ∙ ap (λ es. done ++ es) (sym c.in-Some-2.ensures.steps.0) ∙ l.invariant.1,
       map_more done e (row c.lay_one.new.tokens.items) (row l.tokens.items) (row c.lay_one-in-loop-key.new.tokens.items) (row c.lay.new.tokens.items)
@@ -51,15 +44,9 @@ lay_map-returns t c =
     let l = c.loop-key in
     let done = l.invariant.0 in
     let left = l.key-iterator.rest in
-    let lent = c.loop-entry.entries.items in
-    let sort = c.sort_unstable_by.ensures in
-    let sorted = c.sort_unstable_by.new.self.items in
-    let all : c.args.map.now.entries ≡ map entry_of lent = search rules in
-    let distinct = subst (λ (es : List Entry). IsDistinct string_eq (keys_of es)) all c.iter-entry-items.ensures.unique in
-    let seen = sorted_lent lent sorted distinct sort.permutation sort.sorted (λ f1 a r f2 call. search rules) ∙ ap entries_view (sym all) in
-    let whole : done ≡ sorted =
-    sym (append-nil done) ∙ ap (λ es. done ++ es) (sym (none left.items (sym left.ok.0 ∙ c.in-None-2.ensures.steps.0)))
+    let whole : done ≡ c.in_ok-entries.entries.items =
+    sym (append-nil done) ∙ ap (λ es. done ++ es) (sym (none left.items (sym left.ok.0 ∙ c.in-None.ensures.steps.0)))
     ∙ l.invariant.1 ∙ c.into_iter-key-iterator.ensures.into_iter_gives.0 in
     on_ok_weaker c.lay_one-2.result
     (map_all c.args.map.now.entries done (row c.args.tokens.now.items) (row c.lay_one.new.tokens.items) (row l.tokens.items) (row c.lay_one-2.new.tokens.items)
-    (ap (λ es. seen_entries (map entry_of es)) whole ∙ seen) c.in_ok-lay_one.ensures l.invariant.2) c.lay_one-2.ensures
+    (ap (λ es. seen_entries (map entry_of es)) whole ∙ c.in_ok-entries.ensures) c.in_ok-lay_one.ensures l.invariant.2) c.lay_one-2.ensures

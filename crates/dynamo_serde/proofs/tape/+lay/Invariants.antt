@@ -1,6 +1,6 @@
-use Rattle.std.proofs.Common.{◌≡◌, ◌+◌, ◌*◌, List, ◌++◌, map}
+use Rattle.std.proofs.Common.{◌≡◌, ◌+◌, ◌*◌, List, ◌++◌}
 use Rattle.std.specs.Vec.Iter.{into_iter_items}
-use Rattle.dynamo_read.specs.Lent.{Lent, entry_of}
+use Rattle.dynamo_value.specs.Entries.{Lent}
 use Rattle.dynamo_serde.specs.Tape.{row}
 use Rattle.dynamo_serde.proofs.Laying.{ListUpTo, entries_laid}
 use Rattle.dynamo_serde.proofs.tape.+lay.Given as goal
@@ -16,10 +16,6 @@ decreases-lay_map l = 2 * l.levels
 
 abbrev pub invariant-lay_list-loop-item : goal.invariant-lay_list-loop-item
 invariant-lay_list-loop-item l = ListUpTo l.item-items l.item-index (row l.initial.tokens.items) (row l.tokens.items)
-
--- the borrowed entries are followed by what is left of the map
-abbrev pub invariant-lay_map-loop-entry : goal.invariant-lay_map-loop-entry
-invariant-lay_map-loop-entry l = l.map.entries ≡ map entry_of l.entries.items ++ l.entry-iterator
 
 -- the entries before those that are left are laid
 abbrev pub invariant-lay_map-loop-key : goal.invariant-lay_map-loop-key

@@ -1,5 +1,5 @@
 use Rattle.std.proofs.Common.{◌≡◌, ◌∙◌, ◌<◌, List, [], ◌∷◌, ◌++◌, None, Err, Some, drop, ap, sym, subst, rules, arith, string_bytes}
-use Rattle.dynamo_json.proofs.Common.{drop_all, err_from_is_err_and, key, Members, view}
+use Rattle.dynamo_json.proofs.Common.{drop_all, err_from_is_err_and, key, Members, members_of, view}
 use Rattle.dynamo_json.proofs.Common.{elements_view, entries_view, members_view, AttributeValue}
 use Rattle.dynamo_json.proofs.Common.{view_sorted, Prints, plain_members, Lent, lent_view}
 use Rattle.dynamo_value.proofs.Views.{view_map}
@@ -52,7 +52,7 @@ pub plain_members-plain-requires : goal.plain_members-plain-requires
 plain_members-plain-requires t c =
     let xs = c.deref-member-items.result.now in
     let x = c.member-item.result in
-    let all : lent_view xs ≡ members_view c.args.map.now.entries = ap lent_view c.deref-member-items.ensures.value ∙ c.in_ok-members.ensures in
+    let all : lent_view xs ≡ members_view c.args.map.now.entries = ap lent_view c.deref-member-items.ensures.value ∙ ap members_of c.in_ok-members.ensures in
     let smaller : weight (view x.1.now) < members_weight (members_view c.args.map.now.entries) =
     subst (λ (ms : Members). weight (view x.1.now) < members_weight ms) all
     (subst (λ (y : Lent). weight (view y.1.now) < members_weight (lent_view xs)) (sym c.member-item.is)
@@ -66,7 +66,7 @@ plain_members-returns-in_err-plain-clause-tokens t c =
     let x = c.member-item.result in
     let i = c.loop-member.member-index in
     let es = entries_view c.args.map.now.entries in
-    let all = ap lent_view c.deref-member-items.ensures.value ∙ c.in_ok-members.ensures in
+    let all = ap lent_view c.deref-member-items.ensures.value ∙ ap members_of c.in_ok-members.ensures in
     let keyed = c.in_ok-key.ensures.ok ∙ ap (λ t. now ++ key t ∷ []) c.as_str.ensures.value in
     let failed = err_from_is_err_and c.from_residual-in_err-plain.result c.from_residual-in_err-plain.ensures.1 in
     let none : plain c.key.new.self.tokens (view x.1.now) ≡ None
@@ -104,7 +104,7 @@ plain_members-returns-clause-tokens t c =
     members_begun _ (entries_view c.args.map.now.entries) c.begin_object.new.self.tokens now
     (lent_view (drop i xs)) (lent_view xs) (view_sorted c.args.map.now.entries)
     c.in_ok-begin_object.ensures.ok
-    (sym (ap lent_view c.deref-member-items.ensures.value ∙ c.in_ok-members.ensures)) c.loop-member.invariant.tokens
+    (sym (ap lent_view c.deref-member-items.ensures.value ∙ ap members_of c.in_ok-members.ensures)) c.loop-member.invariant.tokens
     ∙ ap (λ ps. members_behind now (lent_view ps)) none ∙ ap Some (sym c.in_ok-end_object.ensures.ok)
 
 pub plain-returns-in-M-clause-tokens : goal.plain-returns-in-M-clause-tokens

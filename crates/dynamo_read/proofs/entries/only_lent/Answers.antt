@@ -1,7 +1,7 @@
 use Rattle.std.proofs.Common.{rules, sym, ◌∙◌}
 use Rattle.dynamo_read.proofs.Single.{single_of_more}
-use Rattle.dynamo_read.specs.Lent.{entry_of}
-use Rattle.dynamo_read.proofs.lent_entries.only_lent.Goals as goal
+use Rattle.dynamo_value.specs.Entries.{entry_of}
+use Rattle.dynamo_read.proofs.entries.only_lent.Goals as goal
 
 pub returns-in-Some-next : goal.returns-in-Some-next
 returns-in-Some-next c =

@@ -1,7 +1,0 @@
-use Rattle.std.proofs.Common.{◌≡◌, ◌++◌, map}
-use Rattle.dynamo_read.specs.Lent.{entry_of}
-use Rattle.dynamo_read.proofs.lent_entries.by_key.Given as goal
-
--- the list is followed by what is left of the map
-abbrev pub invariant-loop-key : goal.invariant-loop-key
-invariant-loop-key l = l.members.entries ≡ map entry_of l.list.items ++ l.key-iterator
