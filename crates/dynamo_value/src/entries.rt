@@ -18,7 +18,8 @@ use std::collections::HashMap;
 /// use dynamo_value::entries_by_key;
 /// use serde_dynamo::{AttributeValue, DynamoJson};
 ///
-/// let value = AttributeValue::from_json_text(alloc, r#"{"M": {"b": {"S": ""}, "a": {"N": "1"}}}"#)?;
+/// let json = r#"{"M": {"b": {"S": ""}, "a": {"N": "1"}}}"#;
+/// let value = AttributeValue::from_json_text(alloc, json)?;
 /// let AttributeValue::M(map) = &value else {
 ///     anyhow::bail!("it is a map");
 /// };
