@@ -25,7 +25,7 @@ use std::collections::HashMap;
 /// };
 /// let entries = entries_by_key(alloc, map)?;
 /// let keys: Vec<&str> = entries.iter().map(|entry| entry.0.as_str()).collect(alloc)?;
-/// assert_eq!(rt; keys.as_slice(), ["a", "b"]);
+/// assert_eq!(rt; keys.as_slice(), ["a", "b"].as_slice());
 /// ```
 #[inline(never)]
 pub fn entries_by_key<'a>(
