@@ -2,12 +2,13 @@
 ghost use Rattle.std.specs.Prelude.{[], ◌∷◌, codes, refl};
 ghost use Rattle.dynamo_record.specs.Records.{record_of, record_tells, record_reads};
 
+use crate::values;
 use dynamo_record::{Field, FieldList, Record, read_record, write_record};
-use serde_dynamo::ByteBuf;
 use serde_dynamo::de::{Deserialize, Deserializer};
+use serde_dynamo::from_item;
 use serde_dynamo::samples::{Event, Sets, User};
 use serde_dynamo::ser::{Serialize, Serializer};
-use std::alloc::{AllocError, Global};
+use std::alloc::Global;
 use std::collections::HashMap;
 
 /// A user with what happened to it, three sets, and answers by the number of their question.
@@ -19,37 +20,18 @@ pub struct Account {
     pub answers: HashMap<u8, Option<bool>>,
 }
 
+const SAMPLE: &str =
+    r#"{"user":{"M":{"id":{"S":"fSsgVtal8TpP"},"name":{"S":"Arthur Dent"},"age":{"N":"42"}}},
+    "events":{"L":[{"S":"Unit"},{"M":{"Newtype":{"N":"1"}}},
+        {"M":{"Tuple":{"L":[{"N":"2"},{"N":"3"}]}}},
+        {"M":{"Structy":{"M":{"one":{"N":"4"},"two":{"N":"5"}}}}}]},
+    "sets":{"M":{"names":{"SS":["a","b"]},"numbers":{"NS":["7"]},"blobs":{"BS":["AQI="]}}},
+    "answers":{"M":{"1":{"NULL":true},"2":{"BOOL":true}}}}"#;
+
 impl Account {
     /// An account with an event of each form, and with an answer and a question without one.
-    pub fn new(alloc: Global) -> Result<Account, AllocError> {
-        let user = User {
-            id: String::from_str(alloc, "fSsgVtal8TpP")?,
-            name: String::from_str(alloc, "Arthur Dent")?,
-            age: 42,
-        };
-        let events = vec![in alloc;
-            Event::Unit,
-            Event::Newtype(1),
-            Event::Tuple(2, 3),
-            Event::Structy { one: 4, two: 5 },
-        ]?;
-        let sets = Sets {
-            names: vec![in alloc;
-                String::from_str(alloc, "a")?,
-                String::from_str(alloc, "b")?,
-            ]?,
-            numbers: vec![in alloc; 7]?,
-            blobs: vec![in alloc; ByteBuf::from(vec![in alloc; 1, 2]?)]?,
-        };
-        let mut answers = HashMap::new(alloc);
-        answers.insert(1, None)?;
-        answers.insert(2, Some(true))?;
-        Ok(Account {
-            user,
-            events,
-            sets,
-            answers,
-        })
+    pub fn new(alloc: Global) -> serde_dynamo::Result<Account> {
+        from_item(alloc, values::item(alloc, SAMPLE)?)
     }
 }
 

@@ -4,13 +4,6 @@ use serde_dynamo::{AttributeValue, ErrorImpl, Result};
 use serde_json::Value;
 use std::collections::HashMap;
 use std::fmt::{self, Debug, Formatter, Write};
-use std::io;
-
-/// Prints a label, and after it what a call returned: the value, or the kind of the error. Drops
-/// what was returned.
-pub fn say<T: Debug + Drop>(rt: &HostRuntime, label: &str, returned: Result<T>) -> io::Result<()> {
-    print!(rt; "{label}: {}", Answer(&returned))
-}
 
 /// What a call returned: the value, or the kind of the error.
 #[derive(Drop)]
@@ -20,11 +13,16 @@ impl<T: Debug> fmt::Display for Answer<'_, T> {
     fn fmt<W: Write>(&self, f: &mut Formatter<W>) -> fmt::Result {
         match self.0 {
             Ok(value) => write!(f, "{value:?}"),
-            Err(error) => match error.kind() {
-                ErrorImpl::OutOfMemory => f.write_str("out of memory"),
-                kind => write!(f, "{kind:?}"),
-            },
+            Err(error) => show_kind(error.kind(), f),
         }
+    }
+}
+
+/// Shows the kind of an error.
+pub fn show_kind<W: Write>(kind: &ErrorImpl, f: &mut Formatter<W>) -> fmt::Result {
+    match kind {
+        ErrorImpl::OutOfMemory => f.write_str("out of memory"),
+        kind => write!(f, "{kind:?}"),
     }
 }
 

@@ -1,19 +1,19 @@
 //! A row of a derived type.
 
-use crate::answer::{Written, say};
-use crate::stopped::Stopped;
+use crate::answer::Written;
+use crate::line::Line;
 use example_derived::Order;
 use serde_dynamo::Result;
+use std::alloc::Global;
 
 /// An order with a field of each kind, written and read.
-pub fn order(rt: &HostRuntime) -> Result<(), Stopped> {
-    let alloc = rt.alloc();
+pub fn order(alloc: Global, line: &mut Line) -> Result<()> {
     let order = Order::new(alloc)?;
     let value = dynamo_serde::to_attribute_value(alloc, &order)?;
     let written = dynamo_serde::to_attribute_value(alloc, &order);
-    say(rt, "to_attribute_value", written.map(Written))?;
+    line.say("to_attribute_value", written.map(Written));
     let read: Result<Order> = dynamo_serde::from_attribute_value(alloc, value);
-    say(rt, " | from_attribute_value", read.map(sizes))?;
+    line.say("from_attribute_value", read.map(sizes));
     Ok(())
 }
 

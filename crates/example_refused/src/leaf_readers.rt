@@ -1,9 +1,11 @@
 //! The row of the readers of single texts and byte strings, which take no memory.
 
-use crate::stopped::Stopped;
+use crate::line::Line;
 use serde_dynamo::de::{IntegerKind, Reader, Request};
-use serde_dynamo::{DeserializerBytes, DeserializerMapKey, DeserializerNumber, StringDeserializer};
-use std::alloc::{AllocError, Global};
+use serde_dynamo::{
+    DeserializerBytes, DeserializerMapKey, DeserializerNumber, Result, StringDeserializer,
+};
+use std::alloc::Global;
 
 const REQUESTS: [Request; 29] = [
     Request::Any,
@@ -38,7 +40,7 @@ const REQUESTS: [Request; 29] = [
 ];
 
 // The same text for each request.
-fn texts(alloc: Global) -> Result<Vec<String>, AllocError> {
+fn texts(alloc: Global) -> Result<Vec<String>> {
     let mut texts = Vec::with_capacity(alloc, REQUESTS.len())?;
     for _ in REQUESTS {
         texts.push(String::from_str(alloc, "7")?)?;
@@ -46,37 +48,31 @@ fn texts(alloc: Global) -> Result<Vec<String>, AllocError> {
     Ok(texts)
 }
 
-// One more where the reader shows something at the request.
-fn count<R: Reader>(shown: u8, reader: R, request: Request) -> u8 {
-    shown.saturating_add(if reader.show(request).is_ok() { 1 } else { 0 })
+// At how many of the requests the readers of the texts show something.
+fn count<R: Reader, F: Fn(String) -> R>(texts: Vec<String>, reader_of: F) -> u8
+    requires { F.IsAlwaysCallable reader_of }
+{
+    let mut count = 0_u8;
+    for (text, request) in texts.into_iter().zip(REQUESTS) {
+        if reader_of(text).show(request).is_ok() {
+            count = count.saturating_add(1);
+        }
+    }
+    count
 }
 
 /// At how many of the requests each of the readers shows something.
-pub fn shown(rt: &HostRuntime) -> Result<(), Stopped> {
-    let alloc = rt.alloc();
+pub fn shown(alloc: Global, line: &mut Line) -> Result<()> {
     let texts = [texts(alloc)?, texts(alloc)?, texts(alloc)?, texts(alloc)?];
     let [strings, numbers, keys, bytes] = texts;
-    let (mut string, mut number, mut key, mut byte_string) = (0, 0, 0, 0);
-    for (text, request) in strings.into_iter().zip(REQUESTS) {
-        string = count(
-            string,
-            StringDeserializer::from_string(alloc, text),
-            request,
-        );
-    }
-    for (text, request) in numbers.into_iter().zip(REQUESTS) {
-        number = count(
-            number,
-            DeserializerNumber::from_string(alloc, text),
-            request,
-        );
-    }
-    for (text, request) in keys.into_iter().zip(REQUESTS) {
-        key = count(key, DeserializerMapKey::from_string(alloc, text), request);
-    }
-    for (text, request) in bytes.into_iter().zip(REQUESTS) {
-        let reader = DeserializerBytes::from_bytes(alloc, text.into_bytes());
-        byte_string = count(byte_string, reader, request);
-    }
-    Ok(print!(rt; "string: {string} | number: {number} | key: {key} | byte string: {byte_string}")?)
+    let strings = count(strings, |text| StringDeserializer::from_string(alloc, text));
+    let numbers = count(numbers, |text| DeserializerNumber::from_string(alloc, text));
+    let keys = count(keys, |text| DeserializerMapKey::from_string(alloc, text));
+    let reader = |text: String| DeserializerBytes::from_bytes(alloc, text.into_bytes());
+    let bytes = count(bytes, reader);
+    line.say("string", Ok(strings));
+    line.say("number", Ok(numbers));
+    line.say("key", Ok(keys));
+    line.say("byte string", Ok(bytes));
+    Ok(())
 }

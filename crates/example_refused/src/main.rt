@@ -10,68 +10,47 @@
 mod accesses;
 mod account;
 mod answer;
-mod both;
 mod builders;
-mod calls;
 mod derived;
 mod json;
 mod leaf_readers;
+mod line;
 mod located;
 mod reading;
-mod steps;
-mod stopped;
+mod rows;
 mod tables;
 mod values;
 mod without_memory;
 mod writing;
 
-use std::alloc::AllocError;
+use line::Line;
 use std::{env, io};
-use stopped::Stopped;
 
-// The word after the program's name, where there is one.
-fn word(rt: &HostRuntime) -> Result<Option<String>, Stopped> {
-    match env::args(rt) {
-        Ok(words) => Ok(words.skip(1).next()),
-        Err(error) if error.kind() == io::ErrorKind::OutOfMemory => Err(Stopped::from(AllocError)),
-        Err(error) => Err(Stopped::Printing(error)),
+fn print_row(rt: &HostRuntime, name: &str) -> io::Result<()> {
+    let mut line = Line::new(rt);
+    match rows::run(rt.alloc(), &mut line, name) {
+        Some(made) => line.end(made),
+        None => println!(rt; "no such row"),
     }
 }
 
-fn run(rt: &HostRuntime, row: &str) -> Result<(), Stopped> {
-    if let Some(done) = calls::run(rt, row) {
-        return done;
-    }
-    if let Some(done) = steps::run(rt, row) {
-        return done;
-    }
-    Ok(print!(rt; "no such row")?)
-}
-
-// Ends the line of a row: where its values were not made, by that.
-fn end_line(rt: &HostRuntime, row: Result<(), Stopped>) -> io::Result<()> {
-    match row {
-        Ok(()) => println!(rt; ""),
-        Err(Stopped::Making(error)) => println!(rt; "making: {error}"),
-        Err(Stopped::Printing(error)) => Err(error),
-    }
-}
-
-fn print_all(rt: &HostRuntime, rows: &[&str]) -> io::Result<()> {
-    for row in rows {
-        print!(rt; "{row}: ")?;
-        end_line(rt, run(rt, row))?;
+fn print_all(rt: &HostRuntime) -> io::Result<()> {
+    for name in rows::NAMES {
+        print!(rt; "{name}: ")?;
+        print_row(rt, name)?;
     }
     Ok(())
 }
 
 fn main(rt: HostRuntime) -> io::Result<()> {
-    match word(&rt) {
-        Ok(Some(row)) => end_line(&rt, run(&rt, &row)),
-        Ok(None) => {
-            print_all(&rt, &calls::ROWS)?;
-            print_all(&rt, &steps::ROWS)
+    match env::args(&rt) {
+        Ok(words) => match words.skip(1).next() {
+            Some(name) => print_row(&rt, &name),
+            None => print_all(&rt),
+        },
+        Err(error) if error.kind() == io::ErrorKind::OutOfMemory => {
+            println!(rt; "making: out of memory")
         }
-        Err(stopped) => end_line(&rt, Err(stopped)),
+        Err(error) => Err(error),
     }
 }

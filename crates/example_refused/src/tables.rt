@@ -1,10 +1,9 @@
 //! Rows of a table in memory: a call that runs out of memory leaves the table unchanged.
 
-use crate::stopped::Stopped;
+use crate::line::Line;
 use crate::values;
-use serde_dynamo::{AttributeValue, Item};
+use serde_dynamo::{AttributeValue, Error, ErrorImpl, Item, Result};
 use std::alloc::{AllocError, Global};
-use std::io;
 use table_memory::{Key, KeyAttribute, KeyKind, KeySchema, KeyValue, Query, Table, TableError};
 
 const READINGS: [&str; 3] = [
@@ -13,11 +12,13 @@ const READINGS: [&str; 3] = [
     r#"{"station":{"S":"north"},"at":{"N":"4"},"note":{"S":"four"}}"#,
 ];
 
-const THIRD: &str = r#"{"station":{"S":"north"},"at":{"N":"3"},"note":{"S":"three"}}"#;
+/// A reading that the table lacks.
+pub const THIRD: &str = r#"{"station":{"S":"north"},"at":{"N":"3"},"note":{"S":"three"}}"#;
 
-const SECOND_AGAIN: &str = r#"{"station":{"S":"north"},"at":{"N":"2"},"note":{"S":"again"}}"#;
+/// Another reading in the place of the second.
+pub const SECOND_AGAIN: &str = r#"{"station":{"S":"north"},"at":{"N":"2"},"note":{"S":"again"}}"#;
 
-fn attribute(alloc: Global, name: &str, kind: KeyKind) -> Result<KeyAttribute, AllocError> {
+fn attribute(alloc: Global, name: &str, kind: KeyKind) -> Result<KeyAttribute> {
     Ok(KeyAttribute {
         name: String::from_str(alloc, name)?,
         kind,
@@ -25,11 +26,11 @@ fn attribute(alloc: Global, name: &str, kind: KeyKind) -> Result<KeyAttribute, A
 }
 
 // Until the row's calls, a table fails only if memory runs out.
-fn made<T: Drop>(answer: Result<T, TableError>) -> Result<T, Stopped> {
-    answer.map_err(|_| Stopped::from(AllocError))
+fn made<T: Drop>(answer: std::result::Result<T, TableError>) -> Result<T> {
+    answer.map_err(|_| Error::from(ErrorImpl::OutOfMemory))
 }
 
-fn readings(alloc: Global) -> Result<Table, Stopped> {
+fn readings(alloc: Global) -> Result<Table> {
     let partition = attribute(alloc, "station", KeyKind::S)?;
     let sort = Some(attribute(alloc, "at", KeyKind::N)?);
     let mut table = Table::new(alloc, KeySchema { partition, sort });
@@ -40,7 +41,7 @@ fn readings(alloc: Global) -> Result<Table, Stopped> {
 }
 
 // The keys of the four readings.
-fn keys(alloc: Global, table: &Table) -> Result<Vec<Key>, Stopped> {
+fn keys(alloc: Global, table: &Table) -> Result<Vec<Key>> {
     let mut keys = Vec::with_capacity(alloc, 4)?;
     for text in READINGS {
         keys.push(made(table.key_of(&values::item(alloc, text)?))?)?;
@@ -57,54 +58,43 @@ fn note(item: &Item) -> &str {
 }
 
 // The notes of the items under these keys. It takes no memory.
-fn print_left(rt: &HostRuntime, table: &Table, keys: &[Key]) -> io::Result<()> {
-    print!(rt; " | left:")?;
+fn say_left(line: &mut Line, table: &Table, keys: &[Key]) {
+    line.label("left");
     for key in keys {
         if let Some(item) = table.get(key) {
-            print!(rt; " {}", note(item))?;
+            line.word(&note(item));
         }
     }
-    Ok(())
 }
 
-// An item put in the table of three.
-fn put(rt: &HostRuntime, text: &str) -> Result<(), Stopped> {
-    let alloc = rt.alloc();
+/// An item put in the table of three.
+pub fn put(alloc: Global, line: &mut Line, text: &str) -> Result<()> {
     let mut table = readings(alloc)?;
     let keys = keys(alloc, &table)?;
     let item = values::item(alloc, text)?;
     match table.put(item) {
-        Ok(Some(before)) => print!(rt; "put: {}", note(&before))?,
-        Ok(None) => print!(rt; "put: none")?,
-        Err(error) => print!(rt; "put: {error}")?,
+        Ok(Some(before)) => line.show("put", &note(&before)),
+        Ok(None) => line.show("put", &"none"),
+        Err(error) => line.show("put", &error),
     }
-    Ok(print_left(rt, &table, keys.as_slice())?)
-}
-
-/// An item under a key that has none.
-pub fn put_new(rt: &HostRuntime) -> Result<(), Stopped> {
-    put(rt, THIRD)
-}
-
-/// An item under a key that has one.
-pub fn put_again(rt: &HostRuntime) -> Result<(), Stopped> {
-    put(rt, SECOND_AGAIN)
+    say_left(line, &table, keys.as_slice());
+    Ok(())
 }
 
 /// The items of a partition.
-pub fn query(rt: &HostRuntime) -> Result<(), Stopped> {
-    let alloc = rt.alloc();
+pub fn query(alloc: Global, line: &mut Line) -> Result<()> {
     let table = readings(alloc)?;
     let keys = keys(alloc, &table)?;
     let partition = KeyValue::S(String::from_str(alloc, "north")?);
+    line.label("query");
     match table.query(alloc, &Query::of(&partition)) {
         Ok(found) => {
-            print!(rt; "query:")?;
             for (_, item) in found.iter() {
-                print!(rt; " {}", note(*item))?;
+                line.word(&note(*item));
             }
         }
-        Err(AllocError) => print!(rt; "query: out of memory")?,
+        Err(AllocError) => line.word(&"out of memory"),
     }
-    Ok(print_left(rt, &table, keys.as_slice())?)
+    say_left(line, &table, keys.as_slice());
+    Ok(())
 }
