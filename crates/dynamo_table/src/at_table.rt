@@ -6,12 +6,12 @@ use crate::print::{Form, print_items, print_text};
 use crate::put::item_of_text;
 use crate::refusal::{Answer, Outcome, Refusal};
 use crate::teller::Teller;
-use crate::text::read_all;
+use crate::text::unmarked;
 use crate::words::Flags;
 use dynamo_value::Item;
-use sqlite::Alter;
+use sqlite::{Alter, Connection};
 use std::fs;
-use std::io::{BufReader, Read};
+use std::io::Read;
 use table_keys::{Key, KeyValue, Query, SortCondition, TableError};
 use table_store::TableStore;
 
@@ -28,25 +28,22 @@ pub struct AtTable<'r, 'a, S: Alter + Drop> {
     pub table: &'a str,
 
     /// The table.
-    pub store: &'a mut TableStore<S>,
+    pub store: TableStore<S>,
 }
 
 impl<S: Alter + Drop> AtTable<'_, '_, S> {
-    /// Runs what is asked.
-    ///
-    /// # Errors
-    ///
-    /// Those of the command, each by its message.
-    pub fn run(&mut self, asked: Asked<'_>) -> Answer {
-        match asked {
+    /// Runs what is asked, and gives the connection back.
+    pub fn run(mut self, asked: Asked<'_>) -> (Option<Connection<S>>, Answer) {
+        let answer = match asked {
             Asked::Count => self.count(),
             Asked::Put(input) => self.put(input),
             Asked::Load(input, flags) => self.load(input, flags),
             Asked::Get(partition, sort, form) => self.get(partition, sort, form),
             Asked::Delete(partition, sort) => self.delete(partition, sort),
             Asked::Query(partition, condition, flags) => self.query(partition, condition, flags),
-            Asked::Scan(form) => self.scan(form),
-        }
+            Asked::Scan(form) => self.print_pages(form, None),
+        };
+        (Some(self.store.into_connection()), answer)
     }
 
     // Prints how many items there are.
@@ -58,31 +55,26 @@ impl<S: Alter + Drop> AtTable<'_, '_, S> {
 
     // Prints the item of a key.
     fn get(&mut self, partition: &str, sort: Option<&str>, form: Form) -> Answer {
-        let alloc = self.teller.rt.alloc();
-        let key = key_of_words(alloc, self.store.schema(), partition, sort)?;
+        let key = key_of_words(self.teller.rt.alloc(), self.store.schema(), partition, sort)?;
         let found = self.store.get(&key)?;
         self.print_found(form, found)
     }
 
     // Deletes and prints the item of a key.
     fn delete(&mut self, partition: &str, sort: Option<&str>) -> Answer {
-        let alloc = self.teller.rt.alloc();
-        let key = key_of_words(alloc, self.store.schema(), partition, sort)?;
+        let key = key_of_words(self.teller.rt.alloc(), self.store.schema(), partition, sort)?;
         let found = self.store.delete(&key)?;
         self.print_found(Form::Bare, found)
     }
 
     fn print_found(&self, form: Form, found: Option<Item>) -> Answer {
         match found {
-            Some(item) => {
-                print_items(self.teller.rt, form, &[item])?;
-                Ok(Outcome::Done)
-            }
-            None => Err(self.refusal("the key has no item")),
+            Some(item) => print_items(self.teller.rt, form, &[item]),
+            None => Err(Refusal::Text("the key has no item")),
         }
     }
 
-    // Prints the items of a partition that meet a condition, page by page.
+    // Prints the items of a partition that meet a condition.
     fn query(&mut self, partition: &str, condition: &[&str], flags: Flags) -> Answer {
         let alloc = self.teller.rt.alloc();
         let partition = value_of_word(alloc, &self.store.schema().partition, partition)?;
@@ -90,21 +82,13 @@ impl<S: Alter + Drop> AtTable<'_, '_, S> {
         let Some(sort) = condition_of(condition, values.as_slice()) else {
             return Ok(Outcome::Usage);
         };
-        let mut last: Option<Key> = None;
-        for _ in 0..u64::MAX {
-            let items = self.store.query(&Query {
-                sort,
-                backward: flags.backward,
-                limit: PAGE,
-                start_after: last.as_ref(),
-                ..Query::of(&partition)
-            })?;
-            last = self.print_page(flags.form(), items.as_slice())?;
-            if last.is_none() {
-                break;
-            }
-        }
-        Ok(Outcome::Done)
+        let query = Query {
+            sort,
+            backward: flags.backward,
+            limit: PAGE,
+            ..Query::of(&partition)
+        };
+        self.print_pages(flags.form(), Some(query))
     }
 
     // The values of a condition, which are after its name.
@@ -120,82 +104,63 @@ impl<S: Alter + Drop> AtTable<'_, '_, S> {
         Ok(values)
     }
 
-    // Prints all items, page by page.
-    fn scan(&mut self, form: Form) -> Answer {
+    // Prints the items that a query finds, or all, page by page.
+    fn print_pages(&mut self, form: Form, query: Option<Query<'_>>) -> Answer {
         let mut last: Option<Key> = None;
         for _ in 0..u64::MAX {
-            let items = self.store.scan(PAGE, last.as_ref())?;
-            last = self.print_page(form, items.as_slice())?;
-            if last.is_none() {
+            let start_after = last.as_ref();
+            let items = match query {
+                Some(query) => self.store.query(&Query {
+                    start_after,
+                    ..query
+                })?,
+                None => self.store.scan(PAGE, start_after)?,
+            };
+            print_items(self.teller.rt, form, items.as_slice())?;
+            let Some(item) = items.last() else {
                 break;
-            }
+            };
+            last = Some(self.store.key_of(item)?);
         }
         Ok(Outcome::Done)
-    }
-
-    // Prints the items of a page. Returns the key of the last, if there is one.
-    fn print_page(&self, form: Form, items: &[Item]) -> Answer<Option<Key>> {
-        print_items(self.teller.rt, form, items)?;
-        match items.last() {
-            Some(item) => Ok(Some(self.store.key_of(item)?)),
-            None => Ok(None),
-        }
     }
 
     // Puts the item of an input.
     fn put(&mut self, input: Option<&str>) -> Answer {
         let rt = self.teller.rt;
-        let text = match self.path_of(input)? {
-            Some(path) => read_all(rt.alloc(), self.file(path)?)?,
-            None => read_all(rt.alloc(), rt.reader())?,
+        let mut text = Vec::new(rt.alloc());
+        match self.file(input)? {
+            Some(mut file) => file.read_to_end(&mut text)?,
+            None => rt.reader().read_to_end(&mut text)?,
         };
-        let item = item_of_text(rt.alloc(), self.store, text.as_slice())?;
+        let item = item_of_text(rt.alloc(), &self.store, unmarked(text.as_slice()))?;
         drop(self.store.put(&item)?);
         Ok(Outcome::Done)
     }
 
     // Loads an input.
     fn load(&mut self, input: Option<&str>, flags: Flags) -> Answer {
+        let file = self.file(input)?;
+        let loading = Loading::new(self.teller, &mut self.store, self.table, input, flags);
+        match file {
+            Some(file) => loading.run(file),
+            None => loading.run(self.teller.rt.reader()),
+        }
+    }
+
+    // The file of an input; none for standard input, from which a session reads its commands.
+    fn file(&self, input: Option<&str>) -> Answer<Option<fs::File>> {
         let rt = self.teller.rt;
-        match self.path_of(input)? {
-            Some(path) => {
-                let file = self.file(path)?;
-                self.load_from(file, input, flags)
-            }
-            None => self.load_from(rt.reader(), input, flags),
+        match input {
+            Some(path) => match fs::open(rt, path) {
+                Ok(file) => Ok(Some(file)),
+                Err(error) => Err(Refusal::message(format!(in rt.alloc(); "{path}: {error}"))),
+            },
+            None if self.teller.line.is_some() => Err(Refusal::Text(
+                "in a session the input is a file, so it needs a name",
+            )),
+            None => Ok(None),
         }
-    }
-
-    fn load_from<R: Read + Drop>(
-        &mut self,
-        reader: R,
-        input: Option<&str>,
-        flags: Flags,
-    ) -> Answer {
-        let reader = BufReader::new(self.teller.rt.alloc(), reader)?;
-        Loading::new(self.teller, self.store, self.table, input, flags).run(reader)
-    }
-
-    // The name of an input, which a session's commands have.
-    fn path_of<'i>(&self, input: Option<&'i str>) -> Answer<Option<&'i str>> {
-        if input.is_none() && self.teller.line.is_some() {
-            return Err(self.refusal("in a session the input is a file, so it needs a name"));
-        }
-        Ok(input)
-    }
-
-    // The file of an input.
-    fn file(&self, path: &str) -> Answer<fs::File> {
-        match fs::open(self.teller.rt, path) {
-            Ok(file) => Ok(file),
-            Err(error) => Err(Refusal::message(format!(in self.teller.rt.alloc();
-                "{path}: {error}"
-            ))),
-        }
-    }
-
-    fn refusal(&self, text: &str) -> Refusal {
-        Refusal::message(String::from_str(self.teller.rt.alloc(), text))
     }
 }
 

@@ -55,42 +55,23 @@ impl<'a> Command<'a> {
             _ => None,
         }
     }
-
-    /// The command of the words of a session's line; none where they are no command.
-    pub fn of_line(words: &'a [&'a str]) -> Option<Command<'a>> {
-        match words {
-            [name, words @ ..] => Command::of(name, words),
-            [] => None,
-        }
-    }
-
-    /// Whether the command makes a file that isn't there.
-    pub fn makes_file(&self) -> bool {
-        matches!(self, Command::Create(_, _))
-    }
 }
 
 impl<'a> Asked<'a> {
     // What a name and the words after the table's name ask of a table.
     fn of(name: &str, words: &'a [&'a str]) -> Option<Asked<'a>> {
         let (words, flags) = split_flags(words, name);
-        match (name, words) {
-            ("count", []) => Some(Asked::Count),
-            ("put", []) => Some(Asked::Put(None)),
-            ("put", [input]) => Some(Asked::Put(Some(input))),
-            ("load", []) => Some(Asked::Load(None, flags)),
-            ("load", [input]) => Some(Asked::Load(Some(input), flags)),
-            ("get", [partition]) => Some(Asked::Get(partition, None, flags.form())),
-            ("get", [partition, sort]) => Some(Asked::Get(partition, Some(sort), flags.form())),
-            ("delete", [partition]) => Some(Asked::Delete(partition, None)),
-            ("delete", [partition, sort]) => Some(Asked::Delete(partition, Some(sort))),
-            ("query", [partition, condition @ ..]) => {
-                Some(Asked::Query(partition, condition, flags))
-            }
-            ("scan", []) => Some(Asked::Scan(flags.form())),
-            ("export", []) if flags.plain => Some(Asked::Scan(Form::Plain)),
-            ("export", []) => Some(Asked::Scan(Form::Export)),
-            _ => None,
-        }
+        Some(match (name, words) {
+            ("count", []) => Asked::Count,
+            ("put", [] | [_]) => Asked::Put(words.first().copied()),
+            ("load", [] | [_]) => Asked::Load(words.first().copied(), flags),
+            ("get", [key] | [key, _]) => Asked::Get(key, words.get(1).copied(), flags.form()),
+            ("delete", [key] | [key, _]) => Asked::Delete(key, words.get(1).copied()),
+            ("query", [partition, condition @ ..]) => Asked::Query(partition, condition, flags),
+            ("scan", []) => Asked::Scan(flags.form()),
+            ("export", []) if flags.plain => Asked::Scan(Form::Plain),
+            ("export", []) => Asked::Scan(Form::Export),
+            _ => return None,
+        })
     }
 }

@@ -11,13 +11,10 @@ pub enum Document<'a> {
     Change,
 
     /// The items that `query` and `scan` print.
-    Items(&'a Vec<Value>),
+    Items(&'a [Value]),
 
-    /// The requests of a file for `batch-write-item`.
-    Requests(&'a Vec<Value>),
-
-    /// Nothing, as where all requests were processed.
-    Nothing,
+    /// The requests of a file for `batch-write-item`; none where all were processed.
+    Requests(&'a [Value]),
 }
 
 /// What a JSON value holds for the table of this name.
@@ -31,19 +28,15 @@ pub fn document_of<'a>(
     json: &'a Value,
     table: &str,
 ) -> Result<Document<'a>, Refusal> {
-    if json.get("Item").is_some() {
-        return Ok(Document::Change);
+    match (json.get("Item"), json.get("Items"), json.get("Keys")) {
+        (None, Some(Value::Array(items)), _) => return Ok(Document::Items(items.as_slice())),
+        (Some(_), _, _) | (_, _, Some(Value::Object(_))) => return Ok(Document::Change),
+        _ => {}
     }
-    if let Some(Value::Array(items)) = json.get("Items") {
-        return Ok(Document::Items(items));
-    }
-    if let Some(Value::Object(_)) = json.get("Keys") {
-        return Ok(Document::Change);
-    }
-    match (json.get("RequestItems"), json.get("UnprocessedItems")) {
-        (Some(requests), _) | (None, Some(requests)) => requests_for(alloc, requests, table),
-        (None, None) if has_lists_alone(json) => requests_for(alloc, json, table),
-        (None, None) => Err(Refusal::Input(Fault::NoItem)),
+    match json.get("RequestItems").or(json.get("UnprocessedItems")) {
+        Some(requests) => requests_for(alloc, requests, table),
+        None if has_lists_alone(json) => requests_for(alloc, json, table),
+        None => Err(Refusal::Input(Fault::NoItem)),
     }
 }
 
@@ -54,21 +47,17 @@ fn requests_for<'a>(
     table: &str,
 ) -> Result<Document<'a>, Refusal> {
     match (requests, requests.get(table)) {
-        (_, Some(Value::Array(list))) => Ok(Document::Requests(list)),
-        (Value::Object(object), None) if object.len() == 0 => Ok(Document::Nothing),
+        (_, Some(Value::Array(list))) => Ok(Document::Requests(list.as_slice())),
+        (Value::Object(object), None) if object.len() == 0 => Ok(Document::Requests(&[])),
         _ => Err(Refusal::message(format!(in alloc; "it has no requests for the table {table}"))),
     }
 }
 
 // Whether the value is an object of lists, with one of them at least.
 fn has_lists_alone(json: &Value) -> bool {
-    let Value::Object(object) = json else {
-        return false;
-    };
-    for (_, value) in object.iter() {
-        if !value.is_array() {
-            return false;
-        }
+    match json {
+        Value::Object(object) => object.len() > 0
+            && object.iter().all(|(_, value)| value.is_array()),
+        _ => false,
     }
-    object.len() > 0
 }

@@ -1,16 +1,25 @@
 //! The file of the tables.
+use crate::command::Command;
 use crate::refusal::{Answer, Refusal};
 use sqlite::{Connection, File, FileStore};
 use std::fs;
+use table_keys::KeySchema;
 
-/// The database of a file, which is made where `makes` says so and there is none.
+/// The database of a file.
+pub type Database = Connection<FileStore<File>>;
+
+/// Opens the database of a file for a command. Only `create` makes a file that isn't there, and
+/// none for a table whose keys don't read.
 ///
 /// # Errors
 ///
-/// A `Message` if there is no file; `Table` if the file is no database, or can't be opened.
-pub fn open(rt: &HostRuntime, path: &str, makes: bool) -> Answer<Connection<FileStore<File>>> {
-    if !makes && !fs::exists(rt, path)? {
-        return Err(Refusal::message(String::from_str(rt.alloc(), "there is no such file")));
+/// A `Text` if there is no file; `Table` if the words of a table's keys don't read, or if the file
+/// is no database, or can't be opened.
+pub fn open_for(rt: &HostRuntime, path: &str, command: Command<'_>) -> Answer<Database> {
+    if let Command::Create(_, words) = command {
+        drop(KeySchema::parse(rt.alloc(), words)?);
+    } else if !fs::exists(rt, path)? {
+        return Err(Refusal::Text("there is no such file"));
     }
     Ok(Connection::open(rt, path)?)
 }
@@ -20,7 +29,7 @@ pub fn open(rt: &HostRuntime, path: &str, makes: bool) -> Answer<Connection<File
 /// # Errors
 ///
 /// The error of the answer, and `Table` if the file can't be written.
-pub fn close(conn: Option<Connection<FileStore<File>>>, answer: Answer) -> Answer {
+pub fn close(conn: Option<Database>, answer: Answer) -> Answer {
     let Some(conn) = conn else {
         return answer;
     };

@@ -55,17 +55,13 @@ fn attribute_value(alloc: Global, json: &Value<'_>) -> Result<AttributeValue, Al
         Value::Bool(flag) => AttributeValue::Bool(*flag),
         Value::Number(text) => AttributeValue::N(String::from_str(alloc, text)?),
         Value::String(text) => AttributeValue::S(String::from_str(alloc, text)?),
-        Value::Array(items) => AttributeValue::L(elements(alloc, items)?),
+        Value::Array(items) => {
+            let mut values = Vec::with_capacity(alloc, items.len())?;
+            for json in items {
+                values.push(attribute_value(alloc, json)?)?;
+            }
+            AttributeValue::L(values)
+        }
         Value::Object(members) => AttributeValue::M(attributes(alloc, members)?),
     })
-}
-
-// The attribute values of the elements of an array.
-#[cycle(read)]
-fn elements(alloc: Global, items: &Vec<Value<'_>>) -> Result<Vec<AttributeValue>, AllocError> {
-    let mut values = Vec::with_capacity(alloc, items.len())?;
-    for json in items {
-        values.push(attribute_value(alloc, json)?)?;
-    }
-    Ok(values)
 }

@@ -69,20 +69,19 @@ pub fn item_refusal(alloc: Global, schema: &KeySchema, item: &Item, error: Store
 fn refusal_of(alloc: Global, attribute: &KeyAttribute, text: &str, error: TableError) -> Refusal {
     let name = attribute.name.as_str();
     let kind = attribute.kind.name();
+    let wanted = match error {
+        TableError::NotBase64 => "base64 text",
+        _ => "number",
+    };
     Refusal::message(match error {
         TableError::Missing => format!(in alloc; "the key attribute \"{name}\" is missing"),
         TableError::WrongKind => {
             format!(in alloc; "the key attribute \"{name}\" is not of kind {kind}")
         }
         TableError::Empty => format!(in alloc; "the key attribute \"{name}\" is empty"),
-        TableError::NotANumber => {
+        TableError::NotANumber | TableError::NotBase64 => {
             format!(in alloc;
-                "\"{text}\" is no number (the key attribute \"{name}\" is of kind {kind})"
-            )
-        }
-        TableError::NotBase64 => {
-            format!(in alloc;
-                "\"{text}\" is no base64 text (the key attribute \"{name}\" is of kind {kind})"
+                "\"{text}\" is no {wanted} (the key attribute \"{name}\" is of kind {kind})"
             )
         }
         _ => return Refusal::from(error),

@@ -3,9 +3,8 @@ use crate::at_table::PAGE;
 use crate::document::{Document, document_of};
 use crate::from_plain::item_of_plain;
 use crate::key_words::item_refusal;
-use crate::place::Place;
 use crate::refusal::{Answer, Outcome, Refusal};
-use crate::teller::Teller;
+use crate::teller::{Place, Teller};
 use crate::text::{Start, first_value, unmarked};
 use crate::words::{Flags, MAX_LINE};
 use dynamo_place::DynamoJsonLocated;
@@ -15,7 +14,7 @@ use json::{Scratch, is_valid};
 use serde_json::Value;
 use sqlite::Alter;
 use std::alloc::{AllocError, Global};
-use std::io::{BufRead, IsTerminal, Read};
+use std::io::{BufRead, BufReader, IsTerminal, Read};
 use std::str;
 use table_store::{StoreError, TableStore};
 
@@ -66,8 +65,8 @@ impl<'r, 'a, 'i, S: Alter + Drop> Loading<'r, 'a, 'i, S> {
     /// # Errors
     ///
     /// Those of the table, and of the input. What was loaded stays.
-    pub fn run<R: BufRead + Drop>(mut self, reader: R) -> Answer {
-        let mut lines = self.lines(reader);
+    pub fn run<R: Read + Drop>(mut self, reader: R) -> Answer {
+        let mut lines = self.lines(BufReader::new(self.alloc(), reader)?);
         match self.first_line(&mut lines)? {
             Some(first) if !self.is_json(first.as_slice())? => {
                 let text = self.whole_text(first.as_slice(), lines)?;
@@ -97,22 +96,19 @@ impl<'r, 'a, 'i, S: Alter + Drop> Loading<'r, 'a, 'i, S> {
     // line is too long, which is a fault.
     fn first_line<R: BufRead>(&mut self, lines: &mut Lines<R>) -> Answer<Option<Vec<u8>>> {
         for _ in 0..u64::MAX {
-            let Some(line) = lines.next_text() else {
-                break;
-            };
-            let line = match line {
-                Ok(line) => line,
-                Err(fault @ Fault::TooLong(_)) => {
+            let line = match lines.next_text() {
+                Some(Ok(line)) => line,
+                Some(Err(fault @ Fault::TooLong(_))) => {
                     self.tell(self.at(lines.number()), Refusal::from(fault));
-                    return Ok(None);
+                    break;
                 }
-                Err(fault) => return Err(Refusal::from(fault)),
+                Some(Err(fault)) => return Err(Refusal::from(fault)),
+                None => break,
             };
-            let text = if lines.number() == 1 {
-                unmarked(line.as_slice())
-            } else {
-                line.as_slice()
-            };
+            let mut text = line.as_slice();
+            if lines.number() == 1 {
+                text = unmarked(text);
+            }
             if !text.trim_ascii_start().is_empty() {
                 return Ok(Some(Vec::from_slice(self.alloc(), text)?));
             }
@@ -136,8 +132,7 @@ impl<'r, 'a, 'i, S: Alter + Drop> Loading<'r, 'a, 'i, S> {
             text.push(b'\n')?;
         }
         text.extend_from_slice(first)?;
-        let mut reader = lines.into_reader();
-        reader.read_to_end(&mut text)?;
+        lines.into_reader().read_to_end(&mut text)?;
         Ok(text)
     }
 
@@ -169,8 +164,7 @@ impl<'r, 'a, 'i, S: Alter + Drop> Loading<'r, 'a, 'i, S> {
                 break;
             }
             let blank = rest.len().saturating_sub(value.len());
-            let (before, _) = rest.split_at_checked(blank).unwrap_or((&[], rest));
-            start = start.behind(before);
+            start = start.behind(rest.get(..blank).unwrap_or(&[]));
             let (value, behind) = first_value(value);
             if turn == 0 && self.flags.keep_going && !self.is_json(value)? {
                 return self.take_lines(&mut self.lines(text));
@@ -187,8 +181,8 @@ impl<'r, 'a, 'i, S: Alter + Drop> Loading<'r, 'a, 'i, S> {
         let (alloc, place) = (self.alloc(), self.at(start.line));
         if self.flags.plain {
             let item = item_of_plain(alloc, &mut self.scratch, text);
-            let put = item.map(Request::Put);
-            return self.take(place, put.map_err(|fault| start.shifted(fault)));
+            let item = item.map_err(|fault| start.shifted(fault));
+            return self.take(place, item.map(Request::Put));
         }
         if let Some(item) = item_alone(alloc, &mut self.scratch, text)? {
             return self.take(place, Ok(Request::Put(item)));
@@ -205,7 +199,6 @@ impl<'r, 'a, 'i, S: Alter + Drop> Loading<'r, 'a, 'i, S> {
             Ok(Document::Change) => self.take(self.at(line), change_of(self.alloc(), json)),
             Ok(Document::Items(items)) => self.take_each(line, items, false),
             Ok(Document::Requests(requests)) => self.take_each(line, requests, true),
-            Ok(Document::Nothing) => Ok(()),
             Err(refusal) => {
                 self.tell(self.at(line), refusal);
                 Ok(())
@@ -214,7 +207,7 @@ impl<'r, 'a, 'i, S: Alter + Drop> Loading<'r, 'a, 'i, S> {
     }
 
     // Takes the entries of a list, in order: requests, or items that are put.
-    fn take_each(&mut self, line: u64, list: &Vec<Value>, are_requests: bool) -> Answer<()> {
+    fn take_each(&mut self, line: u64, list: &[Value], are_requests: bool) -> Answer<()> {
         let alloc = self.alloc();
         let mut entry: u64 = 0;
         for json in list {
@@ -227,11 +220,11 @@ impl<'r, 'a, 'i, S: Alter + Drop> Loading<'r, 'a, 'i, S> {
                 ..self.at(line)
             };
             let request = if are_requests {
-                request_of(alloc, json)
+                one_request_located(alloc, json)
             } else {
-                put_of(alloc, json)
+                Item::from_json_located(alloc, json).map(Request::Put)
             };
-            self.take(place, request)?;
+            self.take(place, request.map_err(Fault::from))?;
         }
         Ok(())
     }
@@ -240,28 +233,22 @@ impl<'r, 'a, 'i, S: Alter + Drop> Loading<'r, 'a, 'i, S> {
     fn take(&mut self, place: Place<'i>, request: Result<Request, Fault>) -> Answer<()> {
         match request {
             Ok(Request::Put(item)) => match self.store.check(&item) {
-                Ok(()) => self.put(item),
-                Err(error) => {
-                    self.tell_item(place, &item, error);
-                    Ok(())
-                }
+                Ok(()) => self.put(item)?,
+                Err(error) => self.tell_item(place, &item, error),
             },
-            Ok(Request::Delete(key)) => self.delete(place, &key),
-            Err(fault) => {
-                self.tell(place, Refusal::from(fault));
-                Ok(())
-            }
+            Ok(Request::Delete(key)) => self.delete(place, &key)?,
+            Err(fault) => self.tell(place, Refusal::from(fault)),
         }
+        Ok(())
     }
 
     // Puts an item, which waits for a transaction of some hundred.
     fn put(&mut self, item: Item) -> Answer<()> {
         self.waiting.push(item)?;
-        if self.waiting.len() < PAGE {
-            Ok(())
-        } else {
-            self.write()
+        if self.waiting.len() >= PAGE {
+            self.write()?;
         }
+        Ok(())
     }
 
     // Deletes the item of a key, after the items that wait are in the table.
@@ -283,8 +270,7 @@ impl<'r, 'a, 'i, S: Alter + Drop> Loading<'r, 'a, 'i, S> {
             return Ok(());
         }
         self.store.write_all(self.waiting.as_slice())?;
-        let count = u64::try_from(self.waiting.len()).unwrap_or(u64::MAX);
-        self.loaded = self.loaded.saturating_add(count);
+        self.loaded = self.loaded.saturating_add(self.waiting.len() as u64);
         self.waiting.clear();
         let rt = self.teller.rt;
         if rt.stderr().is_terminal() {
@@ -299,11 +285,10 @@ impl<'r, 'a, 'i, S: Alter + Drop> Loading<'r, 'a, 'i, S> {
         if rt.stderr().is_terminal() {
             let _ = eprintln!(rt; "");
         }
-        let count = self.broken;
-        match count {
+        match self.broken {
             0 => Ok(Outcome::Done),
             1 if !self.flags.keep_going => Ok(Outcome::Told),
-            _ => Err(Refusal::message(format!(in rt.alloc();
+            count => Err(Refusal::message(format!(in rt.alloc();
                 "lines that are not loaded: {count}"
             ))),
         }
@@ -334,14 +319,4 @@ impl<'r, 'a, 'i, S: Alter + Drop> Loading<'r, 'a, 'i, S> {
         let refusal = item_refusal(self.alloc(), self.store.schema(), item, error);
         self.tell(place, refusal);
     }
-}
-
-// The put of an item in a list.
-fn put_of(alloc: Global, json: &Value) -> Result<Request, Fault> {
-    Ok(Request::Put(Item::from_json_located(alloc, json)?))
-}
-
-// The request in a list.
-fn request_of(alloc: Global, json: &Value) -> Result<Request, Fault> {
-    Ok(one_request_located(alloc, json)?)
 }

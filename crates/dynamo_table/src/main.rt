@@ -8,7 +8,6 @@ mod file;
 mod from_plain;
 mod key_words;
 mod load;
-mod place;
 mod print;
 mod put;
 mod refusal;

@@ -4,7 +4,7 @@ use crate::refusal::Answer;
 use dynamo_json::DynamoJson;
 use dynamo_place::DynamoJsonLocated;
 use dynamo_value::Item;
-use exports::json_of;
+use exports::{Fault, json_of};
 use serde_json::Value;
 use sqlite::Alter;
 use std::alloc::Global;
@@ -31,18 +31,17 @@ pub fn item_of_text<S: Alter + Drop>(
     }
 }
 
-fn read_item<S: Alter + Drop>(alloc: Global, store: &TableStore<S>, json: &Value) -> Answer<Item> {
-    let Some(inner) = json.get("Item") else {
-        return Ok(item_of(alloc, json)?);
-    };
-    if let Ok(item) = Item::from_json(alloc, json)
+fn read_item<S: Alter + Drop>(
+    alloc: Global,
+    store: &TableStore<S>,
+    json: &Value,
+) -> Result<Item, Fault> {
+    let inner = json.get("Item");
+    if inner.is_some()
+        && let Ok(item) = Item::from_json(alloc, json)
         && store.key_of(&item).is_ok()
     {
         return Ok(item);
     }
-    Ok(item_of(alloc, inner)?)
-}
-
-fn item_of(alloc: Global, json: &Value) -> Result<Item, exports::Fault> {
-    Ok(Item::from_json_located(alloc, json)?)
+    Ok(Item::from_json_located(alloc, inner.unwrap_or(json))?)
 }

@@ -28,6 +28,9 @@ pub enum Refusal {
     /// A message that names what is wrong.
     Message(String),
 
+    /// A message that is always the same.
+    Text(&'static str),
+
     /// What a table or its database refuses.
     Table(StoreError),
 
@@ -97,6 +100,7 @@ impl fmt::Display for Refusal {
     fn fmt<W: fmt::Write>(&self, f: &mut fmt::Formatter<W>) -> fmt::Result {
         match self {
             Refusal::Message(text) => f.write_str(text.as_str()),
+            Refusal::Text(text) => f.write_str(text),
             Refusal::Table(error) => write!(f, "{error}"),
             Refusal::Input(fault) => write!(f, "{fault}"),
             Refusal::Io(error) => write!(f, "{error}"),

@@ -1,16 +1,12 @@
 //! A session: commands, a line each, on a file that is opened once.
 use crate::command::Command;
-use crate::file::close;
+use crate::file::{Database, close, open_for};
 use crate::refusal::{Answer, Outcome, Refusal};
-use crate::run::{open_for, run_command};
+use crate::run::run_command;
 use crate::teller::Teller;
 use crate::words::{MAX_LINE, words_in};
 use exports::{Fault, Lines};
-use sqlite::{Connection, File, FileStore};
 use std::io::BufReader;
-
-// The file of a session, from the first command on that opens it.
-type Opened = Option<Connection<FileStore<File>>>;
 
 /// Runs the commands of the input's lines on the tables of a file. It goes on after a command that
 /// is refused.
@@ -21,7 +17,8 @@ type Opened = Option<Connection<FileStore<File>>>;
 pub fn run(rt: &HostRuntime, path: &str) -> Answer {
     let reader = BufReader::new(rt.alloc(), rt.reader())?;
     let mut lines = Lines::with_limit(rt.alloc(), reader, MAX_LINE);
-    let mut conn: Opened = None;
+    // The file, from the first command on that opens it.
+    let mut conn: Option<Database> = None;
     let mut outcome = Outcome::Done;
     for _ in 0..u64::MAX {
         let Some(line) = lines.next_text() else {
@@ -31,12 +28,11 @@ pub fn run(rt: &HostRuntime, path: &str) -> Answer {
             rt,
             line: Some(lines.number()),
         };
-        let (kept, answer) = match line {
-            Ok(line) => run_line(teller, path, conn, line.as_slice()),
-            Err(fault @ Fault::TooLong(_)) => (conn, Err(Refusal::from(fault))),
+        let answer = match line {
+            Ok(line) => run_line(teller, path, &mut conn, line.as_slice()),
+            Err(fault @ Fault::TooLong(_)) => Err(Refusal::from(fault)),
             Err(fault) => return Err(Refusal::from(fault)),
         };
-        conn = kept;
         if !is_done(teller, answer) {
             outcome = Outcome::Told;
         }
@@ -47,43 +43,28 @@ pub fn run(rt: &HostRuntime, path: &str) -> Answer {
 // Returns whether a command did what its line asks for. Else it prints why not.
 fn is_done(teller: Teller<'_>, answer: Answer) -> bool {
     match answer {
-        Ok(Outcome::Done) => true,
-        Ok(Outcome::Told) => false,
-        Ok(Outcome::Usage) => {
-            teller.tell("these words are no command");
-            false
-        }
-        Err(refusal) => {
-            teller.tell(refusal);
-            false
-        }
+        Ok(Outcome::Done) => return true,
+        Ok(Outcome::Told) => {}
+        Ok(Outcome::Usage) => teller.tell("these words are no command"),
+        Err(refusal) => teller.tell(refusal),
     }
+    false
 }
 
-// Runs the command of a line.
-fn run_line(teller: Teller<'_>, path: &str, conn: Opened, line: &[u8]) -> (Opened, Answer) {
-    let words = match words_in(teller.rt.alloc(), line) {
-        Ok(words) => words,
-        Err(refusal) => return (conn, Err(refusal)),
+// Runs the command of a line on the session's file, which is opened where it isn't yet.
+fn run_line(teller: Teller<'_>, path: &str, conn: &mut Option<Database>, line: &[u8]) -> Answer {
+    let words = words_in(teller.rt.alloc(), line)?;
+    let [name, words @ ..] = words.as_slice() else {
+        return Ok(Outcome::Usage);
     };
-    let Some(command) = Command::of_line(words.as_slice()) else {
-        return (conn, Ok(Outcome::Usage));
+    let Some(command) = Command::of(name, words) else {
+        return Ok(Outcome::Usage);
     };
-    match opened(teller, path, conn, command) {
-        Ok(conn) => run_command(teller, conn, command),
-        Err(refusal) => (None, Err(refusal)),
-    }
-}
-
-// The session's file, which is opened where it isn't yet.
-fn opened(
-    teller: Teller<'_>,
-    path: &str,
-    conn: Opened,
-    command: Command<'_>,
-) -> Result<Connection<FileStore<File>>, Refusal> {
-    match conn {
-        Some(conn) => Ok(conn),
-        None => open_for(teller.rt, path, command),
-    }
+    let opened = match conn.take() {
+        Some(conn) => conn,
+        None => open_for(teller.rt, path, command)?,
+    };
+    let (kept, answer) = run_command(teller, opened, command);
+    *conn = kept;
+    answer
 }

@@ -1,5 +1,6 @@
 //! The tables of a file: their list, and how one is made and deleted.
 use crate::key_words::words_of;
+use crate::print::print_text;
 use crate::refusal::{Answer, Outcome, Refusal};
 use sqlite::{Alter, Connection, params};
 use std::alloc::Global;
@@ -14,13 +15,14 @@ const DROP_ITEMS: &str = "DELETE FROM dynamo_item WHERE table_id = ?1";
 
 const DROP_TABLE: &str = "DELETE FROM dynamo_table WHERE id = ?1";
 
-/// The lines of the tables: the name, the words of the keys and how many items there are, with tabs
-/// between.
+/// Prints a line for each table: the name, the words of the keys and how many items there are, with
+/// tabs between.
 ///
 /// # Errors
 ///
-/// `Table` if the database fails.
-pub fn list<S: Alter>(alloc: Global, conn: &mut Connection<S>) -> Answer<String> {
+/// `Table` if the database fails, and what the output refuses.
+pub fn print_list<S: Alter>(rt: &HostRuntime, conn: &mut Connection<S>) -> Answer {
+    let alloc = rt.alloc();
     make_tables(conn)?;
     let mut text = String::new(alloc);
     for row in conn.query_all(NAMES, &[])?.iter() {
@@ -30,7 +32,7 @@ pub fn list<S: Alter>(alloc: Global, conn: &mut Connection<S>) -> Answer<String>
         let items = count(conn, table.id)?;
         writeln!(text, "{name}\t{keys}\t{items}")?;
     }
-    Ok(text)
+    print_text(rt, text.as_bytes())
 }
 
 /// The table of a name.
@@ -40,21 +42,17 @@ pub fn list<S: Alter>(alloc: Global, conn: &mut Connection<S>) -> Answer<String>
 /// `Table` if there is none, or the database fails.
 pub fn find<S: Alter>(alloc: Global, conn: &mut Connection<S>, name: &str) -> Answer<Definition> {
     make_tables(conn)?;
-    match Definition::find(alloc, conn, name)? {
-        Some(table) => Ok(table),
-        None => Err(Refusal::Table(StoreError::NoTable)),
-    }
+    Definition::find(alloc, conn, name)?.ok_or(Refusal::Table(StoreError::NoTable))
 }
 
 /// Makes a table with the keys of these words, and gives the connection back, unless the database
 /// failed. A table that is there with the same keys is left as it is.
 pub fn create<S: Alter + Drop>(
     alloc: Global,
-    conn: Connection<S>,
+    mut conn: Connection<S>,
     name: &str,
     words: &[&str],
 ) -> (Option<Connection<S>>, Answer) {
-    let mut conn = conn;
     match new_schema(alloc, &mut conn, name, words) {
         Ok(schema) => match TableStore::create(alloc, conn, name, schema) {
             Ok(store) => (Some(store.into_connection()), Ok(Outcome::Done)),
@@ -75,21 +73,13 @@ fn new_schema<S: Alter>(
     make_tables(conn)?;
     match Definition::find(alloc, conn, name)? {
         Some(table) if table.schema != schema => {
-            Err(other_keys(alloc, name, &table.schema, &schema))
+            let found = words_of(alloc, &table.schema)?;
+            let asked = words_of(alloc, &schema)?;
+            Err(Refusal::message(format!(in alloc;
+                "the table {name} has the keys {found}, not {asked}"
+            )))
         }
         _ => Ok(schema),
-    }
-}
-
-// That a table has other keys than those that are asked for.
-fn other_keys(alloc: Global, name: &str, found: &KeySchema, asked: &KeySchema) -> Refusal {
-    match (words_of(alloc, found), words_of(alloc, asked)) {
-        (Ok(found), Ok(asked)) => {
-            Refusal::message(format!(in alloc;
-                "the table {name} has the keys {found}, not {asked}"
-            ))
-        }
-        _ => Refusal::Table(StoreError::OutOfMemory),
     }
 }
 

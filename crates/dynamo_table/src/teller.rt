@@ -1,5 +1,5 @@
-//! Faults on standard error.
-use std::fmt::Display;
+//! Faults on standard error, and where in an input they are.
+use std::fmt;
 
 /// Prints faults, after the number of a session's line where there is one.
 #[derive(Clone, Copy, Drop)]
@@ -18,10 +18,36 @@ impl<'r> Teller<'r> {
     }
 
     /// Prints a fault.
-    pub fn tell<F: Display + Drop>(self, fault: F) {
+    pub fn tell<F: fmt::Display + Drop>(self, fault: F) {
         let _ = match self.line {
             Some(line) => eprintln!(self.rt; "error: line {line}: {fault}"),
             None => eprintln!(self.rt; "error: {fault}"),
         };
+    }
+}
+
+/// The line of an input, and in a list of items or requests that begins there the number of one.
+#[derive(Clone, Copy, Debug, Drop)]
+pub struct Place<'a> {
+    /// The name of the input's file, where it has one.
+    pub input: Option<&'a str>,
+
+    /// The line, from 1 on.
+    pub line: u64,
+
+    /// The number in a list, from 1 on.
+    pub entry: Option<u64>,
+}
+
+impl fmt::Display for Place<'_> {
+    fn fmt<W: fmt::Write>(&self, f: &mut fmt::Formatter<W>) -> fmt::Result {
+        if let Some(input) = self.input {
+            write!(f, "{input}, ")?;
+        }
+        write!(f, "line {}", self.line)?;
+        if let Some(entry) = self.entry {
+            write!(f, ", entry {entry}")?;
+        }
+        Ok(())
     }
 }

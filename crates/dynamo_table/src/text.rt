@@ -1,23 +1,5 @@
 //! The text of an input: its byte order mark, and the JSON values in it.
 use exports::{Fault, Position};
-use std::alloc::Global;
-use std::io;
-use std::io::Read;
-
-/// All bytes of a reader, but for a byte order mark at their head.
-///
-/// # Errors
-///
-/// What the reader fails with.
-pub fn read_all<R: Read + Drop>(alloc: Global, reader: R) -> io::Result<Vec<u8>> {
-    let mut reader = reader;
-    let mut bytes = Vec::new(alloc);
-    reader.read_to_end(&mut bytes)?;
-    if bytes.starts_with(MARK) {
-        return Ok(Vec::from_slice(alloc, unmarked(bytes.as_slice()))?);
-    }
-    Ok(bytes)
-}
 
 const MARK: &[u8] = b"\xEF\xBB\xBF";
 
@@ -29,11 +11,7 @@ pub fn unmarked(text: &[u8]) -> &[u8] {
 /// The part of a text that its first JSON value is in, and what is after it. A text that begins
 /// with no JSON value is split somewhere.
 pub fn first_value(text: &[u8]) -> (&[u8], &[u8]) {
-    let mut scan = Scan {
-        depth: 0,
-        in_string: false,
-        is_escaped: false,
-    };
+    let mut scan = Scan::default();
     let mut length: usize = 0;
     for byte in text {
         length = length.saturating_add(1);
@@ -45,7 +23,7 @@ pub fn first_value(text: &[u8]) -> (&[u8], &[u8]) {
 }
 
 // What is open in a JSON text.
-#[derive(Drop)]
+#[derive(Default, Drop)]
 struct Scan {
     // How many objects and arrays.
     depth: usize,
@@ -120,9 +98,7 @@ impl Start {
             let column = position.column.saturating_add(self.column);
             return Position { line: 1, column };
         }
-        let before = usize::try_from(self.line)
-            .unwrap_or(usize::MAX)
-            .saturating_sub(1);
+        let before = (self.line as usize).saturating_sub(1);
         Position {
             line: position.line.saturating_add(before),
             column: position.column,

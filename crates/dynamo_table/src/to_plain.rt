@@ -46,24 +46,17 @@ fn write_value(
         AttributeValue::B(bytes) => blob(alloc, writer, bytes.as_slice()),
         AttributeValue::Null(_) => writer.null(),
         AttributeValue::M(map) => members(alloc, writer, map),
-        AttributeValue::L(list) => elements(alloc, writer, list),
+        AttributeValue::L(list) => {
+            writer.begin_array()?;
+            for value in list {
+                write_value(alloc, writer, value)?;
+            }
+            writer.end_array()
+        }
         AttributeValue::Ss(set) => strings(writer, set),
         AttributeValue::Ns(set) => numbers(writer, set),
         AttributeValue::Bs(set) => blobs(alloc, writer, set),
     }
-}
-
-#[cycle(write)]
-fn elements(
-    alloc: Global,
-    writer: &mut Writer,
-    list: &Vec<AttributeValue>,
-) -> Result<(), AllocError> {
-    writer.begin_array()?;
-    for value in list {
-        write_value(alloc, writer, value)?;
-    }
-    writer.end_array()
 }
 
 fn strings(writer: &mut Writer, set: &Vec<String>) -> Result<(), AllocError> {

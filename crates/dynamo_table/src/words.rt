@@ -9,7 +9,7 @@ use std::{mem, str};
 pub const MAX_LINE: usize = 4 << 20;
 
 /// The flags after a command's other words.
-#[derive(Clone, Copy, Drop)]
+#[derive(Clone, Copy, Default, Drop)]
 pub struct Flags {
     /// `--backward`: a query goes from the greatest sort key to the least.
     pub backward: bool,
@@ -28,15 +28,6 @@ pub struct Flags {
 }
 
 impl Flags {
-    /// No flags.
-    pub const NONE: Flags = Flags {
-        backward: false,
-        keep_going: false,
-        max_line: None,
-        plain: false,
-        pretty: false,
-    };
-
     // Sets the flag of a word, if there is one and it isn't set yet, and returns whether it did.
     fn set(&mut self, word: &str) -> bool {
         let flag = match word {
@@ -51,13 +42,11 @@ impl Flags {
 
     // Sets the longest line, if the words are that flag and a number, and it isn't set yet.
     fn set_max_line(&mut self, flag: &str, bytes: &str) -> bool {
-        match bytes.parse::<usize>() {
-            Ok(bytes) if flag == "--max-line" && self.max_line.is_none() => {
-                self.max_line = Some(bytes);
-                true
-            }
-            _ => false,
+        if flag != "--max-line" || self.max_line.is_some() {
+            return false;
         }
+        self.max_line = bytes.parse::<usize>().ok();
+        self.max_line.is_some()
     }
 
     /// The form in which items are printed alone.
@@ -84,7 +73,7 @@ fn takes(command: &str, flag: &str) -> bool {
 /// Returns the words before the flags at their end, and the flags. Each flag that the command takes
 /// may be given once.
 pub fn split_flags<'a>(words: &'a [&'a str], command: &str) -> (&'a [&'a str], Flags) {
-    let mut flags = Flags::NONE;
+    let mut flags = Flags::default();
     let mut length = words.len();
     // A word that is the value of the flag before it, if there is one.
     let mut value = None;
@@ -110,11 +99,11 @@ pub fn split_flags<'a>(words: &'a [&'a str], command: &str) -> (&'a [&'a str], F
 ///
 /// # Errors
 ///
-/// A `Message` if the line is no text by UTF-8, if a quote isn't closed, or if no blank follows a
+/// A `Text` if the line is no text by UTF-8, if a quote isn't closed, or if no blank follows a
 /// closing quote.
 pub fn words_in(alloc: Global, line: &[u8]) -> Answer<Vec<&str>> {
     let Ok(line) = str::from_utf8(line) else {
-        return Err(told(alloc, "it is no text by UTF-8"));
+        return Err(Refusal::Text("it is no text by UTF-8"));
     };
     let mut words = Vec::new(alloc);
     let mut rest = line.trim();
@@ -123,19 +112,12 @@ pub fn words_in(alloc: Global, line: &[u8]) -> Answer<Vec<&str>> {
             break;
         }
         let Some((word, behind)) = first_word(rest) else {
-            return Err(told(
-                alloc,
-                "a quote is not closed, or a blank is missing behind it",
-            ));
+            return Err(Refusal::Text("a quote is not closed, or a blank is missing behind it"));
         };
         words.push(word)?;
         rest = behind.trim_start();
     }
     Ok(words)
-}
-
-fn told(alloc: Global, text: &str) -> Refusal {
-    Refusal::message(String::from_str(alloc, text))
 }
 
 // The word that a text begins with, and what is after it.
@@ -144,9 +126,6 @@ fn first_word(text: &str) -> Option<(&str, &str)> {
         return Some(text.split_once(char::is_whitespace).unwrap_or((text, "")));
     };
     let (word, behind) = quoted.split_once('"')?;
-    if behind.is_empty() || behind.starts_with(char::is_whitespace) {
-        Some((word, behind))
-    } else {
-        None
-    }
+    let is_closed = behind.is_empty() || behind.starts_with(char::is_whitespace);
+    is_closed.then_some((word, behind))
 }
