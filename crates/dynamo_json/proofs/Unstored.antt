@@ -1,8 +1,8 @@
 -- What was written of an attribute value as plain JSON, and what is left to write.
-use Rattle.std.proofs.Common.{◌≡◌, ℕ, ℤ, pos, negsuc, Bool, true, false, List, [], ◌∷◌, ◌++◌, Option, Some, None, Result}
-use Rattle.std.proofs.Common.{Ok, Err, refl, sym, ap, ◌∙◌, subst, append_assoc}
+use Rattle.std.proofs.Common.{◌≡◌, ◌⊎◌, ℕ, ℤ, pos, negsuc, Bool, true, false, List, [], ◌∷◌, ◌++◌, Some, None, Result}
+use Rattle.std.proofs.Common.{Ok, Err, inl, inr, refl, sym, ap, ◌∙◌, subst, append_assoc}
 use Rattle.dynamo_json.proofs.Common.{decimal, signed_decimal, is_sorted, T, Token, key, Data, Av}
-use Rattle.dynamo_json.proofs.Common.{Fault, failed_to_parse_float, ◌>>=◌, text_cmp, Alike}
+use Rattle.dynamo_json.proofs.Common.{Fault, failed_to_parse_float, out_of_memory, ◌>>=◌, text_cmp, Alike}
 use Rattle.dynamo_json.proofs.Common.{collect-sorted, sorted_alike, entries, behind, plain_members}
 use Rattle.dynamo_json.proofs.Common.{plain_number, plain_numbers, tokens_in, tokens_within}
 use Rattle.dynamo_json.proofs.Common.{tokens_of}
@@ -10,12 +10,13 @@ use Rattle.serde_json.specs.Data as json
 use Rattle.dynamo_value.specs.Av as av
 use Rattle.std.specs.Prelude.{if◌then◌else◌}
 use Rattle.dynamo_value.specs.Integer.{i64, u64}
+use Rattle.dynamo_value.specs.Refusal.{Refusal, Refused, Says, any_message, fault, refusal_in}
 use Rattle.dynamo_de.specs.Answer as answer
 use Rattle.dynamo_de.specs.Answer.{Answer}
 use Rattle.dynamo_de.specs.Number.{parse, is_float_text}
 use Rattle.dynamo_de.specs.ReadJson.{number, read_value, read_elements, read_members, read_number, read_numbers}
 use Rattle.dynamo_json.specs.Plain.{members_of}
-use Rattle.dynamo_json.specs.StoredText.{plain, plain_elements}
+use Rattle.dynamo_json.specs.StoredText.{Lacks, plain, plain_elements, number_refusal}
 use Rattle.dynamo_json.proofs.JsonBack.{ReadsAs, collected_back, members_again}
 
 -- ---- a number
@@ -26,21 +27,22 @@ signed_token (negsuc n) = refl
 
 -- an integer of 64 bits
 pub signed_read : (so_far : List Token) (text : List ℕ) (z : ℤ) → parse i64 text ≡ Some z
-    → plain_number so_far text ≡ Some (so_far ++ Token.number (signed_decimal z) ∷ [])
-signed_read so_far text z reads = rw reads (ap (λ ts. Some (so_far ++ ts)) (signed_token z))
+    → plain_number so_far text ≡ Ok (so_far ++ Token.number (signed_decimal z) ∷ [])
+signed_read so_far text z reads = rw reads (ap (λ ts. Ok (so_far ++ ts)) (signed_token z))
 
 -- one without a sign, which no i64 holds
 pub unsigned_read : (so_far : List Token) (text : List ℕ) (n : ℕ) → parse i64 text ≡ None → parse u64 text ≡ Some (pos n)
-    → plain_number so_far text ≡ Some (so_far ++ Token.number (decimal n) ∷ [])
+    → plain_number so_far text ≡ Ok (so_far ++ Token.number (decimal n) ∷ [])
 unsigned_read so_far text n none reads = rw (none, reads) refl
 
-no_integer : (so_far : List Token) (is : Bool) (f : Fault)
-    → behind {A = Data} tokens_of so_far (if is then answer.refused else answer.fault f) ≡ None
-no_integer so_far true f = refl
-no_integer so_far false f = refl
+no_number_behind : (so_far : List Token) (is : Bool) (f : Fault)
+    → behind {A = Data} tokens_of so_far (if is then answer.refused else answer.fault f) ≡ Err (if is then any_message else fault f)
+no_number_behind so_far true f = refl
+no_number_behind so_far false f = refl
 
-pub no_number : (so_far : List Token) (text : List ℕ) → parse i64 text ≡ None → parse u64 text ≡ None → plain_number so_far text ≡ None
-no_number so_far text none nor = rw (none, nor) (no_integer so_far (is_float_text text) (failed_to_parse_float text))
+pub no_number : (so_far : List Token) (text : List ℕ) → parse i64 text ≡ None → parse u64 text ≡ None
+    → plain_number so_far text ≡ Err (number_refusal text)
+no_number so_far text none nor = rw (none, nor) (no_number_behind so_far (is_float_text text) (failed_to_parse_float text))
 
 -- ---- the values of a list and the numbers of a set
 
@@ -49,42 +51,44 @@ abbrev one_more_item : {R : Type 0} → Result Data R → Result json.Items R �
 one_more_item r rest = r >>= λ j. rest >>= λ js. Ok (json.item j js)
 
 item_behind : (so_far new : List Token) (r : Answer Data) (rest : Answer json.Items)
-    → behind tokens_of so_far r ≡ Some new → behind tokens_in so_far (one_more_item r rest) ≡ behind tokens_in new rest
+    → behind tokens_of so_far r ≡ Ok new → behind tokens_in so_far (one_more_item r rest) ≡ behind tokens_in new rest
 item_behind so_far new (Ok j) (Ok js) h =
     let wrote : so_far ++ tokens_of j ≡ new = cc in
-    ap Some (sym (append_assoc so_far (tokens_of j) (tokens_in js)) ∙ ap (λ (ts : List Token). ts ++ tokens_in js) wrote)
+    ap Ok (sym (append_assoc so_far (tokens_of j) (tokens_in js)) ∙ ap (λ (ts : List Token). ts ++ tokens_in js) wrote)
 item_behind so_far new (Ok j) (Err e) h = refl
 item_behind so_far new (Err e) rest h = cc
 
-no_item : (so_far : List Token) (r : Answer Data) (rest : Answer json.Items)
-    → behind tokens_of so_far r ≡ None → behind tokens_in so_far (one_more_item r rest) ≡ None
-no_item so_far (Ok j) rest h = cc
-no_item so_far (Err e) rest h = refl
+no_item : (so_far : List Token) (r : Answer Data) (rest : Answer json.Items) (why : Refusal)
+    → behind tokens_of so_far r ≡ Err why → behind tokens_in so_far (one_more_item r rest) ≡ Err why
+no_item so_far (Ok j) rest why h = cc
+no_item so_far (Err e) rest why h = h
 
-abbrev pub elements_behind : List Token → av.Elements → Option (List Token)
+abbrev pub elements_behind : List Token → av.Elements → Result (List Token) Refusal
 elements_behind so_far as' = behind tokens_in so_far (read_elements as')
 
-pub element_read : (so_far new : List Token) (a : Av) (as' : av.Elements) → plain so_far a ≡ Some new
+pub element_read : (so_far new : List Token) (a : Av) (as' : av.Elements) → plain so_far a ≡ Ok new
     → elements_behind so_far (av.element a as') ≡ elements_behind new as'
 element_read so_far new a as' h = item_behind so_far new (read_value a) (read_elements as') h
 
-pub element_refused : (so_far : List Token) (a : Av) (as' : av.Elements) → plain so_far a ≡ None → elements_behind so_far (av.element a as') ≡ None
-element_refused so_far a as' h = no_item so_far (read_value a) (read_elements as') h
+pub element_refused : (so_far : List Token) (a : Av) (as' : av.Elements) (why : Refusal) → plain so_far a ≡ Err why
+    → elements_behind so_far (av.element a as') ≡ Err why
+element_refused so_far a as' why h = no_item so_far (read_value a) (read_elements as') why h
 
-abbrev pub numbers_behind : List Token → List (List ℕ) → Option (List Token)
+abbrev pub numbers_behind : List Token → List (List ℕ) → Result (List Token) Refusal
 numbers_behind so_far ts = behind tokens_in so_far (read_numbers ts)
 
-pub number_read : (so_far new : List Token) (t : List ℕ) (ts : List (List ℕ)) → plain_number so_far t ≡ Some new
+pub number_read : (so_far new : List Token) (t : List ℕ) (ts : List (List ℕ)) → plain_number so_far t ≡ Ok new
     → numbers_behind so_far (t ∷ ts) ≡ numbers_behind new ts
 number_read so_far new t ts h = item_behind so_far new (read_number t) (read_numbers ts) h
 
-pub number_refused : (so_far : List Token) (t : List ℕ) (ts : List (List ℕ)) → plain_number so_far t ≡ None → numbers_behind so_far (t ∷ ts) ≡ None
-number_refused so_far t ts h = no_item so_far (read_number t) (read_numbers ts) h
+pub number_refused : (so_far : List Token) (t : List ℕ) (ts : List (List ℕ)) (why : Refusal) → plain_number so_far t ≡ Err why
+    → numbers_behind so_far (t ∷ ts) ≡ Err why
+number_refused so_far t ts why h = no_item so_far (read_number t) (read_numbers ts) why h
 
 -- after the bracket that opens an array comes what is in it
 pub opened : (so_far : List Token) (r : Answer json.Items)
     → behind tokens_in (so_far ++ Token.begin_array ∷ []) r ≡ behind (λ js. tokens_of (json.array js)) so_far r
-opened so_far (Ok js) = ap Some (append_assoc so_far (Token.begin_array ∷ []) (tokens_in js))
+opened so_far (Ok js) = ap Ok (append_assoc so_far (Token.begin_array ∷ []) (tokens_in js))
 opened so_far (Err e) = refl
 
 -- from what is left of a set to the whole of it
@@ -102,7 +106,7 @@ elements_begun old as' begun now rest all opens is so_far =
 
 pub opened_object : (so_far : List Token) (r : Answer json.Members)
     → behind tokens_within (so_far ++ Token.begin_object ∷ []) r ≡ behind (λ js. tokens_of (json.object js)) so_far r
-opened_object so_far (Ok js) = ap Some (append_assoc so_far (Token.begin_object ∷ []) (tokens_within js))
+opened_object so_far (Ok js) = ap Ok (append_assoc so_far (Token.begin_object ∷ []) (tokens_within js))
 opened_object so_far (Err e) = refl
 
 -- ---- the members of a map, each after those before it
@@ -111,33 +115,33 @@ abbrev pub read_in_turn : av.Members → Answer json.Members
 read_in_turn av.no_members = Ok json.no_members
 read_in_turn (av.member t a ms) = read_value a >>= λ j. read_in_turn ms >>= λ js. Ok (json.member t j js)
 
-abbrev pub members_behind : List Token → av.Members → Option (List Token)
+abbrev pub members_behind : List Token → av.Members → Result (List Token) Refusal
 members_behind so_far ms = behind tokens_within so_far (read_in_turn ms)
 
 member_behind : (so_far new : List Token) (name : List ℕ) (r : Answer Data) (rest : Answer json.Members)
-    → behind tokens_of (so_far ++ key name ∷ []) r ≡ Some new
+    → behind tokens_of (so_far ++ key name ∷ []) r ≡ Ok new
     → behind tokens_within so_far (r >>= λ j. rest >>= λ js. Ok (json.member name j js)) ≡ behind tokens_within new rest
 member_behind so_far new name (Ok j) (Ok js) h =
     let wrote : (so_far ++ key name ∷ []) ++ tokens_of j ≡ new = cc in
-    ap Some (sym (append_assoc so_far (key name ∷ []) (tokens_of j ++ tokens_within js))
+    ap Ok (sym (append_assoc so_far (key name ∷ []) (tokens_of j ++ tokens_within js))
     ∙ sym (append_assoc (so_far ++ key name ∷ []) (tokens_of j) (tokens_within js))
     ∙ ap (λ (ts : List Token). ts ++ tokens_within js) wrote)
 member_behind so_far new name (Ok j) (Err e) h = refl
 member_behind so_far new name (Err e) rest h = cc
 
-pub member_read : (so_far new : List Token) (name : List ℕ) (a : Av) (ms : av.Members) → plain (so_far ++ key name ∷ []) a ≡ Some new
+pub member_read : (so_far new : List Token) (name : List ℕ) (a : Av) (ms : av.Members) → plain (so_far ++ key name ∷ []) a ≡ Ok new
     → members_behind so_far (av.member name a ms) ≡ members_behind new ms
 member_read so_far new name a ms h = member_behind so_far new name (read_value a) (read_in_turn ms) h
 
-no_member : (so_far : List Token) (name : List ℕ) (r : Answer Data) (rest : Answer json.Members)
-    → behind tokens_of (so_far ++ key name ∷ []) r ≡ None
-    → behind tokens_within so_far (r >>= λ j. rest >>= λ js. Ok (json.member name j js)) ≡ None
-no_member so_far name (Ok j) rest h = cc
-no_member so_far name (Err e) rest h = refl
+no_member : (so_far : List Token) (name : List ℕ) (r : Answer Data) (rest : Answer json.Members) (why : Refusal)
+    → behind tokens_of (so_far ++ key name ∷ []) r ≡ Err why
+    → behind tokens_within so_far (r >>= λ j. rest >>= λ js. Ok (json.member name j js)) ≡ Err why
+no_member so_far name (Ok j) rest why h = cc
+no_member so_far name (Err e) rest why h = h
 
-pub member_refused : (so_far : List Token) (name : List ℕ) (a : Av) (ms : av.Members) → plain (so_far ++ key name ∷ []) a ≡ None
-    → members_behind so_far (av.member name a ms) ≡ None
-member_refused so_far name a ms h = no_member so_far name (read_value a) (read_in_turn ms) h
+pub member_refused : (so_far : List Token) (name : List ℕ) (a : Av) (ms : av.Members) (why : Refusal) → plain (so_far ++ key name ∷ []) a ≡ Err why
+    → members_behind so_far (av.member name a ms) ≡ Err why
+member_refused so_far name a ms why h = no_member so_far name (read_value a) (read_in_turn ms) why h
 
 -- ---- members in order are read as they come
 
@@ -156,28 +160,18 @@ alike [] js h =
     subst (λ ms. Alike ReadsAs [] (entries ms)) none tt
 alike (e ∷ es) js h = alike_one e.0 e.1 es (read_value e.1) (read_in_turn (av.members_of es)) js refl (alike es) h
 
-abbrev Refuses : {A : Type 0} → Answer A → Type 0
-Refuses (Ok x) = ⊥
-Refuses (Err e) = Unit {0}
+refused_one : (name : List ℕ) (so_far : json.Members) (es : List (List ℕ × Av)) (r : Answer Data) (rest : Answer json.Members) (why : Refusal)
+    → (r >>= λ j. rest >>= λ ks. Ok (json.member name j ks)) ≡ Err why
+    → (rest ≡ Err why → (ms : json.Members) → read_members ms (av.members_of es) ≡ Err why)
+    → (r >>= λ j. read_members (json.put name j so_far) (av.members_of es)) ≡ Err why
+refused_one name so_far es (Ok j) (Ok ks) why h later = cc
+refused_one name so_far es (Ok j) (Err e) why h later = later h (json.put name j so_far)
+refused_one name so_far es (Err e) rest why h later = h
 
-refused_one : (name : List ℕ) (so_far : json.Members) (es : List (List ℕ × Av)) (r : Answer Data) (rest : Answer json.Members)
-    → Refuses (r >>= λ j. rest >>= λ ks. Ok (json.member name j ks))
-    → (Refuses rest → (ms : json.Members) → Refuses (read_members ms (av.members_of es)))
-    → Refuses (r >>= λ j. read_members (json.put name j so_far) (av.members_of es))
-refused_one name so_far es (Ok j) (Ok ks) h later = absurd h
-refused_one name so_far es (Ok j) (Err e) h later = later tt (json.put name j so_far)
-refused_one name so_far es (Err e) rest h later = tt
-
-refused : (es : List (List ℕ × Av)) → Refuses (read_in_turn (av.members_of es)) → (so_far : json.Members)
-    → Refuses (read_members so_far (av.members_of es))
-refused [] h so_far = absurd h
-refused (e ∷ es) h so_far = refused_one e.0 so_far es (read_value e.1) (read_in_turn (av.members_of es)) h (refused es)
-
-both_none : (so_far : List Token) (r s : Answer json.Members) → Refuses r → Refuses s
-    → behind (λ js. tokens_of (json.object js)) so_far r ≡ behind (λ js. tokens_of (json.object js)) so_far s
-both_none so_far (Ok x) s h g = absurd h
-both_none so_far (Err e) (Ok x) h g = absurd g
-both_none so_far (Err e) (Err f) h g = refl
+refused : (es : List (List ℕ × Av)) (why : Refusal) → read_in_turn (av.members_of es) ≡ Err why → (so_far : json.Members)
+    → read_members so_far (av.members_of es) ≡ Err why
+refused [] why h so_far = cc
+refused (e ∷ es) why h so_far = refused_one e.0 so_far es (read_value e.1) (read_in_turn (av.members_of es)) why h (refused es why)
 
 same_members : (so_far : List Token) (es : List (List ℕ × Av)) (r : Answer json.Members)
     → read_in_turn (av.members_of es) ≡ r → T (is_sorted text_cmp es)
@@ -189,9 +183,8 @@ same_members so_far es (Ok js) is sorted =
     ap (behind (λ js. tokens_of (json.object js)) so_far)
     (collected_back [] es (entries js) each ∙ ap (λ fs. Ok (members_of fs)) in_order
     ∙ ap Ok (members_again js))
-same_members so_far es (Err e) is sorted =
-    let none : Refuses (read_in_turn (av.members_of es)) = subst Refuses (sym is) tt in
-    both_none so_far (read_members json.no_members (av.members_of es)) (Err e) (refused es none json.no_members) tt
+same_members so_far es (Err why) is sorted =
+    ap (behind (λ js. tokens_of (json.object js)) so_far) (refused es why is json.no_members)
 
 pub read_in_order : (so_far : List Token) (es : List (List ℕ × Av)) → T (is_sorted text_cmp es)
     → members_behind (so_far ++ Token.begin_object ∷ []) (av.members_of es)
@@ -213,3 +206,10 @@ map_read old ms = content (read_members json.no_members ms)
     content : (r : Answer json.Members) → behind tokens_of old (r >>= λ js. Ok (json.object js)) ≡ behind (λ js. tokens_of (json.object js)) old r
     content (Ok js) = refl
     content (Err e) = refl
+
+-- the fault of what isn't read
+pub not_read : (r : Answer Data) (so_far : List Token) (f : Fault)
+    → (f ≡ out_of_memory) ⊎ Lacks Says (behind tokens_of so_far r) f → Refused (refusal_in r) f
+not_read r so_far f (inl lacks) = inl lacks
+not_read (Ok j) so_far f (inr h) = absurd h
+not_read (Err why) so_far f (inr h) = inr h

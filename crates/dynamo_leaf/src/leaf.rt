@@ -1,19 +1,10 @@
-ghost use Rattle.std.specs.Prelude.{◌≡◌, ℕ, List, Ok, option_map, string_bytes};
-ghost use Rattle.std.specs.Result.{result_ok};
+ghost use Rattle.std.specs.Prelude.{◌≡◌, ℕ, List, Ok, string_bytes};
 ghost use Rattle.dynamo_value.specs.Kind.{fault_of};
-ghost use Rattle.dynamo_value.specs.IntegerTypes.{kind_of};
-ghost use Rattle.dynamo_de.specs.Showing.{integer_showing};
-ghost use Rattle.dynamo_de.specs.Number.{parse};
 ghost use Rattle.dynamo_de.specs.Shown.{bool_key_shown, key_shown, number_shown, number_text_shown};
 ghost use Rattle.dynamo_de.specs.Shown.{plain_text_shown};
-ghost use Rattle.dynamo_de.specs.Showing as showing;
 ghost use Rattle.dynamo_leaf.specs.Leaf.{ShowsLeaf, leaf_showing, no_number_fault};
 
-use crate::number_text::{
-    is_float_text, parse_i8, parse_i16, parse_i32, parse_i64, parse_i128, parse_u8, parse_u16,
-    parse_u32, parse_u64, parse_u128,
-};
-use dynamo_de::{Integer, IntegerKind, Request};
+use dynamo_de::{Integer, Request, is_float_text, parse_i64, parse_u64, read_integer};
 use dynamo_value::{Error, ErrorImpl, Result};
 use std::num::ParseIntError;
 
@@ -53,25 +44,6 @@ impl NoNumber {
             NoNumber::Integer(cause) => Error::from(ErrorImpl::FailedToParseInt(text, cause)),
             NoNumber::Float => Error::from(ErrorImpl::FailedToParseFloat(text)),
         }
-    }
-}
-
-// The integer of a string, or why the string isn't one of this type.
-fn read_integer(kind: IntegerKind, text: &str) -> Result<Integer, ParseIntError>
-    ensures { option_map integer_showing (result_ok result)
-        ≡ option_map (showing.integer (kind_of kind)) (parse (kind_of kind) text.now) }
-{
-    match kind {
-        IntegerKind::I8 => parse_i8(text).map(Integer::I8),
-        IntegerKind::I16 => parse_i16(text).map(Integer::I16),
-        IntegerKind::I32 => parse_i32(text).map(Integer::I32),
-        IntegerKind::I64 => parse_i64(text).map(Integer::I64),
-        IntegerKind::I128 => parse_i128(text).map(Integer::I128),
-        IntegerKind::U8 => parse_u8(text).map(Integer::U8),
-        IntegerKind::U16 => parse_u16(text).map(Integer::U16),
-        IntegerKind::U32 => parse_u32(text).map(Integer::U32),
-        IntegerKind::U64 => parse_u64(text).map(Integer::U64),
-        IntegerKind::U128 => parse_u128(text).map(Integer::U128),
     }
 }
 

@@ -18,17 +18,16 @@ mod bytes;
 mod leaf;
 mod leaf_reader;
 mod nothing;
-mod number_text;
 mod sequences;
 mod text;
 mod text_kind;
 mod variant_name;
 
 pub use bytes::DeserializerBytes;
+pub use dynamo_de::is_float_text;
 pub use leaf::{Leaf, NoNumber, show_key, show_number, show_plain_text};
 pub use leaf_reader::{LeafReader, raise};
 pub use nothing::{NoElements, NoEntries, NoVariant};
-pub use number_text::is_float_text;
 pub use sequences::{
     DeserializerSeqBytes, DeserializerSeqNumbers, DeserializerSeqStrings, DeserializerSeqTexts,
 };

@@ -1,6 +1,5 @@
 mod Ages
 mod Exact
-mod Floats
 mod Known
 mod Leads
 mod Rows

@@ -3,10 +3,10 @@ use Rattle.std.specs.Prelude.{◌≡◌, ◌⊎◌, ℕ, List, Result, Ok, Err}
 use Rattle.serde_json.specs.Data.{Data}
 use Rattle.dynamo_value.specs.Av.{Av}
 use Rattle.dynamo_value.specs.Fault.{out_of_memory}
-use Rattle.dynamo_value.specs.Refusal.{Refused, refusal_in}
+use Rattle.dynamo_value.specs.Refusal.{Refused, SaysIf, refusal_in}
 use Rattle.dynamo_ser.specs.JsonValue.{json_datum}
 use Rattle.dynamo_write.specs.Written.{written}
-use Rattle.dynamo_de.specs.Answer.{value, After}
+use Rattle.dynamo_de.specs.Answer.{value}
 use Rattle.dynamo_de.specs.ReadJson.{read_value}
 use Rattle.dynamo_json.specs.Json.{json_of}
 use Rattle.dynamo_json.specs.Parsed.{parsed}
@@ -28,8 +28,7 @@ ToDynamo (Ok json) (Err read_failed) = ⊥
 -- JSON value meets.
 abbrev pub ReadsPlain : Av → Result (List ℕ) Failed → Type 0
 ReadsPlain a (Ok text) = (plain : Data) × (read_value a ≡ value plain) × (text ≡ json_line plain)
-ReadsPlain a (Err (faulty fault)) = (fault ≡ out_of_memory)
-    ⊎ After {V = Data} (read_value a) (λ _ _. ⊥) (Err fault)
+ReadsPlain a (Err (faulty fault)) = Refused (refusal_in (read_value a)) fault
 ReadsPlain a (Err not_json) = ⊥
 ReadsPlain a (Err read_failed) = ⊥
 
@@ -40,6 +39,6 @@ ToPlain (Err failed) answer = answer ≡ Err failed
 ToPlain (Ok json) (Ok text) = (a : Av) × (plain : Data) × (parsed json ≡ Ok a)
     × (read_value a ≡ value plain) × (text ≡ json_line plain)
 ToPlain (Ok json) (Err (faulty fault)) = Refused (refusal_in (parsed json)) fault
-    ⊎ ((a : Av) × (parsed json ≡ Ok a) × After {V = Data} (read_value a) (λ _ _. ⊥) (Err fault))
+    ⊎ ((a : Av) × (parsed json ≡ Ok a) × SaysIf (refusal_in (read_value a)) fault)
 ToPlain (Ok json) (Err not_json) = ⊥
 ToPlain (Ok json) (Err read_failed) = ⊥

@@ -9,12 +9,10 @@ ghost use Rattle.tool_commands.specs.Reading.{Reads, calls};
 
 use crate::failure::Failure;
 use crate::input::Input;
-use crate::json::{dynamo_line, json_line, read_json};
+use crate::json::read_json;
 use crate::stored::read_stored;
 use dynamo_json::{plain_text, stored_text};
-use dynamo_read::from_attribute_value;
 use dynamo_value::AttributeValue;
-use dynamo_write::to_attribute_value;
 use serde_json::Value;
 use std::alloc::Global;
 use std::mem;
@@ -35,29 +33,13 @@ pub fn to_dynamo<R: Input>(alloc: Global, reader: &mut R) -> Result<String, Fail
     dynamo_of(alloc, json)
 }
 
-// The line of the DynamoDB JSON of a JSON value. An attribute value is made only of a JSON value
-// that isn't written as one, to find the error.
+// The line of the DynamoDB JSON of a JSON value.
 fn dynamo_of(alloc: Global, json: Value) -> Result<String, Failure>
     ensures { ToDynamo (Ok (view json)) (result_map_both string_bytes reason result) }
 {
-    match stored_text(alloc, &json)? {
-        Some(text) => {
-            // The program ends with this line.
-            mem::forget(json);
-            line_of(text)
-        }
-        None => dynamo_via_value(alloc, json),
-    }
-}
-
-// The line of the DynamoDB JSON of a JSON value, by way of its attribute value.
-fn dynamo_via_value(alloc: Global, json: Value) -> Result<String, Failure>
-    ensures { ToDynamo (Ok (view json)) (result_map_both string_bytes reason result) }
-{
-    let value = to_attribute_value(alloc, json)?;
-    let line = dynamo_line(alloc, &value)?;
+    let line = line_of(stored_text(alloc, &json)?)?;
     // The program ends with this line.
-    mem::forget(value);
+    mem::forget(json);
     Ok(line)
 }
 
@@ -78,29 +60,13 @@ pub fn to_plain<R: Input>(alloc: Global, reader: &mut R) -> Result<String, Failu
     plain_of(alloc, value)
 }
 
-// The line of the plain JSON of an attribute value. A JSON value is made only of an attribute value
-// that isn't read as one, to find the error.
+// The line of the plain JSON of an attribute value.
 fn plain_of(alloc: Global, value: AttributeValue) -> Result<String, Failure>
     ensures { ReadsPlain (av.view value) (result_map_both string_bytes reason result) }
 {
-    match plain_text(alloc, &value)? {
-        Some(text) => {
-            // The program ends with this line.
-            mem::forget(value);
-            line_of(text)
-        }
-        None => plain_via_json(alloc, value),
-    }
-}
-
-// The line of the plain JSON of an attribute value, by way of its JSON value.
-fn plain_via_json(alloc: Global, value: AttributeValue) -> Result<String, Failure>
-    ensures { ReadsPlain (av.view value) (result_map_both string_bytes reason result) }
-{
-    let plain: Value = from_attribute_value(alloc, value)?;
-    let line = json_line(alloc, &plain)?;
+    let line = line_of(plain_text(alloc, &value)?)?;
     // The program ends with this line.
-    mem::forget(plain);
+    mem::forget(value);
     Ok(line)
 }
 

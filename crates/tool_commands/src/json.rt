@@ -1,7 +1,6 @@
-ghost use Rattle.std.specs.Prelude.{◌≡◌, ℕ, List, Result, IfOk, MatchResult, false, string_bytes};
+ghost use Rattle.std.specs.Prelude.{◌≡◌, ℕ, List, Result, MatchResult, string_bytes};
 ghost use Rattle.std.specs.Result.{result_map_both};
 ghost use Rattle.serde_json.specs.View.{view};
-ghost use Rattle.serde_json.specs.Written.{has_float};
 ghost use Rattle.dynamo_value.specs.Fault.{out_of_memory};
 ghost use Rattle.dynamo_value.specs.Kind.{fault_of};
 ghost use Rattle.dynamo_value.specs.View as av;
@@ -42,20 +41,6 @@ fn parse(alloc: Global, bytes: &[u8]) -> Result<Value, Failure>
         Err(error) if error.is_memory() => Err(Failure::from(AllocError)),
         Err(_) => Err(Failure::NotJson),
     }
-}
-
-/// Returns the line of a JSON value without floats: its compact text.
-///
-/// # Errors
-///
-/// Returns [`AllocError`] if memory runs out.
-pub fn json_line(alloc: Global, json: &Value) -> Result<String, AllocError>
-    ensures { IfOk result (λ line. has_float (view json.now) ≡ false
-        → string_bytes line ≡ text.json_line (view json.now)) }
-{
-    let mut line = json.to_string(alloc)?;
-    line.push('\n')?;
-    Ok(line)
 }
 
 /// Returns the line of an attribute value: the text of its DynamoDB JSON.

@@ -1,25 +1,25 @@
 //! The texts of both JSON forms, made with no value between, beside those that are made by way of one.
 
 use dynamo_json::{DynamoJson, plain_text, stored_text};
-use dynamo_value::AttributeValue;
+use dynamo_value::{AttributeValue, Error};
 use serde_dynamo::{from_attribute_value, to_attribute_value};
 use serde_json::Value;
 use std::alloc::Global;
 use std::test::Fail;
 
-// The text of the DynamoDB JSON that a JSON text is written as, by way of the attribute value; none where that is refused.
-fn stored_via_value(alloc: Global, text: &str) -> Result<Option<String>, Fail> {
+// The text of the DynamoDB JSON that a JSON text is written as, by way of the attribute value, or the error.
+fn stored_via_value(alloc: Global, text: &str) -> Result<Result<String, Error>, Fail> {
     match to_attribute_value(alloc, Value::from_str(alloc, text)?) {
-        Ok(value) => Ok(Some(value.to_json_text(alloc)?)),
-        Err(_) => Ok(None),
+        Ok(value) => Ok(Ok(value.to_json_text(alloc)?)),
+        Err(error) => Ok(Err(error)),
     }
 }
 
-// The text of the plain JSON that DynamoDB JSON is read as, by way of the JSON value; none where that is refused.
-fn plain_via_json(alloc: Global, text: &str) -> Result<Option<String>, Fail> {
+// The text of the plain JSON that DynamoDB JSON is read as, by way of the JSON value, or the error.
+fn plain_via_json(alloc: Global, text: &str) -> Result<Result<String, Error>, Fail> {
     match from_attribute_value::<Value>(alloc, AttributeValue::from_json_text(alloc, text)?) {
-        Ok(json) => Ok(Some(json.to_string(alloc)?)),
-        Err(_) => Ok(None),
+        Ok(json) => Ok(Ok(json.to_string(alloc)?)),
+        Err(error) => Ok(Err(error)),
     }
 }
 
@@ -46,8 +46,8 @@ fn plain_json_is_written_with_no_attribute_value(rt: HostRuntime) -> Result<(), 
     let alloc = rt.alloc();
     for (plain, stored) in STORED {
         let text = stored_text(alloc, &Value::from_str(alloc, plain)?)?;
-        assert_eq!(rt; text.as_ref().map(|text| text.as_str()), Some(stored), "{plain}");
-        assert!(rt; stored_via_value(alloc, plain)? == text, "{plain}");
+        assert_eq!(rt; text.as_str(), stored, "{plain}");
+        assert!(rt; stored_via_value(alloc, plain)? == Ok(text), "{plain}");
     }
     Ok(())
 }
@@ -56,9 +56,11 @@ fn plain_json_is_written_with_no_attribute_value(rt: HostRuntime) -> Result<(), 
 fn floats_are_not_written(rt: HostRuntime) -> Result<(), Fail> {
     let alloc = rt.alloc();
     for plain in ["1.5", "1e3", "-0", "-0.0", "18446744073709551616", r#"[1, {"a": [2.5]}]"#] {
-        let text = stored_text(alloc, &Value::from_str(alloc, plain)?)?;
-        assert!(rt; text.is_none(), "{plain}");
-        assert!(rt; stored_via_value(alloc, plain)?.is_none(), "{plain}");
+        let Err(error) = stored_text(alloc, &Value::from_str(alloc, plain)?) else {
+            return Err(Fail::from("a float is written"));
+        };
+        assert_eq!(rt; error.to_string(alloc)?.as_str(), "JSON floats are not supported", "{plain}");
+        assert!(rt; stored_via_value(alloc, plain)? == Err(error), "{plain}");
     }
     Ok(())
 }
@@ -87,31 +89,42 @@ fn dynamo_json_is_read_with_no_json_value(rt: HostRuntime) -> Result<(), Fail> {
     let alloc = rt.alloc();
     for (stored, plain) in PLAIN {
         let text = plain_text(alloc, &AttributeValue::from_json_text(alloc, stored)?)?;
-        assert_eq!(rt; text.as_ref().map(|text| text.as_str()), Some(plain), "{stored}");
-        assert!(rt; plain_via_json(alloc, stored)? == text, "{stored}");
+        assert_eq!(rt; text.as_str(), plain, "{stored}");
+        assert!(rt; plain_via_json(alloc, stored)? == Ok(text), "{stored}");
     }
     Ok(())
 }
 
+// What no JSON value is read of, and the message of the error.
+const REFUSED: [(&str, &str); 13] = [
+    (r#"{"NULL":false}"#, "Expected unit"),
+    (r#"{"N":"1.5"}"#, FLOAT),
+    (r#"{"N":"abc"}"#, "Failed to parse 'abc' as a float: invalid float literal"),
+    (r#"{"N":""}"#, "Failed to parse '' as a float: cannot parse float from empty string"),
+    (r#"{"N":"18446744073709551616"}"#, FLOAT),
+    (r#"{"N":"-9223372036854775809"}"#, FLOAT),
+    (r#"{"B":"AQI="}"#, BYTES),
+    (r#"{"BS":["AQI="]}"#, BYTES),
+    (r#"{"NS":["1","x"]}"#, "Failed to parse 'x' as a float: invalid float literal"),
+    (r#"{"L":[{"N":"1"},{"M":{"a":{"B":""}}}]}"#, BYTES),
+    (r#"{"L":[{"NULL":false},{"B":""}]}"#, "Expected unit"),
+    (r#"{"M":{"b":{"B":""},"a":{"NULL":false},"c":{"N":"x"}}}"#, "Expected unit"),
+    (r#"{"M":{"b":{"L":[{"B":""}]},"a":{"N":"1"},"c":{"NULL":false}}}"#, BYTES),
+];
+
+const BYTES: &str = "invalid type: byte array, expected any valid JSON value";
+
+const FLOAT: &str = "invalid type: floating point number, expected any valid JSON value";
+
 #[test]
-fn what_no_json_value_is_read_of_has_no_text(rt: HostRuntime) -> Result<(), Fail> {
+fn what_no_json_value_is_read_of_is_refused_as_by_way_of_one(rt: HostRuntime) -> Result<(), Fail> {
     let alloc = rt.alloc();
-    let texts = [
-        r#"{"NULL":false}"#,
-        r#"{"N":"1.5"}"#,
-        r#"{"N":"abc"}"#,
-        r#"{"N":""}"#,
-        r#"{"N":"18446744073709551616"}"#,
-        r#"{"N":"-9223372036854775809"}"#,
-        r#"{"B":"AQI="}"#,
-        r#"{"BS":["AQI="]}"#,
-        r#"{"NS":["1","x"]}"#,
-        r#"{"L":[{"N":"1"},{"M":{"a":{"B":""}}}]}"#,
-    ];
-    for stored in texts {
-        let text = plain_text(alloc, &AttributeValue::from_json_text(alloc, stored)?)?;
-        assert!(rt; text.is_none(), "{stored}");
-        assert!(rt; plain_via_json(alloc, stored)?.is_none(), "{stored}");
+    for (stored, message) in REFUSED {
+        let Err(error) = plain_text(alloc, &AttributeValue::from_json_text(alloc, stored)?) else {
+            return Err(Fail::from("it is read as JSON"));
+        };
+        assert_eq!(rt; error.to_string(alloc)?.as_str(), message, "{stored}");
+        assert!(rt; plain_via_json(alloc, stored)? == Err(error), "{stored}");
     }
     Ok(())
 }

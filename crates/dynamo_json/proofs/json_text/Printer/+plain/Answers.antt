@@ -1,9 +1,10 @@
-use Rattle.std.proofs.Common.{◌≡◌, ◌∙◌, ◌<◌, List, [], ◌∷◌, ◌++◌, None, Err, Some, drop, ap, sym, subst, rules, arith, string_bytes}
+use Rattle.std.proofs.Common.{◌≡◌, ◌∙◌, ◌<◌, List, [], ◌∷◌, ◌++◌, Ok, Err, drop, ap, sym, subst, rules, arith, string_bytes}
 use Rattle.dynamo_json.proofs.Common.{drop_all, err_from_is_err_and, key, Members, members_of, view}
-use Rattle.dynamo_json.proofs.Common.{elements_view, entries_view, members_view, AttributeValue}
-use Rattle.dynamo_json.proofs.Common.{view_sorted, Prints, plain_members, Lent, lent_view}
+use Rattle.dynamo_json.proofs.Common.{elements_view, entries_view, members_view, AttributeValue, Refusal}
+use Rattle.dynamo_json.proofs.Common.{view_sorted, plain_members, Lent, lent_view}
 use Rattle.dynamo_value.proofs.Views.{view_map}
-use Rattle.dynamo_json.specs.StoredText.{plain, plain_elements}
+use Rattle.dynamo_value.specs.Refusal.{Says}
+use Rattle.dynamo_json.specs.StoredText.{PrintsPlain, plain, plain_elements}
 use Rattle.dynamo_json.proofs.Stored.{next_of, stopped}
 use Rattle.dynamo_json.proofs.Unstored.{elements_behind, element_read, element_refused, elements_begun, members_behind}
 use Rattle.dynamo_json.proofs.Unstored.{member_read, member_refused, members_begun, map_read}
@@ -27,12 +28,13 @@ plain_elements-returns-in_err-plain-clause-tokens t c =
     let x = c.element-item.result in
     let i = c.loop-element.element-index in
     let failed = err_from_is_err_and c.from_residual-in_err-plain.result c.from_residual-in_err-plain.ensures.1 in
-    let none : plain now (view x) ≡ None → plain_elements c.args.self.now.out.tokens (elements_view c.args.list.now.items) ≡ None = λ h.
+    let same : (why : Refusal) → plain now (view x) ≡ Err why
+    → plain_elements c.args.self.now.out.tokens (elements_view c.args.list.now.items) ≡ Err why = λ why h.
     elements_begun _ _ c.begin_array.new.self.tokens now (elements_view (drop i xs)) (elements_view xs) c.in_ok-begin_array.ensures.ok
     (ap elements_view (sym c.deref-element-items.ensures.value)) c.loop-element.invariant.tokens
-    ∙ next_of (λ vs. elements_behind now (elements_view vs)) (λ _. None) xs i x (omega arith) c.element-item.is
-    (λ rest. element_refused now (view x) (elements_view rest) h) in
-    stopped _ c.in_err-plain.field-0.0 _ _ c.plain.new.self.out.tokens _ (failed.1 ∙ ap Err failed.2) c.in_err-plain.ensures.tokens none
+    ∙ next_of (λ vs. elements_behind now (elements_view vs)) (λ _. Err why) xs i x (omega arith) c.element-item.is
+    (λ rest. element_refused now (view x) (elements_view rest) why h) in
+    stopped Says _ c.in_err-plain.field-0.0 _ _ c.plain.new.self.out.tokens _ (failed.1 ∙ ap Err failed.2) c.in_err-plain.ensures.tokens same
 
 pub plain_elements-loop-element-preserved : goal.plain_elements-loop-element-preserved
 plain_elements-loop-element-preserved t c =
@@ -69,14 +71,14 @@ plain_members-returns-in_err-plain-clause-tokens t c =
     let all = ap lent_view c.deref-member-items.ensures.value ∙ ap members_of c.in_ok-members.ensures in
     let keyed = c.in_ok-key.ensures.ok ∙ ap (λ t. now ++ key t ∷ []) c.as_str.ensures.value in
     let failed = err_from_is_err_and c.from_residual-in_err-plain.result c.from_residual-in_err-plain.ensures.1 in
-    let none : plain c.key.new.self.tokens (view x.1.now) ≡ None
-    → plain_members c.args.self.now.out.tokens (members_view c.args.map.now.entries) ≡ None = λ h.
+    let same : (why : Refusal) → plain c.key.new.self.tokens (view x.1.now) ≡ Err why
+    → plain_members c.args.self.now.out.tokens (members_view c.args.map.now.entries) ≡ Err why = λ why h.
     members_begun _ es c.begin_object.new.self.tokens now (lent_view (drop i xs)) (lent_view xs)
     (view_sorted c.args.map.now.entries) c.in_ok-begin_object.ensures.ok
     (sym all) c.loop-member.invariant.tokens
-    ∙ next_of (λ ps. members_behind now (lent_view ps)) (λ _. None) xs i x (omega arith) c.member-item.is
-    (λ rest. member_refused now (string_bytes x.0.now) (view x.1.now) (lent_view rest) (ap (λ ts. plain ts (view x.1.now)) (sym keyed) ∙ h)) in
-    stopped _ c.in_err-plain.field-0.0 _ _ c.plain.new.self.out.tokens _ (failed.1 ∙ ap Err failed.2) c.in_err-plain.ensures.tokens none
+    ∙ next_of (λ ps. members_behind now (lent_view ps)) (λ _. Err why) xs i x (omega arith) c.member-item.is
+    (λ rest. member_refused now (string_bytes x.0.now) (view x.1.now) (lent_view rest) why (ap (λ ts. plain ts (view x.1.now)) (sym keyed) ∙ h)) in
+    stopped Says _ c.in_err-plain.field-0.0 _ _ c.plain.new.self.out.tokens _ (failed.1 ∙ ap Err failed.2) c.in_err-plain.ensures.tokens same
 
 pub plain_members-loop-member-preserved : goal.plain_members-loop-member-preserved
 plain_members-loop-member-preserved t c =
@@ -85,7 +87,7 @@ plain_members-loop-member-preserved t c =
     let xs = c.deref-member-items.result.now in
     let x = c.member-item.result in
     let keyed = c.in_ok-key.ensures.ok ∙ ap (λ t. now ++ key t ∷ []) c.as_str.ensures.value in
-    let read : plain (now ++ key (string_bytes x.0.now) ∷ []) (view x.1.now) ≡ Some new =
+    let read : plain (now ++ key (string_bytes x.0.now) ∷ []) (view x.1.now) ≡ Ok new =
     ap (λ ts. plain ts (view x.1.now)) (sym keyed) ∙ c.in_ok-plain.ensures.tokens in
     record {
       tokens = sym (next_of (λ ps. members_behind now (lent_view ps))
@@ -105,12 +107,12 @@ plain_members-returns-clause-tokens t c =
     (lent_view (drop i xs)) (lent_view xs) (view_sorted c.args.map.now.entries)
     c.in_ok-begin_object.ensures.ok
     (sym (ap lent_view c.deref-member-items.ensures.value ∙ ap members_of c.in_ok-members.ensures)) c.loop-member.invariant.tokens
-    ∙ ap (λ ps. members_behind now (lent_view ps)) none ∙ ap Some (sym c.in_ok-end_object.ensures.ok)
+    ∙ ap (λ ps. members_behind now (lent_view ps)) none ∙ ap Ok (sym c.in_ok-end_object.ensures.ok)
 
 pub plain-returns-in-M-clause-tokens : goal.plain-returns-in-M-clause-tokens
 plain-returns-in-M-clause-tokens t c =
     let old = c.args.self.now.out.tokens in
     let is = ap view c.in-M.is ∙ view_map c.in-M.map in
-    subst (λ whole. Prints c.plain_members.result whole c.plain_members.new.self.out.tokens)
+    subst (λ whole. PrintsPlain c.plain_members.result whole c.plain_members.new.self.out.tokens)
     (sym (ap (plain old) is ∙ map_read old (members_view c.in-M.map.entries)))
     c.plain_members.ensures.tokens

@@ -6,7 +6,7 @@ use Rattle.std.specs.Prelude.{codes, bytes_eq}
 use Rattle.std.specs.Str.Parse.{without_leading_sign}
 use Rattle.std.specs.Float.Parse.{completes_number, lowercases_to, without_sign, is_float_text as is_std_float_text}
 use Rattle.dynamo_de.specs.Number.{is_float_body, is_float_text}
-use Rattle.dynamo_leaf.proofs.FloatNumbers.{lower, same_number}
+use Rattle.dynamo_de.proofs.FloatNumbers.{lower, same_number}
 
 same_word : (cs ws : List ℕ) → lowercases_to cs ws ≡ bytes_eq (lower cs) ws
 same_word [] [] = refl
