@@ -101,6 +101,6 @@ read_members-loop-key-preserved g t c =
     let held = inserted c.loop-key.members c.insert.new.self c.in_ok-name.name c.in_ok-member.member (kept c.insert.result (sym c.is_err.ensures.value ∙ c.if-is_err.false) c.insert.ensures.updates) in (
       omega (arith, lower.1, c.loop-key.invariant.0),
       ap (λ es. read_entries es new) held
-          ∙ member_more g.R.Reader.source g.R.Reader.entries _ (entries_view c.loop-key.members.entries) c.in_ok-name.name c.in_ok-member.member left new (c.in-Some.key, c.in-Some.value) taken
+          ∙ member_more g.R.Reader.source g.R.Reader.entries (read_entries [] (g.R.Reader.entries c.args.entries)) (entries_view c.loop-key.members.entries) c.in_ok-name.name c.in_ok-member.member left new (c.in-Some.key, c.in-Some.value) taken
           c.loop-key.invariant.1 named agrees,
     )
