@@ -33,10 +33,10 @@ use std::collections::HashMap;
 // How deep the arrays and objects of a JSON text nest at most, as `Value::from_str` reads them.
 const MAX_DEPTH: usize = 127;
 
-/// Why reading or writing stopped.
+/// Why reading stopped.
 #[derive(Clone, Copy, Debug, Drop)]
 pub(crate) enum Stop {
-    /// The text that is read is no attribute value, or the value that is written has no such text.
+    /// The text is no attribute value.
     Unlike,
 
     /// An allocation failed.
