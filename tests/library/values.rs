@@ -3,4 +3,5 @@ mod carried;
 mod equality;
 mod faults;
 mod floats;
+mod integers;
 mod items;
