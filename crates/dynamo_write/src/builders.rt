@@ -2,13 +2,14 @@ ghost use Rattle.std.specs.Prelude.{◌≡◌, MatchResult, OnOk, string_bytes};
 ghost use Rattle.std.specs.FinMap.Entries as entries;
 ghost use Rattle.dynamo_value.specs.Av as av;
 ghost use Rattle.dynamo_value.specs.Fault.{out_of_memory};
+ghost use Rattle.dynamo_value.specs.Item.{map_of};
 ghost use Rattle.dynamo_value.specs.Kind.{fault_of};
 ghost use Rattle.dynamo_value.specs.View.{view, entries_view, text_cmp};
 ghost use Rattle.dynamo_write.specs.AttributeValues.{attribute_values, answers, refuses};
 ghost use Rattle.dynamo_write.specs.Target.{parts_before};
 
 use crate::{ListOf, MapOf, Serializer, StructOf, StructVariantOf, Target, TupleVariantOf};
-use dynamo_value::{AttributeValue, Error, Result};
+use dynamo_value::{AttributeValue, Error, Item, Result};
 use std::alloc::Global;
 use std::collections::HashMap;
 
@@ -44,11 +45,11 @@ fn put(map: &mut HashMap<String, AttributeValue>, key: String, value: AttributeV
 }
 
 impl Target for Serializer {
-    type Map = HashMap<String, AttributeValue>;
+    type Map = Item;
 
     ghost about = { attribute_values };
 
-    ghost members = { λ m. entries_view m.entries };
+    ghost members = { λ m. entries_view (map_of m).entries };
 
     ghost over = { λ alloc. record { alloc = alloc } };
 
@@ -70,26 +71,22 @@ impl Target for Serializer {
         AttributeValue::L(values)
     }
 
-    fn no_members(alloc: Global) -> HashMap<String, AttributeValue> {
-        HashMap::new(alloc)
+    fn no_members(alloc: Global) -> Item {
+        Item::new(alloc)
     }
 
-    fn room_for(alloc: Global, count: usize) -> Result<HashMap<String, AttributeValue>> {
-        Ok(HashMap::with_capacity(alloc, count)?)
+    fn room_for(alloc: Global, count: usize) -> Result<Item> {
+        Ok(Item::from(HashMap::with_capacity(alloc, count)?))
     }
 
-    fn insert(
-        map: &mut HashMap<String, AttributeValue>,
-        key: String,
-        value: AttributeValue,
-    ) -> Result<()> {
+    fn insert(map: &mut Item, key: String, value: AttributeValue) -> Result<()> {
         match &value {
-            AttributeValue::M(_) => put(map, key, value.fitted()),
-            _other => put(map, key, value),
+            AttributeValue::M(_) => put(map.inner_mut(), key, value.fitted()),
+            _other => put(map.inner_mut(), key, value),
         }
     }
 
-    fn map(map: HashMap<String, AttributeValue>) -> AttributeValue {
-        AttributeValue::M(map)
+    fn map(map: Item) -> AttributeValue {
+        AttributeValue::M(map.into_inner())
     }
 }

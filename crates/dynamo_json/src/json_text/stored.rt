@@ -110,8 +110,8 @@ impl Printer {
     // A whole number of 64 bits: its decimal string.
     #[inline(never)]
     fn stored_number(&mut self, number: &Number) -> Result<()>
-        ensures tokens { PrintsStored result (stored_number self.old.out.tokens (number_view number.now))
-            self.new.out.tokens }
+        ensures tokens { PrintsStored result
+            (stored_number self.old.out.tokens (number_view number.now)) self.new.out.tokens }
         ensures before { self.new.out.before ≡ self.old.out.before }
     {
         if let Some(n) = number.as_u64() {
