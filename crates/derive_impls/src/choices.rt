@@ -2,7 +2,7 @@ use crate::branch::{branches, ghost_branch, pattern_branch};
 use crate::case::{Case, cases};
 use crate::heading::Heading;
 use crate::names::{codes, names_function, shown_names, variant_names};
-use crate::traits::{BY_SHAPE, Traits, print_traits};
+use crate::traits::{BY_SHAPE, print_deserialize, print_serialize, print_shaped};
 use crate::tree::type_tree;
 use derive_declarations::{Contents, Declaration, Field, Variant};
 use std::alloc::{AllocError, Global};
@@ -39,8 +39,7 @@ pub fn print_choices(
     writeln!(out, "\ntype {name}Variants = {list};")?;
     let names = variant_names(alloc, variants)?;
     print_description(alloc, out, heading, tag, names.as_slice(), cases, alias)?;
-    let traits = traits(alloc, name, tag.is_some(), cases)?;
-    print_traits(out, heading, &traits)
+    print_traits(alloc, out, heading, tag.is_some(), cases)
 }
 
 // Prints the list of the fields of a variant.
@@ -81,24 +80,7 @@ fn print_description(
     alias: &str,
 ) -> Result<(), AllocError> {
     let Heading { name, shown, .. } = heading;
-    let codes = codes(alloc, names)?;
-    let is = parts(alloc, cases, alias)?;
-    let head = match tag {
-        None => format!(in alloc;
-            "impl Enumeration for {name} {{
-    type Variants = {name}Variants;
-    ghost about = {{ enum_of (codes \"{shown}\") ({codes}) (elim [
-{is}    ]) ⟦<{name}Variants as VariantList>⟧.about }};
-    ghost named = {{ (refl, refl) }};"
-        )?,
-        Some(tag) => format!(in alloc;
-            "impl TaggedEnum for {name} {{
-    type Variants = {name}Variants;
-    ghost about = {{ tagged_of (codes \"{tag}\") (codes \"{shown}\") ({codes}) (elim [
-{is}    ]) ⟦<{name}Variants as TaggedList>⟧.about }};
-    fn tag() -> &'static str {{ \"{tag}\" }}"
-        )?,
-    };
+    print_head(alloc, out, heading, tag, names, cases, alias)?;
     let keyword = if tag.is_some() {
         "internally tagged enum"
     } else {
@@ -108,9 +90,7 @@ fn print_description(
     let arms = make_arms(alloc, cases)?;
     writeln!(
         out,
-        "
-{head}
-    fn name() -> &'static str {{ \"{shown}\" }}
+        "    fn name() -> &'static str {{ \"{shown}\" }}
     fn expecting() -> &'static str {{ \"{keyword} {shown}\" }}
 {names_function}
     fn make(variant: {name}Variants) -> {name} {{
@@ -119,6 +99,41 @@ fn print_description(
     }}
 }}"
     )
+}
+
+// Prints the head of that impl and its ghost members, with the function for a tag.
+fn print_head(
+    alloc: Global,
+    out: &mut String,
+    heading: &Heading,
+    tag: Option<&str>,
+    names: &[&str],
+    cases: &[Case],
+    alias: &str,
+) -> Result<(), AllocError> {
+    let Heading { name, shown, .. } = heading;
+    let codes = codes(alloc, names)?;
+    let is = parts(alloc, cases, alias)?;
+    match tag {
+        None => writeln!(
+            out,
+            "
+impl Enumeration for {name} {{
+    type Variants = {name}Variants;
+    ghost about = {{ enum_of (codes \"{shown}\") ({codes}) (elim [
+{is}    ]) ⟦<{name}Variants as VariantList>⟧.about }};
+    ghost named = {{ (refl, refl) }};"
+        ),
+        Some(tag) => writeln!(
+            out,
+            "
+impl TaggedEnum for {name} {{
+    type Variants = {name}Variants;
+    ghost about = {{ tagged_of (codes \"{tag}\") (codes \"{shown}\") ({codes}) (elim [
+{is}    ]) ⟦<{name}Variants as TaggedList>⟧.about }};
+    fn tag() -> &'static str {{ \"{tag}\" }}"
+        ),
+    }
 }
 
 // The cases of what a value is in the list of variants.
@@ -161,40 +176,71 @@ fn print_arm(alloc: Global, out: &mut String, pattern: &str, body: &str) -> Resu
     }
 }
 
-fn traits(
+fn print_traits(
     alloc: Global,
-    name: &str,
+    out: &mut String,
+    heading: &Heading,
     is_tagged: bool,
     cases: &[Case],
-) -> Result<Traits, AllocError> {
-    let mut write = String::from_str(alloc, "match self {\n")?;
-    let mut conforms = String::from_str(alloc, "match self {\n")?;
-    for (index, case) in cases.iter().enumerate() {
-        let pattern = case.of_fields(alloc)?;
-        let written = case.write_call(alloc, index)?;
-        print_arm(alloc, &mut write, pattern.as_str(), written.as_str())?;
-        let conform = case.conform_call(alloc, index)?;
-        print_arm(alloc, &mut conforms, pattern.as_str(), conform.as_str())?;
-    }
-    write.push_str("        }")?;
-    conforms.push_str("        }")?;
-    let named: Vec<&str> = cases.iter().map(|case| case.ghost_named()).collect(alloc)?;
-    let named = branches(alloc, named.as_slice(), "(", ")")?;
-    let (kind, of_trait, named) = if is_tagged {
-        let named = format!(in alloc; "(refl, refl, {named})")?;
-        ("tagged", "TaggedEnum", named)
+) -> Result<(), AllocError> {
+    let name = heading.name.as_str();
+    let (kind, of_trait) = if is_tagged {
+        ("tagged", "TaggedEnum")
     } else {
-        ("enum", "Enumeration", named)
+        ("enum", "Enumeration")
     };
     let described = format!(in alloc; "⟦<{name} as {of_trait}>⟧.about")?;
-    Ok(Traits {
-        tells: format!(in alloc; "{kind}_tells {described}")?,
-        wants: String::new(alloc),
-        write,
-        reads: format!(in alloc; "{kind}_reads {described}")?,
-        read: format!(in alloc; "read_{kind}(alloc, deserializer)")?,
-        about: format!(in alloc; "about_{kind} {described} {named}")?,
-        by_shape: String::from_str(alloc, BY_SHAPE)?,
-        conforms,
-    })
+    let write = write_arms(alloc, cases)?;
+    let tells = format_args!("{kind}_tells {described}");
+    print_serialize(
+        out,
+        heading,
+        tells,
+        "",
+        format_args!("match self {{\n{write}        }}"),
+    )?;
+    let reads = format_args!("{kind}_reads {described}");
+    let read = format_args!("read_{kind}(alloc, deserializer)");
+    print_deserialize(out, heading, reads, read)?;
+    let named = named(alloc, is_tagged, cases)?;
+    let about = format_args!("about_{kind} {described} {named}");
+    let conforms = conform_arms(alloc, cases)?;
+    print_shaped(
+        out,
+        heading,
+        about,
+        BY_SHAPE,
+        format_args!("match self {{\n{conforms}        }}"),
+    )
+}
+
+// The proof that no two fields of a variant have the same name.
+fn named(alloc: Global, is_tagged: bool, cases: &[Case]) -> Result<String, AllocError> {
+    let named: Vec<&str> = cases.iter().map(|case| case.ghost_named()).collect(alloc)?;
+    let named = branches(alloc, named.as_slice(), "(", ")")?;
+    if is_tagged {
+        format!(in alloc; "(refl, refl, {named})")
+    } else {
+        Ok(named)
+    }
+}
+
+// The arms that write each case.
+fn write_arms(alloc: Global, cases: &[Case]) -> Result<String, AllocError> {
+    let mut arms = String::new(alloc);
+    for (index, case) in cases.iter().enumerate() {
+        let (pattern, call) = (case.of_fields(alloc)?, case.write_call(alloc, index)?);
+        print_arm(alloc, &mut arms, pattern.as_str(), call.as_str())?;
+    }
+    Ok(arms)
+}
+
+// The arms by which each case conforms.
+fn conform_arms(alloc: Global, cases: &[Case]) -> Result<String, AllocError> {
+    let mut arms = String::new(alloc);
+    for (index, case) in cases.iter().enumerate() {
+        let (pattern, call) = (case.of_fields(alloc)?, case.conform_call(alloc, index)?);
+        print_arm(alloc, &mut arms, pattern.as_str(), call.as_str())?;
+    }
+    Ok(arms)
 }

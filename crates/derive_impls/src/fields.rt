@@ -2,14 +2,17 @@
 use crate::heading::Heading;
 use crate::tree::tree_of;
 use std::alloc::{AllocError, Global};
+use std::fmt::{Display, Write};
 
-/// The function that makes this value of the list, whose fields get these names.
-pub fn make_function(
+/// Prints the function that makes this value of the list, whose fields get these names, and ends
+/// the impl.
+pub fn print_make<V: Display + Drop>(
     alloc: Global,
+    out: &mut String,
     heading: &Heading,
     names: &[&str],
-    value: &str,
-) -> Result<String, AllocError> {
+    value: V,
+) -> Result<(), AllocError> {
     let Heading {
         name,
         arguments,
@@ -17,10 +20,12 @@ pub fn make_function(
         ..
     } = heading;
     let pattern = tree_of(alloc, names, "Field(", ")")?;
-    format!(in alloc;
+    writeln!(
+        out,
         "    fn make(fields: {name}Fields{arguments}) -> {ty} {{
         let {pattern} = fields;
         {value}
-    }}"
+    }}
+}}"
     )
 }

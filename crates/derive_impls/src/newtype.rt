@@ -1,5 +1,5 @@
 use crate::heading::Heading;
-use crate::traits::{Traits, print_key, print_traits};
+use crate::traits::{print_deserialize, print_key, print_serialize, print_shaped};
 use std::alloc::{AllocError, Global};
 
 /// Prints the impls of a newtype, by the text of its field's type.
@@ -13,19 +13,18 @@ pub fn print_newtype(
     let letter = letter(name.as_str());
     let field = format!(in alloc; "(codes \"{shown}\") (λ {letter}. {letter}.0)")?;
     let known = known(alloc, heading, of)?;
-    let traits = Traits {
-        tells: format!(in alloc; "(about_newtype {field} {known}).tells")?,
-        wants: wants(alloc, heading, of, letter)?,
-        write: format!(in alloc; "write_newtype(\"{shown}\", &self.0, serializer)")?,
-        reads: format!(in alloc; "newtype_reads {field} {known}")?,
-        read: format!(in alloc; "Ok({name}(read_newtype(alloc, deserializer, \"{shown}\")?))")?,
-        about: format!(in alloc; "about_newtype {field} {known}")?,
-        by_shape: format!(in alloc; "newtype_by_shape {field} {known}")?,
-        conforms: String::from_str(alloc, "self.0.conforms();")?,
-    };
-    print_traits(out, heading, &traits)?;
+    let wants = wants(alloc, heading, of, letter)?;
+    let tells = format_args!("(about_newtype {field} {known}).tells");
+    let write = format_args!("write_newtype(\"{shown}\", &self.0, serializer)");
+    print_serialize(out, heading, tells, wants.as_str(), write)?;
+    let reads = format_args!("newtype_reads {field} {known}");
+    let read = format_args!("Ok({name}(read_newtype(alloc, deserializer, \"{shown}\")?))");
+    print_deserialize(out, heading, reads, read)?;
+    let about = format_args!("about_newtype {field} {known}");
+    let by_shape = format_args!("newtype_by_shape {field} {known}");
+    print_shaped(out, heading, about, by_shape, "self.0.conforms();")?;
     if heading.is_key {
-        print_newtype_key(alloc, out, heading, of, field.as_str())?;
+        print_newtype_key(out, heading, of, field.as_str())?;
     }
     Ok(())
 }
@@ -56,20 +55,17 @@ fn wants(alloc: Global, heading: &Heading, of: &str, letter: char) -> Result<Str
 }
 
 fn print_newtype_key(
-    alloc: Global,
     out: &mut String,
     heading: &Heading,
     of: &str,
     field: &str,
 ) -> Result<(), AllocError> {
     if heading.arguments.is_empty() {
-        let known = format!(in alloc; "key_newtype {field} ⟦<{of} as ShapedKey>⟧.about_key")?;
-        return print_key(out, heading, known.as_str(), "own_key _");
+        let known = format_args!("key_newtype {field} ⟦<{of} as ShapedKey>⟧.about_key");
+        return print_key(out, heading, known, "own_key _");
     }
-    let known = format!(in alloc; "key_newtype {field} {of}.about_key")?;
-    let laws = format!(in alloc; "{of}.about.tells {of}.eq {of}.cmp {of}.is_key")?;
-    let is_key = format!(in alloc;
-        "newtype_is_key {field} {of}.about_key {of}.about.shape {laws}"
-    )?;
-    print_key(out, heading, known.as_str(), is_key.as_str())
+    let known = format_args!("key_newtype {field} {of}.about_key");
+    let laws = format_args!("{of}.about.tells {of}.eq {of}.cmp {of}.is_key");
+    let is_key = format_args!("newtype_is_key {field} {of}.about_key {of}.about.shape {laws}");
+    print_key(out, heading, known, is_key)
 }

@@ -1,85 +1,83 @@
 use crate::heading::Heading;
 use std::alloc::AllocError;
-use std::fmt::Write;
+use std::fmt::{Display, Write};
 
 /// The proof in `Shaped` for types that are read by their shape as they are described.
 pub const BY_SHAPE: &str = "λ _ _ h. h";
 
-/// The ghost members and the bodies of the impls that each described type has.
-#[derive(Drop)]
-pub struct Traits {
-    /// Of `Serialize`: what a value tells.
-    pub tells: String,
-    /// Whether writing allocates by itself: a ghost member, or nothing.
-    pub wants: String,
-    /// The body of `serialize`.
-    pub write: String,
-
-    /// Of `Deserialize`: what is read.
-    pub reads: String,
-    /// The body of `deserialize`.
-    pub read: String,
-
-    /// Of `Shaped`: the shape.
-    pub about: String,
-    /// Why reading is by the shape.
-    pub by_shape: String,
-    /// The body of `conforms`.
-    pub conforms: String,
-}
-
-/// Prints the impls of `Serialize`, `Deserialize` and `Shaped`.
-pub fn print_traits(
+/// Prints the impl of `Serialize`, by what a value tells, a ghost member that says whether writing
+/// allocates by itself, or nothing, and the body of `serialize`.
+pub fn print_serialize<T: Display + Drop, B: Display + Drop>(
     out: &mut String,
     heading: &Heading,
-    traits: &Traits,
+    tells: T,
+    wants: &str,
+    body: B,
 ) -> Result<(), AllocError> {
     let Heading { shaped, ty, .. } = heading;
-    let Traits {
-        tells,
-        wants,
-        write,
-        reads,
-        read,
-        about,
-        by_shape,
-        conforms,
-    } = traits;
     writeln!(
         out,
         "
 impl{shaped} Serialize for {ty} {{
     ghost tells = {{ {tells} }};
 {wants}    fn serialize<S: Serializer>(&self, serializer: S) -> Result<S::Ok, S::Error> {{
-        {write}
+        {body}
     }}
-}}
+}}"
+    )
+}
 
+/// Prints the impl of `Deserialize`, by what is read and the body of `deserialize`.
+pub fn print_deserialize<R: Display + Drop, B: Display + Drop>(
+    out: &mut String,
+    heading: &Heading,
+    reads: R,
+    body: B,
+) -> Result<(), AllocError> {
+    let Heading { shaped, ty, .. } = heading;
+    writeln!(
+        out,
+        "
 impl{shaped} Deserialize for {ty} {{
     ghost reads = {{ {reads} }};
     fn deserialize<D: Deserializer>(alloc: Global, deserializer: D) -> Result<{ty}, D::Error> {{
-        {read}
+        {body}
     }}
-}}
+}}"
+    )
+}
 
+/// Prints the impl of `Shaped`, by the shape, why reading is by the shape, and the body of
+/// `conforms`.
+pub fn print_shaped<A: Display + Drop, S: Display + Drop, B: Display + Drop>(
+    out: &mut String,
+    heading: &Heading,
+    about: A,
+    by_shape: S,
+    body: B,
+) -> Result<(), AllocError> {
+    let Heading { shaped, ty, .. } = heading;
+    writeln!(
+        out,
+        "
 impl{shaped} Shaped for {ty} {{
     ghost about = {{ {about} }};
     ghost as_told = {{ refl }};
     ghost reads_by_shape = {{ {by_shape} }};
     fn absent<E: Error>(_alloc: Global) -> Result<Option<{ty}>, E> {{ Ok(None) }}
     fn conforms(&self) {{
-        {conforms}
+        {body}
     }}
 }}"
     )
 }
 
 /// Prints the impl of `ShapedKey`, by its ghost members.
-pub fn print_key(
+pub fn print_key<A: Display + Drop, K: Display + Drop>(
     out: &mut String,
     heading: &Heading,
-    about_key: &str,
-    is_key: &str,
+    about_key: A,
+    is_key: K,
 ) -> Result<(), AllocError> {
     let Heading { keyed, ty, .. } = heading;
     writeln!(

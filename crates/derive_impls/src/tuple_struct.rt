@@ -1,7 +1,7 @@
-use crate::fields::make_function;
+use crate::fields::print_make;
 use crate::heading::Heading;
 use crate::names::letters;
-use crate::traits::{Traits, print_traits};
+use crate::traits::{print_deserialize, print_serialize, print_shaped};
 use crate::tree::tree_of;
 use std::alloc::{AllocError, Global};
 use std::fmt::Write;
@@ -16,22 +16,31 @@ pub fn print_tuple_struct(
     print_description(alloc, out, heading, types)?;
     let places: Vec<usize> = (0..types.len()).collect(alloc)?;
     let refs = tree_of(alloc, places.as_slice(), "&self.", "")?;
-    let traits = traits(alloc, heading.ty.as_str(), refs.as_str())?;
-    print_traits(out, heading, &traits)
+    print_traits(alloc, out, heading, refs.as_str())
 }
 
-fn traits(alloc: Global, ty: &str, refs: &str) -> Result<Traits, AllocError> {
+fn print_traits(
+    alloc: Global,
+    out: &mut String,
+    heading: &Heading,
+    refs: &str,
+) -> Result<(), AllocError> {
+    let ty = heading.ty.as_str();
     let described = format!(in alloc; "⟦<{ty} as TupleStruct>⟧.about")?;
-    Ok(Traits {
-        tells: format!(in alloc; "tuple_struct_tells {described}")?,
-        wants: String::new(alloc),
-        write: format!(in alloc; "write_tuple_struct::<{ty}, _, S>(serializer, &{refs})")?,
-        reads: format!(in alloc; "tuple_struct_reads {described}")?,
-        read: String::from_str(alloc, "read_tuple_struct(alloc, deserializer)")?,
-        about: format!(in alloc; "about_tuple_struct {described}")?,
-        by_shape: format!(in alloc; "tuple_struct_by_shape {described}")?,
-        conforms: format!(in alloc; "tuple_struct_conforms::<{ty}, _>(&{refs})")?,
-    })
+    let tells = format_args!("tuple_struct_tells {described}");
+    let write = format_args!("write_tuple_struct::<{ty}, _, S>(serializer, &{refs})");
+    print_serialize(out, heading, tells, "", write)?;
+    let reads = format_args!("tuple_struct_reads {described}");
+    print_deserialize(
+        out,
+        heading,
+        reads,
+        "read_tuple_struct(alloc, deserializer)",
+    )?;
+    let about = format_args!("about_tuple_struct {described}");
+    let by_shape = format_args!("tuple_struct_by_shape {described}");
+    let conforms = format_args!("tuple_struct_conforms::<{ty}, _>(&{refs})");
+    print_shaped(out, heading, about, by_shape, conforms)
 }
 
 fn print_description(
@@ -50,25 +59,26 @@ fn print_description(
     } = heading;
     let count = types.len();
     let types = tree_of(alloc, types, "Field<", ">")?;
-    let list = format!(in alloc; "{name}Fields{arguments}")?;
+    let list = format_args!("{name}Fields{arguments}");
+    writeln!(out, "\ntype {list} = {types};\n")?;
     let places: Vec<usize> = (0..count).collect(alloc)?;
     let parts = tree_of(alloc, places.as_slice(), "record { 0 = s.", " }")?;
-    let names = letters(alloc, count)?;
-    let all = names.join(alloc, ", ")?;
-    let value = format!(in alloc; "{name}({all})")?;
-    let make = make_function(alloc, heading, names.as_slice(), value.as_str())?;
     writeln!(
         out,
-        "
-type {list} = {types};
-
-impl{shaped} TupleStruct for {ty} {{
+        "impl{shaped} TupleStruct for {ty} {{
     type Fields = {list};
     ghost about = {{ tuple_struct_of (codes \"{shown}\") (λ s. {parts}) ⟦<{list} as FieldList>⟧.about }};
     fn name() -> &'static str {{ \"{shown}\" }}
     fn expecting() -> &'static str {{ \"tuple struct {shown}\" }}
-    fn count() -> usize {{ {count} }}
-{make}
-}}"
+    fn count() -> usize {{ {count} }}"
+    )?;
+    let names = letters(alloc, count)?;
+    let all = names.join(alloc, ", ")?;
+    print_make(
+        alloc,
+        out,
+        heading,
+        names.as_slice(),
+        format_args!("{name}({all})"),
     )
 }

@@ -1,6 +1,7 @@
 use crate::heading::Heading;
 use crate::names::{codes, names_function, variant_names};
-use crate::traits::{BY_SHAPE, Traits, print_key, print_traits};
+use crate::traits::{BY_SHAPE, print_deserialize, print_key, print_serialize, print_shaped};
+use crate::tree::wrapped;
 use derive_declarations::Variant;
 use std::alloc::{AllocError, Global};
 use std::fmt::Write;
@@ -17,20 +18,19 @@ pub fn print_units(
     let name = heading.name.as_str();
     let described = format!(in alloc; "⟦<{name} as UnitEnum>⟧.about")?;
     print_description(alloc, out, heading, variants, alias)?;
-    let traits = Traits {
-        tells: format!(in alloc; "unit_enum_tells {described}")?,
-        wants: String::new(alloc),
-        write: String::from_str(alloc, "write_unit_enum(self, serializer)")?,
-        reads: format!(in alloc; "unit_enum_reads {described}")?,
-        read: String::from_str(alloc, "read_unit_enum(alloc, deserializer)")?,
-        about: format!(in alloc; "about_units {described}")?,
-        by_shape: String::from_str(alloc, BY_SHAPE)?,
-        conforms: String::from_str(alloc, "conform_unit_enum(self);")?,
-    };
-    print_traits(out, heading, &traits)?;
+    let tells = format_args!("unit_enum_tells {described}");
+    print_serialize(out, heading, tells, "", "write_unit_enum(self, serializer)")?;
+    let reads = format_args!("unit_enum_reads {described}");
+    print_deserialize(out, heading, reads, "read_unit_enum(alloc, deserializer)")?;
+    let about = format_args!("about_units {described}");
+    print_shaped(out, heading, about, BY_SHAPE, "conform_unit_enum(self);")?;
     if heading.is_key {
-        let known = format!(in alloc; "key_units {described}")?;
-        print_key(out, heading, known.as_str(), "own_key _")?;
+        print_key(
+            out,
+            heading,
+            format_args!("key_units {described}"),
+            "own_key _",
+        )?;
     }
     Ok(())
 }
@@ -44,12 +44,7 @@ fn print_description(
 ) -> Result<(), AllocError> {
     let Heading { name, shown, .. } = heading;
     let names = variant_names(alloc, variants)?;
-    let mut paths = Vec::new(alloc);
-    for variant in variants {
-        let own = variant.name.as_str();
-        paths.push(format!(in alloc; "{name}::{own}")?)?;
-    }
-    let paths = paths.join(alloc, ", ")?;
+    let paths = paths(alloc, name.as_str(), variants)?;
     let codes = codes(alloc, names.as_slice())?;
     let names_function = names_function(alloc, names.as_slice())?;
     writeln!(
@@ -64,4 +59,12 @@ impl UnitEnum for {name} {{
     fn variant(number: usize) -> Option<{name}> {{ variant_at(&[{paths}], number) }}
 }}"
     )
+}
+
+// The paths of the variants, with commas between them.
+fn paths(alloc: Global, of: &str, variants: &[Variant]) -> Result<String, AllocError> {
+    let own = variants.iter().map(|variant| variant.name.as_str());
+    let own: Vec<&str> = own.collect(alloc)?;
+    let before = format!(in alloc; "{of}::")?;
+    wrapped(alloc, own.as_slice(), before.as_str(), "")?.join(alloc, ", ")
 }

@@ -1,22 +1,18 @@
 use crate::heading::Heading;
-use crate::traits::{Traits, print_traits};
-use std::alloc::{AllocError, Global};
+use crate::traits::{print_deserialize, print_serialize, print_shaped};
+use std::alloc::AllocError;
 
 /// Prints the impls of a unit struct.
-pub fn print_unit(alloc: Global, out: &mut String, heading: &Heading) -> Result<(), AllocError> {
+pub fn print_unit(out: &mut String, heading: &Heading) -> Result<(), AllocError> {
     let Heading { name, shown, .. } = heading;
-    let about = format!(in alloc; "about_unit_struct (codes \"{shown}\") (λ _ _. refl)")?;
-    let traits = Traits {
-        tells: format!(in alloc; "({about}).tells")?,
-        wants: String::new(alloc),
-        write: format!(in alloc; "serializer.serialize_unit_struct(\"{shown}\")")?,
-        reads: format!(in alloc; "unit_struct_reads (codes \"{shown}\")")?,
-        read: format!(in alloc;
-            "read_unit_struct(alloc, deserializer, \"{shown}\")?;\n        Ok({name})"
-        )?,
-        about,
-        by_shape: format!(in alloc; "unit_struct_by_shape (codes \"{shown}\")")?,
-        conforms: String::new(alloc),
-    };
-    print_traits(out, heading, &traits)
+    let about = format_args!("about_unit_struct (codes \"{shown}\") (λ _ _. refl)");
+    let write = format_args!("serializer.serialize_unit_struct(\"{shown}\")");
+    print_serialize(out, heading, format_args!("({about}).tells"), "", write)?;
+    let reads = format_args!("unit_struct_reads (codes \"{shown}\")");
+    let read = format_args!(
+        "read_unit_struct(alloc, deserializer, \"{shown}\")?;\n        Ok({name})"
+    );
+    print_deserialize(out, heading, reads, read)?;
+    let by_shape = format_args!("unit_struct_by_shape (codes \"{shown}\")");
+    print_shaped(out, heading, about, by_shape, "")
 }

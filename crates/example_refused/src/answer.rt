@@ -50,17 +50,21 @@ impl Debug for Written {
 #[cycle(show)]
 fn show_value<W: Write>(value: &AttributeValue, f: &mut Formatter<W>) -> fmt::Result {
     match value {
-        AttributeValue::N(text) => write!(f, "N {text:?}"),
-        AttributeValue::S(text) => write!(f, "S {text:?}"),
+        AttributeValue::N(text) => show_content("N", text, f),
+        AttributeValue::S(text) => show_content("S", text, f),
         AttributeValue::Bool(b) => write!(f, "Bool({b})"),
-        AttributeValue::B(bytes) => write!(f, "B {bytes:?}"),
+        AttributeValue::B(bytes) => show_content("B", bytes, f),
         AttributeValue::Null(b) => write!(f, "Null({b})"),
         AttributeValue::M(map) => show_map(map, f),
         AttributeValue::L(list) => show_list(list, f),
-        AttributeValue::Ss(texts) => write!(f, "Ss {texts:?}"),
-        AttributeValue::Ns(texts) => write!(f, "Ns {texts:?}"),
-        AttributeValue::Bs(blobs) => write!(f, "Bs {blobs:?}"),
+        AttributeValue::Ss(texts) => show_content("Ss", texts, f),
+        AttributeValue::Ns(texts) => show_content("Ns", texts, f),
+        AttributeValue::Bs(blobs) => show_content("Bs", blobs, f),
     }
+}
+
+fn show_content<T: Debug, W: Write>(kind: &str, content: &T, f: &mut Formatter<W>) -> fmt::Result {
+    write!(f, "{kind} {content:?}")
 }
 
 #[cycle(show)]

@@ -1,5 +1,6 @@
 //! The rows: their names, and what prints the line of each.
 
+use crate::builders::Builder;
 use crate::line::Line;
 use crate::{
     accesses, builders, derived, json, leaf_readers, located, reading, tables, without_memory,
@@ -43,14 +44,14 @@ macro_rules! with_rows {
             "scalars_read" => without_memory::scalars_read;
             "ignored" => without_memory::ignored;
             "other_kinds" => without_memory::other_kinds;
-            "seq" => builders::seq;
-            "tuple" => builders::tuple;
-            "tuple_struct" => builders::tuple_struct;
-            "tuple_variant" => builders::tuple_variant;
-            "struct" => builders::struct_fields;
-            "struct_variant" => builders::struct_variant;
-            "key_and_value" => builders::key_and_value;
-            "entry" => builders::entry;
+            "seq" => builders::row, Builder::Seq;
+            "tuple" => builders::row, Builder::Tuple;
+            "tuple_struct" => builders::row, Builder::TupleStruct;
+            "tuple_variant" => builders::row, Builder::TupleVariant;
+            "struct" => builders::row, Builder::Struct;
+            "struct_variant" => builders::row, Builder::StructVariant;
+            "key_and_value" => builders::row, Builder::KeyAndValue;
+            "entry" => builders::row, Builder::Entry;
             "next_key" => accesses::next_key;
             "next_lent_key" => accesses::next_lent_key;
             "next_value" => accesses::next_value;
@@ -72,14 +73,14 @@ macro_rules! with_rows {
 }
 
 macro_rules! names_of {
-    (() $($name:literal => $row:path $(, $text:expr)?;)*) => { [$($name),*] };
+    (() $($name:literal => $row:path $(, $with:expr)?;)*) => { [$($name),*] };
 }
 
 macro_rules! row_of {
     (($alloc:ident, $line:ident, $wanted:ident)
-        $($name:literal => $row:path $(, $text:expr)?;)*) => {
+        $($name:literal => $row:path $(, $with:expr)?;)*) => {
         match $wanted {
-            $($name => $row($alloc, $line $(, $text)?),)*
+            $($name => $row($alloc, $line $(, $with)?),)*
             _ => return None,
         }
     };
