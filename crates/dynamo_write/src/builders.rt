@@ -75,8 +75,9 @@ impl Target for Serializer {
         Item::new(alloc)
     }
 
-    fn room_for(alloc: Global, count: usize) -> Result<Item> {
-        Ok(Item::from(HashMap::with_capacity(alloc, count)?))
+    fn reserve(map: &mut Item, additional: usize) -> Result<()> {
+        map.inner_mut().reserve(additional)?;
+        Ok(())
     }
 
     fn insert(map: &mut Item, key: String, value: AttributeValue) -> Result<()> {

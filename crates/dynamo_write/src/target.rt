@@ -56,17 +56,18 @@ pub trait Target: Outcomes<Error = Error> {
     fn no_members(alloc: Global) -> Self::Map
         ensures { members result ≡ [] };
 
-    /// Returns an empty map, with room for so many entries if the type of map has it. It allocates
-    /// nothing for none.
+    /// Makes room in a map for so many more entries, if the type of map has it. It allocates nothing
+    /// for none.
     ///
     /// # Errors
     ///
     /// Returns [`ErrorImpl::OutOfMemory`](dynamo_value::ErrorImpl::OutOfMemory) if memory runs out.
-    fn room_for(alloc: Global, _count: usize) -> Result<Self::Map>
-        ensures ok { MatchResult result (λ map. members map ≡ [])
-            (λ e. fault_of e ≡ out_of_memory) }
+    /// The entries stay.
+    fn reserve(map: &mut Self::Map, _additional: usize) -> Result<()>
+        ensures entries { members map.new ≡ members map.old }
+        ensures err { MatchResult result (λ _. Unit {0}) (λ e. fault_of e ≡ out_of_memory) }
     {
-        Ok(Self::no_members(alloc))
+        Ok(())
     }
 
     /// Inserts an entry. It replaces the value of an equal key.
@@ -114,7 +115,8 @@ pub trait Target: Outcomes<Error = Error> {
             ≡ map_of Self.about (fields_of Self.about.seen fields.entry.items))
             (λ e. fault_of e ≡ out_of_memory) }
     {
-        let mut map = Self::room_for(alloc, fields.len())?;
+        let mut map = Self::no_members(alloc);
+        Self::reserve(&mut map, fields.len())?;
         for (name, value) in fields {
             let key = String::from_str(alloc, name)?;
             Self::insert(&mut map, key, value)?;
