@@ -1,4 +1,5 @@
 //! Described types, written and read: structs, enums, tagged enums and wide structs.
+mod differences;
 mod enum_rows;
 mod left_out_rows;
 mod rows;

@@ -1,5 +1,5 @@
 // What docs/DIFFERENCES.md lists of derived types: a row for each line of it. The comments say what the Rust crate returns.
-use crate::derived::rows::{reads, writes};
+use crate::derived::rows::{reads, text, writes};
 use serde::{Deserialize, Serialize};
 use std::collections::BTreeMap;
 use std::test::Fail;
@@ -10,6 +10,7 @@ enum Beside {
     Unit,
     Rec { n: u8 },
     Pair(u8, u8),
+    Sealed(Sealed),
 }
 
 #[derive(Drop, PartialEq, Eq, PartialOrd, Ord, Serialize, Deserialize)]
@@ -21,8 +22,15 @@ enum Key {
 #[derive(Drop, Serialize, Deserialize)]
 #[serde(tag = "t")]
 enum Inside {
+    Unit,
     Text { s: String },
     Count { n: u8 },
+    Double { x: f64 },
+    Single { y: f32 },
+    Pair { p: (u8, u8) },
+    Counts { m: BTreeMap<u8, u8> },
+    Flags { k: BTreeMap<bool, u8> },
+    Nothing { u: () },
 }
 
 #[derive(Drop, Serialize, Deserialize)]
@@ -33,9 +41,28 @@ enum Untagged {
 }
 
 #[derive(Drop, Serialize, Deserialize)]
+#[serde(untagged)]
+enum Several {
+    Float(f64),
+    Pair(u8, u8),
+    Counts(BTreeMap<u8, u8>),
+    Texts(Vec<String>),
+}
+
+#[derive(Drop, Serialize, Deserialize)]
 enum Outside {
+    Unit,
     Empty {},
     One { n: u8 },
+    #[serde(skip)]
+    Hidden,
+}
+
+// Its name is the symbol of string sets.
+#[derive(Drop, Serialize, Deserialize)]
+enum Symbols {
+    #[serde(rename = "\u{37e}STRINGSET\u{37e}")]
+    Names(Vec<String>),
 }
 
 #[derive(Drop, Serialize, Deserialize)]
@@ -44,19 +71,52 @@ struct One {
 }
 
 #[derive(Drop, Serialize, Deserialize)]
+struct Two {
+    a: u8,
+    b: Option<u8>,
+}
+
+#[derive(Drop, Serialize, Deserialize)]
 struct Newtype(u8);
+
+#[derive(Drop, Default, Serialize, Deserialize)]
+struct Sealed;
 
 #[derive(Drop, Serialize, Deserialize)]
 struct Parts {
+    #[serde(default)]
     s: String,
-    #[serde(with = "dynamo_serde::bytes")]
+    #[serde(default, with = "dynamo_serde::bytes")]
     b: Vec<u8>,
+    #[serde(default)]
+    v: Sealed,
 }
 
 #[derive(Drop, Serialize, Deserialize)]
 struct Flat {
     #[serde(flatten)]
     parts: Parts,
+}
+
+#[derive(Drop, Serialize, Deserialize)]
+struct Tagged {
+    id: u8,
+    #[serde(flatten)]
+    rest: Inside,
+}
+
+#[derive(Drop, Serialize)]
+struct Flattens<T> {
+    #[serde(flatten)]
+    inner: T,
+}
+
+#[derive(Drop, Serialize, Deserialize)]
+struct Sets {
+    #[serde(with = "dynamo_serde::string_set", default)]
+    texts: Vec<String>,
+    #[serde(with = "dynamo_serde::binary_set", default)]
+    bytes: Vec<Vec<u8>>,
 }
 
 #[derive(Drop, Serialize, Deserialize)]
@@ -79,18 +139,96 @@ fn enums(rt: HostRuntime) -> Result<(), Fail> {
         // ExpectedMap
         (r#"{"M":{"Empty":{"L":[]}}}"#, r#"{"M":{"Empty":{"M":{}}}}"#),
         (r#"{"M":{"One":{"L":[{"N":"1"}]}}}"#, r#"{"M":{"One":{"M":{"n":{"N":"1"}}}}}"#),
+    ])?;
+    // the enum variant Outside::Hidden cannot be serialized
+    writes(&rt, alloc, &Outside::Hidden, "this variant is skipped")?;
+    // a map of this one key, which reads back
+    let names = vec![in alloc; text(alloc, "a")?]?;
+    writes(&rt, alloc, &Symbols::Names(names), r#"{"SS":["a"]}"#)?;
+    reads::<Symbols>(&rt, alloc, &[(r#"{"SS":["a"]}"#, "Expected enum")])
+}
+
+// A member is read as its type. The Rust crate keeps it as a value of any kind first.
+#[test]
+fn members_of_another_kind(rt: HostRuntime) -> Result<(), Fail> {
+    let alloc = rt.alloc();
+    let unread = r#"{"M":{"n":{"N":"1"},"t":{"S":"Count"}}}"#;
+    reads::<Inside>(&rt, alloc, &[
+        // invalid type: string "x", expected u8
+        (r#"{"M":{"n":{"S":"x"},"t":{"S":"Count"}}}"#, "Expected num"),
+        // invalid value: integer `300`, expected u8
+        (
+            r#"{"M":{"n":{"N":"300"},"t":{"S":"Count"}}}"#,
+            "Failed to parse '300' as an integer: number too large to fit in target type",
+        ),
+        // FailedToParseFloat
+        (
+            r#"{"M":{"n":{"N":"x"},"t":{"S":"Count"}}}"#,
+            "Failed to parse 'x' as an integer: invalid digit found in string",
+        ),
+        // ExpectedUnit
+        (r#"{"M":{"n":{"NULL":false},"t":{"S":"Count"}}}"#, "Expected num"),
+        // FailedToParseFloat, ExpectedUnit
+        (r#"{"M":{"n":{"N":"1"},"t":{"S":"Count"},"w":{"N":"-"}}}"#, unread),
+        (r#"{"M":{"n":{"N":"1"},"t":{"S":"Count"},"w":{"NULL":false}}}"#, unread),
+        // FailedToParseFloat
+        (r#"{"M":{"n":{"N":"x"}}}"#, "missing field `t`"),
+        // FailedToParseFloat, or the same where the tag comes first
+        (r#"{"M":{"n":{"N":"x"},"t":{"S":"Alien"}}}"#, "unknown variant `Alien`"),
+    ])?;
+    reads::<Flat>(&rt, alloc, &[
+        // invalid type: integer `1`, expected a string
+        (r#"{"M":{"s":{"N":"1"}}}"#, "Expected string"),
+        // ExpectedUnit
+        (r#"{"M":{"s":{"NULL":false}}}"#, "Expected string"),
+    ])?;
+    reads::<Untagged>(&rt, alloc, &[
+        // data did not match any variant of untagged enum Untagged
+        (r#"{"BOOL":true}"#, "invalid value"),
+        // FailedToParseFloat, ExpectedUnit
+        (r#"{"N":"x"}"#, "invalid value"),
+        (r#"{"NULL":false}"#, "invalid value"),
+    ])?;
+    reads::<Beside>(&rt, alloc, &[
+        // the same where the tag comes first, or invalid value: integer `300`, expected u8
+        (
+            r#"{"M":{"c":{"M":{"n":{"N":"300"}}},"t":{"S":"Rec"}}}"#,
+            "Failed to parse '300' as an integer: number too large to fit in target type",
+        ),
     ])
 }
 
-// What is flattened or tagged is read by its own type, and kept as a value of any kind in the Rust crate.
 #[test]
-fn shared_maps(rt: HostRuntime) -> Result<(), Fail> {
+fn tagged_enums_that_are_no_map(rt: HostRuntime) -> Result<(), Fail> {
     let alloc = rt.alloc();
+    reads::<Inside>(&rt, alloc, &[
+        // invalid type: string "Unit", expected internally tagged enum Inside
+        (r#"{"S":"Unit"}"#, "Expected map"),
+        // the variants `Unit`, `Count` and `Unit`
+        (r#"{"L":[{"S":"Unit"}]}"#, "Expected map"),
+        (r#"{"L":[{"S":"Count"},{"N":"1"}]}"#, "Expected map"),
+        (r#"{"SS":["Unit"]}"#, "Expected map"),
+    ])?;
+    reads::<Beside>(&rt, alloc, &[
+        // the variants `Unit` and `Rec`
+        (r#"{"L":[{"S":"Unit"},{"NULL":true}]}"#, "Expected map"),
+        (r#"{"L":[{"S":"Rec"},{"M":{"n":{"N":"1"}}}]}"#, "Expected map"),
+    ])
+}
+
+#[test]
+fn values_that_are_read_on_one_side(rt: HostRuntime) -> Result<(), Fail> {
+    let alloc = rt.alloc();
+    let cut = r#"{"M":{"c":{"L":[{"N":"1"},{"N":"2"}]},"t":{"S":"Pair"}}}"#;
     reads::<Flat>(&rt, alloc, &[
         // the string `a`
         (r#"{"M":{"s":{"B":"YQ=="}}}"#, "Expected string"),
-        // the byte 1
+        // the byte 1, the byte `a`
         (r#"{"M":{"b":{"L":[{"N":"1"}]}}}"#, "Expected binary data"),
+        (r#"{"M":{"b":{"S":"a"}}}"#, "Expected binary data"),
+        // the unit struct
+        (r#"{"M":{"v":{"L":[]}}}"#, "Expected unit"),
+        (r#"{"M":{"v":{"M":{}}}}"#, "Expected unit"),
     ])?;
     reads::<Inside>(&rt, alloc, &[
         // the string `a`
@@ -100,12 +238,82 @@ fn shared_maps(rt: HostRuntime) -> Result<(), Fail> {
             r#"{"M":{"n":{"N":"-0"},"t":{"S":"Count"}}}"#,
             "Failed to parse '-0' as an integer: invalid digit found in string",
         ),
+        // the unit
+        (r#"{"M":{"t":{"S":"Nothing"},"u":{"M":{}}}}"#, "Expected unit"),
+        // invalid length 3, expected 2 elements in sequence
+        (
+            r#"{"M":{"p":{"L":[{"N":"1"},{"N":"2"},{"N":"3"}]},"t":{"S":"Pair"}}}"#,
+            r#"{"M":{"p":{"L":[{"N":"1"},{"N":"2"}]},"t":{"S":"Pair"}}}"#,
+        ),
+        // invalid type: string "1", expected u8
+        (r#"{"M":{"m":{"M":{"1":{"N":"2"}}},"t":{"S":"Counts"}}}"#, ""),
+        // invalid type: string "true", expected a boolean
+        (r#"{"M":{"k":{"M":{"true":{"N":"2"}}},"t":{"S":"Flags"}}}"#, ""),
+        // 0.0
+        (
+            r#"{"M":{"t":{"S":"Double"},"x":{"N":"-0"}}}"#,
+            r#"{"M":{"t":{"S":"Double"},"x":{"N":"-0.0"}}}"#,
+        ),
+        // 1.0, as is the nearest f64
+        (
+            r#"{"M":{"t":{"S":"Single"},"y":{"N":"1.000000059604644775390626"}}}"#,
+            r#"{"M":{"t":{"S":"Single"},"y":{"N":"1.0000001"}}}"#,
+        ),
+    ])?;
+    reads::<Tagged>(&rt, alloc, &[
+        // the variant `Unit`
+        (r#"{"M":{"id":{"N":"1"},"t":{"B":"VW5pdA=="}}}"#, "Expected string"),
+    ])?;
+    reads::<Beside>(&rt, alloc, &[
+        // the same where the tag comes first, or the message about a length
+        (r#"{"M":{"c":{"L":[{"N":"1"},{"N":"2"},{"N":"3"}]},"t":{"S":"Pair"}}}"#, cut),
+        // the unit struct, or ExpectedUnitStruct where the tag comes first
+        (r#"{"M":{"c":{"L":[]},"t":{"S":"Sealed"}}}"#, "Expected unit"),
     ])?;
     reads::<Untagged>(&rt, alloc, &[
         // the string `a`, and zero
         (r#"{"B":"YQ=="}"#, "invalid value"),
         (r#"{"N":"-0"}"#, "invalid value"),
+    ])?;
+    reads::<Several>(&rt, alloc, &[
+        // 0.0
+        (r#"{"N":"-0"}"#, r#"{"N":"-0.0"}"#),
+        // no variant
+        (r#"{"L":[{"N":"1"},{"N":"2"},{"N":"3"}]}"#, r#"{"L":[{"N":"1"},{"N":"2"}]}"#),
+        (r#"{"M":{"1":{"N":"2"}}}"#, ""),
+        // the strings `a` and `b`
+        (r#"{"BS":["YQ==","Yg=="]}"#, "invalid value"),
     ])
+}
+
+// The tag and the field of the variant come last, in the order of the names. The Rust crate reads both.
+#[test]
+fn a_shared_map_of_many_members(rt: HostRuntime) -> Result<(), Fail> {
+    let alloc = rt.alloc();
+    for (others, read) in [
+        (62, r#"{"M":{"n":{"N":"5"},"t":{"S":"Count"}}}"#),
+        (63, "two values that share a map have keys after its 63rd member"),
+    ] {
+        let mut json = text(alloc, r#"{"M":{"#)?;
+        for at in 0..others {
+            json.push_str(format!(in alloc; r#""a{at}":{{"BOOL":true}},"#)?.as_str())?;
+        }
+        json.push_str(r#""n":{"N":"5"},"t":{"S":"Count"}}}"#)?;
+        reads::<Inside>(&rt, alloc, &[(json.as_str(), read)])?;
+    }
+    Ok(())
+}
+
+#[test]
+fn what_is_flattened(rt: HostRuntime) -> Result<(), Fail> {
+    let alloc = rt.alloc();
+    // can only flatten structs and maps (got an integer)
+    writes(&rt, alloc, &Flattens { inner: 1_u8 }, "can only flatten structs and maps")?;
+    // can only flatten structs and maps (got a sequence)
+    let inner = Vec::<u8>::new(alloc);
+    writes(&rt, alloc, &Flattens { inner }, "can only flatten structs and maps")?;
+    // an entry `Unit` that is null, by serde from 1.0.217 on
+    writes(&rt, alloc, &Flattens { inner: Outside::Unit }, "can only flatten structs and maps")
 }
 
 #[test]
@@ -116,9 +324,22 @@ fn structs_and_lists(rt: HostRuntime) -> Result<(), Fail> {
         (r#"{"M":{"a":{"N":"1"},"w":{"NULL":false}}}"#, r#"{"M":{"a":{"N":"1"}}}"#),
         (r#"{"M":{"a":{"N":"1"},"b":{"N":"-"}}}"#, r#"{"M":{"a":{"N":"1"}}}"#),
     ])?;
+    reads::<Two>(&rt, alloc, &[
+        // invalid length 1, expected struct Two with 2 elements
+        (r#"{"L":[{"N":"1"}]}"#, "missing field `b`"),
+        // the first two
+        (r#"{"L":[{"N":"1"},{"N":"2"},{"N":"3"}]}"#, "invalid length"),
+    ])?;
     // messages
     reads::<Vec<Newtype>>(&rt, alloc, &[(r#"{"NS":["0"]}"#, r#"{"L":[{"N":"0"}]}"#)])?;
     reads::<Vec<Option<u8>>>(&rt, alloc, &[(r#"{"NS":["0"]}"#, r#"{"L":[{"N":"0"}]}"#)])?;
+    // the string `a`
+    reads::<Vec<String>>(&rt, alloc, &[(r#"{"BS":["YQ=="]}"#, "Expected string")])?;
+    reads::<Sets>(&rt, alloc, &[
+        // the string `a`, the byte `a`
+        (r#"{"M":{"texts":{"BS":["YQ=="]}}}"#, "Expected string"),
+        (r#"{"M":{"bytes":{"SS":["a"]}}}"#, "Expected binary data"),
+    ])?;
     reads::<[u8; 3]>(&rt, alloc, &[
         // the first three
         (r#"{"L":[{"N":"1"},{"N":"2"},{"N":"3"},{"NULL":true}]}"#, "Expected num"),
