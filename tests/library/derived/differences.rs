@@ -1,5 +1,5 @@
 // What docs/DIFFERENCES.md lists of derived types: a row for each line of it. The comments say what the Rust crate returns.
-use crate::derived::rows::{reads, text, writes};
+use crate::derived::rows::{reads, refused_at, text, writes};
 use serde::{Deserialize, Serialize};
 use std::collections::BTreeMap;
 use std::test::Fail;
@@ -123,6 +123,16 @@ struct Sets {
 #[serde(rename_all = "PascalCase")]
 struct Renamed {
     lots: u8,
+}
+
+#[derive(Drop, Deserialize)]
+struct Aliases {
+    #[serde(alias = "b")]
+    a: u8,
+    #[serde(alias = "d", default, with = "dynamo_serde::bytes")]
+    c: Vec<u8>,
+    #[serde(alias = "f", default, deserialize_with = "dynamo_serde::bytes::deserialize")]
+    e: Vec<u8>,
 }
 
 #[test]
@@ -357,5 +367,19 @@ fn halfway_between_two_texts(rt: HostRuntime) -> Result<(), Fail> {
     reads::<f32>(&rt, alloc, &[
         (r#"{"N":"138647.12"}"#, ""),
         (r#"{"N":"138647.13"}"#, r#"{"N":"138647.12"}"#),
+    ])
+}
+
+// The places that docs/OWN_TYPES.md lists, where those of described types are others (described/differences.rs).
+#[test]
+fn places(rt: HostRuntime) -> Result<(), Fail> {
+    let alloc = rt.alloc();
+    refused_at::<Vec<Inside>>(&rt, alloc, &[
+        (r#"{"L":[{"M":{"n":{"N":"1"},"t":{"S":"Alien"}}}]}"#, "[0]: unknown variant `Alien`"),
+    ])?;
+    refused_at::<Vec<Aliases>>(&rt, alloc, &[
+        (r#"{"L":[{"M":{"a":{"N":"1"},"b":{"N":"1"}}}]}"#, "[0]: duplicate field `a`"),
+        (r#"{"L":[{"M":{"a":{"N":"1"},"c":{"B":""},"d":{"B":""}}}]}"#, "[0].d: duplicate field `c`"),
+        (r#"{"L":[{"M":{"a":{"N":"1"},"e":{"B":""},"f":{"B":""}}}]}"#, "[0].f: duplicate field `e`"),
     ])
 }

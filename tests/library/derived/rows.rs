@@ -1,5 +1,5 @@
 // What rows of DynamoDB JSON are read as and written as.
-use dynamo_serde::{from_attribute_value, to_attribute_value};
+use dynamo_serde::{from_attribute_value, from_attribute_value_located, to_attribute_value};
 use dynamo_value::{AttributeValue, Error, Result};
 use serde::{DeserializeOwned, Serialize};
 use serde_dynamo::DynamoJson;
@@ -57,6 +57,22 @@ pub(crate) fn reads<T: Serialize + DeserializeOwned>(
         };
         let expected = if row.1.is_empty() { row.0 } else { row.1 };
         assert_eq!(rt; answer.as_str(), expected);
+    }
+    Ok(())
+}
+
+// Reading each JSON is refused by this, a place and an error.
+pub(crate) fn refused_at<T: DeserializeOwned>(
+    rt: &impl Abort,
+    alloc: Global,
+    rows: &[(&str, &str)],
+) -> std::result::Result<(), Fail> {
+    for row in rows {
+        let answer = match from_attribute_value_located::<T>(alloc, value(alloc, row.0)?) {
+            Ok(_) => text(alloc, "read")?,
+            Err(error) => error.to_string(alloc)?,
+        };
+        assert_eq!(rt; answer.as_str(), row.1);
     }
     Ok(())
 }

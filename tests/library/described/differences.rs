@@ -1,7 +1,7 @@
 // What docs/DIFFERENCES.md lists of described types: a row for each line of it. The comments say what the Rust crate returns.
-use super::rows::reads;
+use super::rows::{reads, refused_at};
 use dynamo_record::{Field, Named, NamedFields, TaggedEnum, read_tagged};
-use example_described::{Entity, Reading, Sealed, Shipment};
+use example_described::{Contact, Entity, Reading, Sealed, Shipment};
 use serde_dynamo::ByteBuf;
 use serde_dynamo::de::{Deserialize, Deserializer};
 use std::alloc::Global;
@@ -178,4 +178,29 @@ fn messages(rt: HostRuntime) -> Result<(), Fail> {
     // invalid type: string "a", expected u8
     let element = "invalid type: string, expected an integer";
     reads::<Vec<u8>>(&rt, alloc, r#"{"SS":["a"]}"#, element)
+}
+
+// The places that docs/OWN_TYPES.md lists, where those of derived types are others (derived/differences.rs).
+#[test]
+fn places(rt: HostRuntime) -> Result<(), Fail> {
+    let alloc = rt.alloc();
+    refused_at::<Vec<Entity>>(
+        &rt,
+        alloc,
+        r#"{"L":[{"M":{"id":{"N":"1"},"type":{"S":"Line"}}}]}"#,
+        "[0].type: unknown variant `Line`, expected one of `Customer`, `Order`, `Counter`",
+    )?;
+    for (json, error) in [
+        (
+            r#"{"L":[{"M":{"id":{"S":"a"},"phone":{"S":"7"},"tel":{"S":"7"}}}]}"#,
+            "[0].tel: duplicate field `phone`",
+        ),
+        (
+            r#"{"L":[{"M":{"id":{"S":"a"},"zip":{"S":"1"}}}]}"#,
+            "[0].zip: unknown field `zip`, expected one of `id`, `phone`, `email`, `groups`",
+        ),
+    ] {
+        refused_at::<Vec<Contact>>(&rt, alloc, json, error)?;
+    }
+    Ok(())
 }

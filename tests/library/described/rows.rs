@@ -1,6 +1,6 @@
 use crate::fixtures::readers;
 use serde_dynamo::de::Deserialize;
-use serde_dynamo::{AttributeValue, DynamoJson, Shaped, reread};
+use serde_dynamo::{AttributeValue, DynamoJson, Shaped, from_attribute_value_located, reread};
 use serde_json::Value;
 use std::alloc::Global;
 use std::fmt::Debug;
@@ -32,6 +32,22 @@ pub(crate) fn reads<T: Deserialize + Debug>(
     let read: serde_dynamo::Result<T> = readers::read(alloc, value)?;
     let answer = match read {
         Ok(value) => format!(in alloc; "{value:?}")?,
+        Err(error) => error.to_string(alloc)?,
+    };
+    assert_eq!(rt; answer.as_str(), expected);
+    Ok(())
+}
+
+/// Reading the attribute value of this DynamoDB JSON is refused by this, a place and an error.
+pub(crate) fn refused_at<T: Deserialize + Drop>(
+    rt: &impl Abort,
+    alloc: Global,
+    json: &str,
+    expected: &str,
+) -> Result<(), Fail> {
+    let value = AttributeValue::from_json(alloc, &Value::from_str(alloc, json)?)?;
+    let answer = match from_attribute_value_located::<T>(alloc, value) {
+        Ok(_) => String::from_str(alloc, "read")?,
         Err(error) => error.to_string(alloc)?,
     };
     assert_eq!(rt; answer.as_str(), expected);
