@@ -4,15 +4,14 @@
 //! with a sort key of each kind and without one. What the list answers, items or a refusal, the table in memory and the one in
 //! the database have to answer too, and to have as many items afterwards. Printed is how many calls there were of each kind,
 //! how many of them were refused, and the first that differs, if any does. Fewer calls follow on tables in a database of pages
-//! in memory, where each change copies the log.
+//! in memory.
 use crate::calls::{Call, Draw, NAMES, Shape, shapes};
 use crate::three::{Outcome, Three};
-use sqlite::{Alter, FileStore, MemStore};
-use sqlite_disk::Memory;
+use sqlite::{Alter, MemStore};
 use std::alloc::Global;
 use std::io;
 use table_keys::KeyKind;
-use table_store::{StoreError, create_in_memory, create_in_memory_file};
+use table_store::{MemoryPages, StoreError, create_in_memory, create_in_memory_file};
 
 // How many calls of one kind were made, and how many of them refused.
 #[derive(Clone, Copy)]
@@ -50,7 +49,7 @@ fn listed(alloc: Global) -> Result<Vec<Three<MemStore>>, StoreError> {
 }
 
 // Four of the tables, in databases of pages. Each takes the memory of two hundred pages at once.
-fn paged(alloc: Global) -> Result<Vec<Three<FileStore<Memory>>>, StoreError> {
+fn paged(alloc: Global) -> Result<Vec<Three<MemoryPages>>, StoreError> {
     let mut tables = Vec::new(alloc);
     for shape in [
         (KeyKind::S, None),

@@ -6,6 +6,7 @@
 //! - `foreign`: four pages of a table of three items in which another program has written rows.
 //! - `queries`: both kinds of tables are queried for values that lie close to each other, and answer as a plain filter does.
 //! - `reads`: the rows are counted that a database reads for a query.
+//! - `refused`: a table in memory whose files get no memory, at each of their writes.
 //! - `memory`: numbers, and calls on the table in memory that are rows of data.
 //! - `requests`: each line of `requests.txt` is a request file, whose requests are printed, or its fault.
 //! - `exports`: the lines of the input are an export. Each item is printed as it is after it was written and read again, or why
@@ -31,6 +32,7 @@ mod pools;
 mod queries;
 mod question;
 mod reads;
+mod refused;
 mod requests;
 mod script;
 mod tables;
@@ -44,6 +46,7 @@ fn main(rt: HostRuntime) -> anyhow::Result<()> {
     foreign::print_pages(&rt)?;
     queries::print_answers(&rt)?;
     reads::print_reads(&rt)?;
+    refused::print_refused(&rt)?;
     memory::print_answers(&rt)?;
     requests::print_all(&rt)?;
     exports::print_again(&rt)?;

@@ -4,13 +4,12 @@ use crate::pools::{COUNT, Value, misplaced, pooled};
 use crate::question::{Pair, Question, draw_one};
 use crate::tables::Calls;
 use dynamo_value::{AttributeValue, Item};
-use sqlite::{Connection, FileStore};
-use sqlite_disk::Memory;
+use sqlite::Connection;
 use std::alloc::{AllocError, Global};
 use std::io;
 use table_keys::{Key, KeyKind, Query};
 use table_memory::Table;
-use table_store::{StoreError, TableStore, create_in_memory_file};
+use table_store::{MemoryPages, StoreError, TableStore, create_in_memory_file};
 
 // How many queries are asked of each pair of tables.
 const QUESTIONS: u32 = 100;
@@ -25,7 +24,7 @@ struct Both {
     keys: Vec<Pair>,
     items: Vec<Item>,
     memory: Table,
-    store: TableStore<FileStore<Memory>>,
+    store: TableStore<MemoryPages>,
 }
 
 /// What came of the queries.
@@ -76,7 +75,7 @@ pub fn item(alloc: Global, pair: Pair, number: usize) -> Result<Item, StoreError
 impl Both {
     fn empty(
         alloc: Global,
-        conn: Connection<FileStore<Memory>>,
+        conn: Connection<MemoryPages>,
         shape: Shape,
     ) -> Result<Both, StoreError> {
         let name = format!(in alloc; "{shape:?}")?;
@@ -287,11 +286,11 @@ impl Report {
 // Asks queries of the tables of these kinds of keys. The database has the tables that were asked before, too.
 fn run_at(
     alloc: Global,
-    conn: Connection<FileStore<Memory>>,
+    conn: Connection<MemoryPages>,
     shape: Shape,
     draw: &mut Draw,
     report: &mut Report,
-) -> Result<Connection<FileStore<Memory>>, Fault> {
+) -> Result<Connection<MemoryPages>, Fault> {
     let mut both = Both::empty(alloc, conn, shape)?;
     match shape.sort {
         Some(sort) => both.fill(alloc, draw, sort)?,

@@ -6,13 +6,11 @@ use crate::stopped::Stopped;
 use crate::tables::{number_of, second};
 use crate::{digest, purchases};
 use dynamo_value::{AttributeValue, Item};
-use sqlite::FileStore;
-use sqlite_disk::Memory;
 use std::alloc::{AllocError, Global};
 use std::collections::HashMap;
 use table_keys::{Key, KeySchema, KeyValue, Query, SortCondition};
 use table_memory::Table;
-use table_store::{TableStore, create_in_memory_file};
+use table_store::{MemoryPages, TableStore, create_in_memory_file};
 
 const READINGS_KEYS: [&str; 2] = ["of:S", "at:N"];
 
@@ -104,7 +102,7 @@ impl Asked for Table {
 }
 
 // The table in a database that is asked.
-type Database = TableStore<FileStore<Memory>>;
+type Database = TableStore<MemoryPages>;
 
 impl Asked for Database {
     fn put_all(&mut self, items: Vec<Item>) -> Result<(), Stopped> {

@@ -12,3 +12,4 @@ mod store;
 pub use error::StoreError;
 pub use open::{create_at, create_in_memory, create_in_memory_file, open_at};
 pub use store::TableStore;
+pub use table_pages::MemoryPages;

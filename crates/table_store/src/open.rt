@@ -4,23 +4,23 @@ ghost use Rattle.table_store.specs.Content.{schema_of};
 ghost use Rattle.table_store.specs.Faults.{CreateFails, IsOfDatabase, OpenFails};
 
 use crate::{StoreError, TableStore};
-use sqlite::{Connection, File, FileStore, Files, MemStore, Options};
-use sqlite_disk::Memory;
+use sqlite::{Connection, File, FileStore, MemStore};
 use std::alloc::Global;
 use table_keys::KeySchema;
+use table_pages::MemoryPages;
 
 /// Returns an empty table in a database in memory.
 ///
 /// The database is the paged one of [`create_at`], over files in memory. A put, an update or a
-/// delete visits as many rows as the logarithm of the number of items. It then copies the log of
-/// the latest changes, which has at most a hundred pages of 4 KB, or a few more. About once in a
-/// hundred written pages the log goes into the database, which is copied whole.
-/// [`TableStore::write_all`] copies once for all its items.
+/// delete visits as many rows as the logarithm of the number of items, and writes the pages that it
+/// changes to a log. About once in a hundred written pages the log goes into the database.
+///
+/// If memory runs out in a call, the call returns [`StoreError::OutOfMemory`], the items are as
+/// they were, and the next call works.
 ///
 /// # Errors
 ///
-/// Returns [`StoreError::Database`] if the database can't be opened, and
-/// [`StoreError::OutOfMemory`] if memory runs out. Otherwise returns the error of
+/// Returns [`StoreError::OutOfMemory`] if memory runs out. Otherwise returns the error of
 /// [`TableStore::create`].
 ///
 /// # Examples
@@ -37,41 +37,11 @@ pub fn create_in_memory_file(
     alloc: Global,
     name: &str,
     schema: KeySchema,
-) -> Result<TableStore<FileStore<Memory>>, StoreError>
+) -> Result<TableStore<MemoryPages>, StoreError>
     ensures schema { IfOk result (λ store. words_of (schema_of store) ≡ words_of schema) }
     ensures errors { IfErr result CreateFails }
 {
-    TableStore::create(alloc, connect_in_memory(alloc)?, name, schema)
-}
-
-// The seed of the salts of a log, which tell one log in a file from the next. A log in memory is
-// the only one.
-const SALT_SEED: u64 = 0;
-
-// How many pages that were read are kept. They are allocated at once.
-const CACHE_PAGES: usize = 200;
-
-// How many pages the log has before it goes into the database. Each change copies the log in
-// memory, and each log that goes into the database copies that.
-const LOG_PAGES: usize = 100;
-
-// A database over two files in memory, that of its pages and that of its log.
-fn connect_in_memory(alloc: Global) -> Result<Connection<FileStore<Memory>>, StoreError>
-    ensures errors { IfErr result IsOfDatabase }
-{
-    let files = Files {
-        log: Memory::new(alloc),
-        db: Memory::new(alloc),
-    };
-    let options = Options {
-        cache_pages: CACHE_PAGES,
-        checkpoint_frames: LOG_PAGES,
-        ..Options::new(SALT_SEED)
-    };
-    match Connection::open_files(alloc, files, options) {
-        Ok(conn) => Ok(conn),
-        Err((error, _)) => Err(StoreError::from(error)),
-    }
+    TableStore::create(alloc, table_pages::connect(alloc)?, name, schema)
 }
 
 /// Returns an empty table in a database in memory that keeps its rows in one list.

@@ -25,12 +25,11 @@ use crate::change::{Failed, changed};
 use crate::located::place_among;
 use dynamo_place::{LocatedError, Place};
 use dynamo_value::{Error, Item};
-use sqlite::{Alter, Connection, FileStore};
-use sqlite_disk::Memory;
+use sqlite::{Alter, Connection};
 use std::alloc::Global;
 use std::marker::PhantomData;
 use table_keys::{Condition, Key, Query};
-use table_store::{TableStore, create_in_memory_file};
+use table_store::{MemoryPages, TableStore, create_in_memory_file};
 use table_typed::{AsItem, Keyed, place_of_error};
 
 /// A table in a SQLite database of values of one type, each an item under its key.
@@ -84,12 +83,13 @@ pub struct TypedStore<T, S: Alter + Drop> {
     values: PhantomData<T>,
 }
 
-impl<T: AsItem + Keyed> TypedStore<T, FileStore<Memory>> {
+impl<T: AsItem + Keyed> TypedStore<T, MemoryPages> {
     /// Returns an empty table in a database in memory, whose key is that of the type. The values
     /// that it returns are allocated in `alloc`.
     ///
     /// The database is that of [`table_store::create_in_memory_file`]: a put, an update or a delete
-    /// visits as many rows as the logarithm of the number of values, and copies the log.
+    /// visits as many rows as the logarithm of the number of values. If memory runs out in a call,
+    /// the values are as they were, and the next call works.
     ///
     /// # Errors
     ///
@@ -99,11 +99,10 @@ impl<T: AsItem + Keyed> TypedStore<T, FileStore<Memory>> {
     ///
     /// ```rust
     /// # use example_types::station::Station;
-    /// use sqlite::FileStore;
-    /// use sqlite_disk::Memory;
+    /// use table_store::MemoryPages;
     /// use table_typed_store::TypedStore;
     ///
-    /// type Stations = TypedStore<Station, FileStore<Memory>>;
+    /// type Stations = TypedStore<Station, MemoryPages>;
     ///
     /// let mut stations: Stations = TypedStore::create_in_memory_file(alloc, "stations")?;
     /// assert!(rt; stations.is_empty()?);
