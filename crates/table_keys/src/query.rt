@@ -1,4 +1,4 @@
-ghost use Rattle.std.specs.Prelude.{◌≡◌, false};
+ghost use Rattle.std.specs.Prelude.{◌≡◌, false, true};
 ghost use Rattle.table_keys.specs.Queries.{begins_with, compared, finds, is_behind, meets};
 ghost use Rattle.table_keys.specs.Queries.{meets_sort};
 
@@ -18,7 +18,7 @@ use std::cmp::Ordering;
 /// let high = schema.key_from(alloc, "Arthur", Some("2024"))?;
 /// let from = low.sort.as_ref().ok_or(TableError::Missing)?;
 /// let to = high.sort.as_ref().ok_or(TableError::Missing)?;
-/// let query = Query { sort: SortCondition::Between(from, to), ..Query::of(&low.partition) };
+/// let query = Query::of(&low.partition).between(from, to);
 /// assert!(rt; query.finds(&high));
 /// assert!(rt; !query.finds(&schema.key_from(alloc, "Arthur", Some("2025"))?));
 /// ```
@@ -60,10 +60,9 @@ pub enum SortCondition<'a> {
 /// let key = schema.key_from(alloc, "Arthur", Some("2024"))?;
 ///
 /// // The newest ten, and the page after that with `key`.
-/// let newest = Query { backward: true, limit: 10, ..Query::of(&key.partition) };
+/// let newest = Query::of(&key.partition).newest(10);
 /// assert!(rt; newest.finds(&key));
-/// let next = Query { start_after: Some(&key), ..newest };
-/// assert!(rt; !next.finds(&key));
+/// assert!(rt; !newest.after(&key).finds(&key));
 /// ```
 #[derive(Clone, Copy, Debug)]
 pub struct Query<'a> {
@@ -99,6 +98,62 @@ impl<'a> Query<'a> {
             backward: false,
             limit: usize::MAX,
             start_after: None,
+        }
+    }
+
+    /// Returns this query with the condition that the sort key begins with a string or a byte
+    /// string.
+    ///
+    /// # Examples
+    ///
+    /// ```rust
+    /// use table_keys::{KeyValue, Query};
+    ///
+    /// let customer = KeyValue::S(String::from_str(alloc, "Arthur")?);
+    /// let prefix = KeyValue::S(String::from_str(alloc, "order#")?);
+    /// let orders = Query::of(&customer).begins_with(&prefix).newest(5);
+    /// assert!(rt; orders.backward);
+    /// assert_eq!(rt; orders.limit, 5);
+    /// ```
+    pub fn begins_with(self, prefix: &'a KeyValue) -> Self
+        ensures { result ≡ record self.entry { sort = SortCondition.BeginsWith prefix.entry } }
+    {
+        Query {
+            sort: SortCondition::BeginsWith(prefix),
+            ..self
+        }
+    }
+
+    /// Returns this query with the condition that the sort key is between two values, both
+    /// included.
+    pub fn between(self, low: &'a KeyValue, high: &'a KeyValue) -> Self
+        ensures { result ≡ record self.entry
+            { sort = SortCondition.Between low.entry high.entry } }
+    {
+        Query {
+            sort: SortCondition::Between(low, high),
+            ..self
+        }
+    }
+
+    /// Returns the query of the last `count` of these items at most, the greatest sort key first.
+    pub fn newest(self, count: usize) -> Self
+        ensures { result ≡ record self.entry { backward = true; limit = count } }
+    {
+        Query {
+            backward: true,
+            limit: count,
+            ..self
+        }
+    }
+
+    /// Returns the query of the page after the one that ends with this key.
+    pub fn after(self, key: &'a Key) -> Self
+        ensures { result ≡ record self.entry { start_after = Some key.entry } }
+    {
+        Query {
+            start_after: Some(key),
+            ..self
         }
     }
 
