@@ -39,6 +39,9 @@ pub enum Body {
     /// A struct of one field without a name, by the text of its type.
     Newtype(String),
 
+    /// A `transparent` struct of one field without a name, by the text of its type.
+    Transparent(String),
+
     /// A struct of several fields without names, by the texts of their types.
     Tuple(Vec<String>),
 

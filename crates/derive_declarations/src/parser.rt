@@ -98,7 +98,7 @@ pub fn read_declaration(alloc: Global, item: &[Token]) -> Result<Declaration, Fa
     if !matches!(body, Body::Record(_)) {
         about.refuse(&["default", "deny_unknown_fields"])?;
     }
-    if !matches!(body, Body::Newtype(_)) {
+    if !matches!(body, Body::Transparent(_)) {
         about.refuse(&["transparent"])?;
     }
     let Attributes {
@@ -178,7 +178,7 @@ fn struct_body(
         }
         [open, ..] if open.is("(") => {
             about.refuse(&["rename_all"])?;
-            unnamed_body(alloc, rest, parameters, line)
+            unnamed_body(alloc, rest, parameters, about.is_transparent, line)
         }
         [open, ..] if open.is("{") => {
             let (inside, _) = bracketed(rest, "{").unwrap_or((&[], &[]));
@@ -212,11 +212,13 @@ fn refuse_equal_names(alloc: Global, fields: &[Field]) -> Result<(), Failure> {
     Ok(())
 }
 
-// The body of a struct whose fields have no names: a newtype, where it is one field.
+// The body of a struct whose fields have no names: a newtype, where it is one field, or a
+// transparent struct.
 fn unnamed_body(
     alloc: Global,
     rest: &[Token],
     parameters: &[Parameter],
+    is_transparent: bool,
     line: u32,
 ) -> Result<Body, Failure> {
     let inside = match bracketed(rest, "(") {
@@ -243,7 +245,11 @@ fn unnamed_body(
             "a generic newtype is described where its field is a parameter",
         ));
     }
-    Ok(Body::Newtype(of))
+    Ok(if is_transparent {
+        Body::Transparent(of)
+    } else {
+        Body::Newtype(of)
+    })
 }
 
 /// The texts of the types of the fields between brackets, which have no names.

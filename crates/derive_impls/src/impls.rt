@@ -1,5 +1,5 @@
 use crate::heading::Heading;
-use crate::{choices, newtype, record, tuple_struct, unit_enum, unit_struct};
+use crate::{choices, newtype, record, transparent, tuple_struct, unit_enum, unit_struct};
 use derive_declarations::{Body, Declaration};
 use std::alloc::{AllocError, Global};
 
@@ -27,6 +27,7 @@ fn print_body(
     match body {
         Body::Record(fields) => record::print_record(alloc, out, heading, fields),
         Body::Newtype(of) => newtype::print_newtype(alloc, out, heading, of),
+        Body::Transparent(of) => transparent::print_transparent(alloc, out, heading, of),
         Body::Tuple(types) => tuple_struct::print_tuple_struct(alloc, out, heading, types),
         Body::Unit => unit_struct::print_unit(out, heading),
         Body::Units(variants) => unit_enum::print_units(alloc, out, heading, variants, alias),

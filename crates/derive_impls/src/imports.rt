@@ -15,13 +15,15 @@ const ALWAYS: &str = "codes refl serde_dynamo::Shaped serde_dynamo::de::Deserial
 
 // The files of definitions, each with those that are imported of it, in the order in which they are
 // printed.
-const DEFINITIONS: [&str; 10] = [
+const DEFINITIONS: [&str; 11] = [
     "std.specs.Prelude [] ◌∷◌ codes false refl true",
+    "dynamo_record.specs.About about_part",
     "dynamo_record.specs.Keys own_key",
     "dynamo_record.specs.Records record_of record_tells record_reads about_record",
     "dynamo_record.specs.ByRules about_by_rules rules_reads",
-    "dynamo_record.specs.Newtypes about_newtype about_unit_struct key_newtype newtype_by_shape \
-        newtype_is_key newtype_reads unit_struct_by_shape unit_struct_reads",
+    "dynamo_record.specs.Newtypes about_newtype about_unit_struct key_newtype key_part \
+        newtype_by_shape newtype_is_key newtype_reads part_by_shape part_is_key part_reads \
+        unit_struct_by_shape unit_struct_reads",
     "dynamo_record.specs.TupleStructs about_tuple_struct tuple_struct_by_shape tuple_struct_of \
         tuple_struct_reads tuple_struct_tells",
     "dynamo_record.specs.UnitEnums units_of about_units key_units unit_enum_tells unit_enum_reads",
@@ -67,11 +69,9 @@ impl Words {
                 self.add(words_of_rules(declaration.denies_unknown, has_aliases(fields)))?;
                 self.add_fields(fields)
             }
-            Body::Newtype(_) if declaration.is_key && declaration.parameters.is_empty() => {
-                self.add("key_newtype own_key serde_dynamo::ShapedKey")
-            }
-            Body::Newtype(_) if declaration.is_key => {
-                self.add("key_newtype newtype_is_key serde_dynamo::ShapedKey")
+            Body::Newtype(_) | Body::Transparent(_) if declaration.is_key => {
+                self.add("serde_dynamo::ShapedKey")?;
+                self.add(words_of_key(declaration))
             }
             Body::Units(_) if declaration.is_key => {
                 self.add("key_units own_key serde_dynamo::ShapedKey")
@@ -162,6 +162,9 @@ fn words_of_body(body: &Body) -> &'static str {
         Body::Newtype(_) => {
             "about_newtype newtype_by_shape newtype_reads read_newtype write_newtype"
         }
+        Body::Transparent(_) => {
+            "about_part part_by_shape part_reads read_transparent write_transparent"
+        }
         Body::Tuple(_) => {
             "about_tuple_struct tuple_struct_by_shape tuple_struct_of tuple_struct_reads \
                 tuple_struct_tells Field FieldList TupleStruct read_tuple_struct \
@@ -181,6 +184,17 @@ fn words_of_body(body: &Body) -> &'static str {
             "[] ◌∷◌ tagged_of tagged_tells tagged_reads about_tagged \
                 TaggedEnum TaggedList read_tagged"
         }
+    }
+}
+
+// The words of a key of one field.
+fn words_of_key(declaration: &Declaration) -> &'static str {
+    let is_generic = !declaration.parameters.is_empty();
+    match (&declaration.body, is_generic) {
+        (Body::Transparent(_), false) => "key_part own_key",
+        (Body::Transparent(_), true) => "key_part part_is_key",
+        (_, false) => "key_newtype own_key",
+        (_, true) => "key_newtype newtype_is_key",
     }
 }
 

@@ -19,6 +19,7 @@ mod newtype;
 mod record;
 mod record_rules;
 mod traits;
+mod transparent;
 mod tree;
 mod tuple_struct;
 mod unit_enum;

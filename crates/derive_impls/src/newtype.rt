@@ -24,21 +24,22 @@ pub fn print_newtype(
     let by_shape = format_args!("newtype_by_shape {field} {known}");
     print_shaped(out, heading, about, by_shape, "self.0.conforms();")?;
     if heading.is_key {
-        print_newtype_key(out, heading, of, field.as_str())?;
+        let words = ("key_newtype", "newtype_is_key");
+        print_field_key(out, heading, of, words, field.as_str())?;
     }
     Ok(())
 }
 
-// The letter of a value in a ghost member: the first of its type's name.
-fn letter(name: &str) -> char {
+/// The letter of a value in a ghost member: the first of its type's name.
+pub fn letter(name: &str) -> char {
     match name.chars().next() {
         Some(first) if first.is_ascii_alphabetic() => first.to_ascii_lowercase(),
         _ => 'v',
     }
 }
 
-// What is known of the field's type, which is a parameter of a generic newtype.
-fn known(alloc: Global, heading: &Heading, of: &str) -> Result<String, AllocError> {
+/// What is known of the field's type, which is a parameter of a generic struct.
+pub fn known(alloc: Global, heading: &Heading, of: &str) -> Result<String, AllocError> {
     if heading.arguments.is_empty() {
         format!(in alloc; "⟦<{of} as Shaped>⟧.about")
     } else {
@@ -46,26 +47,35 @@ fn known(alloc: Global, heading: &Heading, of: &str) -> Result<String, AllocErro
     }
 }
 
-// Whether writing allocates by itself: if writing the field of a generic newtype does.
-fn wants(alloc: Global, heading: &Heading, of: &str, letter: char) -> Result<String, AllocError> {
+/// Whether writing allocates by itself: if writing the field of a generic struct does.
+pub fn wants(
+    alloc: Global,
+    heading: &Heading,
+    of: &str,
+    letter: char,
+) -> Result<String, AllocError> {
     if heading.arguments.is_empty() {
         return Ok(String::new(alloc));
     }
     format!(in alloc; "    ghost wants = {{ λ {letter}. {of}.wants {letter}.0 }};\n")
 }
 
-fn print_newtype_key(
+/// Prints the impl of `ShapedKey` of a struct of one field, by the words for what is known of it
+/// and for why it is a key, and the arguments of both that are before the field's.
+pub fn print_field_key(
     out: &mut String,
     heading: &Heading,
     of: &str,
+    words: (&str, &str),
     field: &str,
 ) -> Result<(), AllocError> {
+    let (known, is_key) = words;
     if heading.arguments.is_empty() {
-        let known = format_args!("key_newtype {field} ⟦<{of} as ShapedKey>⟧.about_key");
+        let known = format_args!("{known} {field} ⟦<{of} as ShapedKey>⟧.about_key");
         return print_key(out, heading, known, "own_key _");
     }
-    let known = format_args!("key_newtype {field} {of}.about_key");
+    let known = format_args!("{known} {field} {of}.about_key");
     let laws = format_args!("{of}.about.tells {of}.eq {of}.cmp {of}.is_key");
-    let is_key = format_args!("newtype_is_key {field} {of}.about_key {of}.about.shape {laws}");
+    let is_key = format_args!("{is_key} {field} {of}.about_key {of}.about.shape {laws}");
     print_key(out, heading, known, is_key)
 }

@@ -47,13 +47,32 @@ impl{shaped} Deserialize for {ty} {{
     )
 }
 
-/// Prints the impl of `Shaped`, by the shape, why reading is by the shape, and the body of
-/// `conforms`.
+/// Prints the impl of `Shaped` for a type without a value for a missing field, by the shape, why
+/// reading is by the shape, and the body of `conforms`.
 pub fn print_shaped<A: Display + Drop, S: Display + Drop, B: Display + Drop>(
     out: &mut String,
     heading: &Heading,
     about: A,
     by_shape: S,
+    body: B,
+) -> Result<(), AllocError> {
+    let ty = heading.ty.as_str();
+    let absent = format_args!("(_alloc: Global) -> Result<Option<{ty}>, E> {{ Ok(None) }}");
+    print_shaped_with(out, heading, about, by_shape, absent, body)
+}
+
+/// Prints the impl of `Shaped`, as [`print_shaped`], by the rest of the function `absent` too.
+pub fn print_shaped_with<
+    A: Display + Drop,
+    S: Display + Drop,
+    N: Display + Drop,
+    B: Display + Drop,
+>(
+    out: &mut String,
+    heading: &Heading,
+    about: A,
+    by_shape: S,
+    absent: N,
     body: B,
 ) -> Result<(), AllocError> {
     let Heading { shaped, ty, .. } = heading;
@@ -64,7 +83,7 @@ impl{shaped} Shaped for {ty} {{
     ghost about = {{ {about} }};
     ghost as_told = {{ refl }};
     ghost reads_by_shape = {{ {by_shape} }};
-    fn absent<E: Error>(_alloc: Global) -> Result<Option<{ty}>, E> {{ Ok(None) }}
+    fn absent<E: Error>{absent}
     fn conforms(&self) {{
         {body}
     }}

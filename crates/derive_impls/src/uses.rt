@@ -101,7 +101,7 @@ impl Uses {
 fn has_type(declaration: &Declaration, name: &str) -> bool {
     match &declaration.body {
         Body::Record(fields) => have_type(fields, name),
-        Body::Newtype(of) => says(of.as_str(), name),
+        Body::Newtype(of) | Body::Transparent(of) => says(of.as_str(), name),
         Body::Tuple(types) => types.iter().any(|of| says(of.as_str(), name)),
         Body::Unit | Body::Units(_) => false,
         Body::Choices(variants) | Body::Tagged(_, variants) => variants.iter().any(

@@ -1,4 +1,5 @@
--- Structs of one field without a name, and structs without fields.
+-- Structs of one field without a name, also those that are as their field is, and structs without
+-- fields.
 use Rattle.std.specs.Prelude.{◌≡◌, Bool, Result, ⊤}
 use Rattle.std.proofs.Common.{refl, sym, ap, subst}
 use Rattle.std.specs.Ordering.{eq_by_cmp}
@@ -28,6 +29,42 @@ pub as_shape : {T : Type 0} (a : About T) → ReadsByShape a.shape a.tells (Read
 unfolding ReadsAs
 as_shape a source r h = h
 
+-- ---- a transparent struct: its field, and what is known of the field's values
+
+-- what may be answered on a source: a struct round what is read of the field
+abbrev pub part_reads : {B V : Type 0} → (B → V) → About V → Source → Result B Fault → Type 0
+part_reads field a source r = Through field (ReadsAs a source) r
+
+pub part_by_shape : {B V : Type 0} (field : B → V) (a : About V)
+    → ReadsByShape a.shape (λ b. a.tells (field b)) (part_reads field a)
+part_by_shape field a = through_permitted a.shape a.tells (ReadsAs a) field (as_shape a)
+
+module _ {B V : Type 0} (field : B → V) (key : AboutKey V) where
+  -- equal, and in order, as the fields are
+  abbrev pub key_part : AboutKey B
+  key_part = record {
+    about = about_part field key.about;
+    eq = λ b c. key.eq (field b) (field c);
+    cmp = λ b c. key.cmp (field b) (field c);
+    equal_as_told = λ b c. key.equal_as_told (field b) (field c);
+    ordered_as_told = λ b c. key.ordered_as_told (field b) (field c);
+    below_as_told = λ b c. key.below_as_told (field b) (field c);
+    told_apart = λ b c. key.told_apart (field b) (field c);
+  }
+
+  -- where the fields are keys, so are the structs
+  pub part_is_key : (own : Shape) (tells : V → Datum) (equal : V → V → Bool)
+      (order : V → V → Ordering)
+      → IsKeyOf key own tells equal order
+      → IsKeyOf key_part own (λ b. tells (field b)) (λ b c. equal (field b) (field c))
+      (λ b c. order (field b) (field c))
+  part_is_key own tells equal order is = record {
+    shape = is.shape;
+    tells = λ i b. is.tells i (field b);
+    eq = λ i b c. is.eq i (field b) (field c);
+    cmp = λ i b c. is.cmp i (field b) (field c);
+  }
+
 -- ---- a newtype: its name, its field, and what is known of the field's values
 
 abbrev pub named_newtype : {V : Type 0} → Text → About V → About V
@@ -45,14 +82,12 @@ about_newtype name field a = about_part field (named_newtype name a)
 -- what may be answered on a source: a newtype round what is read of the field
 abbrev pub newtype_reads : {B V : Type 0} → Text → (B → V) → About V → Source → Result B Fault
     → Type 0
-newtype_reads name field a source r = Through field (ReadsAs (named_newtype name a) source) r
+newtype_reads name field a = part_reads field (named_newtype name a)
 
 pub newtype_by_shape : {B V : Type 0} (name : Text) (field : B → V) (a : About V)
     → ReadsByShape (shape.newtype name a.shape) (λ b. datum.newtype_struct name (a.tells (field b)))
     (newtype_reads name field a)
-newtype_by_shape name field a = through_permitted (shape.newtype name a.shape)
-    (λ v. datum.newtype_struct name (a.tells v)) (ReadsAs (named_newtype name a)) field
-    (as_shape (named_newtype name a))
+newtype_by_shape name field a = part_by_shape field (named_newtype name a)
 
 module _ {B V : Type 0} (name : Text) (field : B → V) (key : AboutKey V) where
   abbrev told : B → Datum

@@ -9,6 +9,7 @@
 //! | its other names, and unknown fields | [`RecordRules`] | [`read_record_by_rules`] |
 //! | tuple struct | [`TupleStruct`] | [`write_tuple_struct`], [`read_tuple_struct`] |
 //! | newtype struct | | [`write_newtype`], [`read_newtype`] |
+//! | transparent struct | | [`write_transparent`], [`read_transparent`] |
 //! | unit struct | | [`read_unit_struct`] |
 //! | enum | [`Enumeration`] | [`write_unit`], [`write_one`] and others, [`read_enum`] |
 //! | enum of unit variants | [`UnitEnum`] | [`write_unit_enum`], [`read_unit_enum`] |
@@ -54,7 +55,7 @@ pub use enumeration::{Enumeration, read_enum};
 pub use field::{Field, FieldType};
 pub use field_list::FieldList;
 pub use named::{Named, NamedFields};
-pub use newtype::{read_newtype, write_newtype};
+pub use newtype::{read_newtype, read_transparent, write_newtype, write_transparent};
 pub use omitted::{Omittable, Omitted, OmittedRef};
 pub use record::{Record, read_record, record_conforms, write_record};
 pub use record_rules::{RecordRules, read_record_by_rules};

@@ -53,3 +53,33 @@ pub fn write_newtype<T: Shaped, S: Serializer>(
 {
     serializer.serialize_newtype_struct(name, field)
 }
+
+/// Reads the field of a transparent struct, for `match read_transparent(alloc, deserializer) { .. }`
+/// with the arms `Ok(field) => Ok(Count(field))` and `Err(error) => Err(error)`.
+///
+/// # Errors
+///
+/// Returns the error of reading the field.
+pub fn read_transparent<T: Shaped, D: Deserializer>(
+    alloc: Global,
+    deserializer: D,
+) -> Result<T, D::Error>
+    ensures { Meets D.Error.fault (ReadsAs T.about (D.source deserializer)) result }
+{
+    T::deserialize(alloc, deserializer)
+}
+
+/// Writes the field of a transparent struct, as in `write_transparent(&self.0, serializer)`.
+///
+/// # Errors
+///
+/// Returns the error of writing the field, or the serializer's error.
+pub fn write_transparent<T: Shaped, S: Serializer>(
+    field: &T,
+    serializer: S,
+) -> Result<S::Ok, S::Error>
+    ensures { Writes S.Error.fault (T.wants field.now) (S.outcome serializer)
+        (T.about.tells field.now) result }
+{
+    field.serialize(serializer)
+}

@@ -1,9 +1,9 @@
 // Sets of Rust in described types: what is written of them, and what reads as them.
 use super::rows::{reads, rereads};
-use example_described::Roster;
+use example_described::{Bay, Remark, Roster, Seal, Sku, Stock};
 use serde_dynamo::ByteBuf;
 use std::alloc::Global;
-use std::collections::{BTreeSet, HashSet};
+use std::collections::{BTreeMap, BTreeSet, HashSet};
 use std::test::Fail;
 
 fn text(alloc: Global, text: &str) -> serde_dynamo::Result<String> {
@@ -114,5 +114,53 @@ fn hashed_sets_are_written_in_their_order(rt: HostRuntime) -> Result<(), Fail> {
     let json = r#"{"M":{"badges":{"NS":[]},"hours":{"L":[]},"id":{"S":"r-1"},"names":{"SS":[]},"rooms":{"NS":["9","10","300"]},"seals":{"BS":[]},"skills":{"SS":["","a","b","c","d"]}}}"#;
     assert_eq!(rt; written.to_string(alloc)?.as_str(), json);
     assert!(rt; back.skills == roster.skills && back.rooms == roster.rooms);
+    Ok(())
+}
+
+fn empty_stock(alloc: Global) -> Stock {
+    Stock {
+        remark: Remark(None),
+        skus: BTreeSet::new(alloc),
+        bays: Vec::new(alloc),
+        seals: HashSet::new(alloc),
+        counts: BTreeMap::new(alloc),
+    }
+}
+
+// A transparent newtype is written and read as its field.
+#[test]
+fn transparent_newtypes_are_members_of_sets(rt: HostRuntime) -> Result<(), Fail> {
+    let alloc = rt.alloc();
+    let mut stock = empty_stock(alloc);
+    for sku in ["b", "a", "b"] {
+        stock.skus.insert(Sku(text(alloc, sku)?))?;
+        stock.counts.insert(Sku(text(alloc, sku)?), 3)?;
+    }
+    stock.bays.push(Bay(10))?;
+    stock.bays.push(Bay(9))?;
+    stock.seals.insert(Seal(ByteBuf::from(vec![in alloc; 1u8]?)))?;
+    rereads(
+        &rt,
+        alloc,
+        stock,
+        r#"{"M":{"bays":{"NS":["10","9"]},"counts":{"M":{"a":{"N":"3"},"b":{"N":"3"}}},"remark":{"NULL":true},"seals":{"BS":["AQ=="]},"skus":{"SS":["a","b"]}}}"#,
+        r#"Stock { remark: Remark(None), skus: {Sku("a"), Sku("b")}, bays: [Bay(10), Bay(9)], seals: {Seal(ByteBuf { bytes: [1] })}, counts: {Sku("a"): 3, Sku("b"): 3} }"#,
+    )
+}
+
+#[test]
+fn a_missing_transparent_newtype_is_its_missing_field(rt: HostRuntime) -> Result<(), Fail> {
+    let alloc = rt.alloc();
+    for (json, read) in [
+        (
+            r#"{"M":{"bays":{"NS":[]},"counts":{"M":{}},"seals":{"BS":[]},"skus":{"SS":[]}}}"#,
+            "Stock { remark: Remark(None), skus: {}, bays: [], seals: {}, counts: {} }",
+        ),
+        (r#"{"M":{"skus":{"SS":["a"]}}}"#, "missing field `bays`"),
+        (r#"{"M":{"skus":{"NS":["1"]}}}"#, "invalid type: integer, expected a string"),
+        (r#"{"M":{"bays":{"SS":["1"]}}}"#, "invalid type: string, expected an integer"),
+    ] {
+        reads::<Stock>(&rt, alloc, json, read)?;
+    }
     Ok(())
 }
