@@ -120,28 +120,36 @@ pub fn json_of(alloc: Global, bytes: &[u8]) -> Result<Value, Fault>
     match Value::from_slice(alloc, bytes) {
         Ok(json) => Ok(json),
         Err(error) if error.is_memory() => Err(Fault::from(AllocError)),
-        Err(error) => Err(Fault::NotJson(position_of(alloc, bytes, &error))),
+        Err(error) => match position_of(alloc, bytes, &error) {
+            Ok(position) => Err(Fault::NotJson(position)),
+            Err(error) => Err(Fault::from(error)),
+        },
     }
 }
 
 // Where bytes stop being JSON. They are read again without the blanks at their end, which would
 // hide that a string or a number ends too early.
-fn position_of(alloc: Global, bytes: &[u8], error: &serde_json::Error) -> Position {
+fn position_of(
+    alloc: Global,
+    bytes: &[u8],
+    error: &serde_json::Error,
+) -> Result<Position, AllocError> {
     let text = bytes.trim_ascii_end();
-    if ends_too_early(alloc, text) {
-        return end_of(text);
+    if ends_too_early(alloc, text)? {
+        return Ok(end_of(text));
     }
-    Position {
+    Ok(Position {
         line: error.line(),
         column: error.column(),
-    }
+    })
 }
 
 // Whether bytes are the beginning of JSON.
-fn ends_too_early(alloc: Global, bytes: &[u8]) -> bool {
+fn ends_too_early(alloc: Global, bytes: &[u8]) -> Result<bool, AllocError> {
     match Value::from_slice(alloc, bytes) {
-        Ok(_json) => false,
-        Err(error) => error.is_eof(),
+        Ok(_json) => Ok(false),
+        Err(error) if error.is_memory() => Err(AllocError),
+        Err(error) => Ok(error.is_eof()),
     }
 }
 
