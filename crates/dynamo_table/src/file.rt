@@ -1,5 +1,6 @@
 //! The file of the tables.
 use crate::command::Command;
+use crate::head::check_head;
 use crate::refusal::{Answer, Refusal};
 use sqlite::{Connection, File, FileStore};
 use std::fs;
@@ -13,12 +14,15 @@ pub type Database = Connection<FileStore<File>>;
 ///
 /// # Errors
 ///
-/// A `Text` if there is no file; `Table` if the words of a table's keys don't read, or if the file
-/// is no database, or can't be opened.
+/// A `Text` if there is no file; those of [`check_head`]; `Table` if the words of a table's keys
+/// don't read, or if the database is damaged, or can't be opened.
 pub fn open_for(rt: &HostRuntime, path: &str, command: Command<'_>) -> Answer<Database> {
     if let Command::Create(_, words) = command {
         drop(KeySchema::parse(rt.alloc(), words)?);
-    } else if !fs::exists(rt, path)? {
+    }
+    if fs::exists(rt, path)? {
+        check_head(rt, path)?;
+    } else if !matches!(command, Command::Create(..)) {
         return Err(Refusal::Text("there is no such file"));
     }
     Ok(Connection::open(rt, path)?)

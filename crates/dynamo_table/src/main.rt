@@ -6,6 +6,7 @@ mod command;
 mod document;
 mod file;
 mod from_plain;
+mod head;
 mod key_words;
 mod load;
 mod print;
