@@ -55,6 +55,18 @@ impl<'a> Command<'a> {
             _ => None,
         }
     }
+
+    /// Whether the command changes a table.
+    pub fn changes(self) -> bool {
+        match self {
+            Command::List => false,
+            Command::Create(_, _) | Command::Drop(_) => true,
+            Command::Of(_, asked) => matches!(
+                asked,
+                Asked::Put(_) | Asked::Load(_, _) | Asked::Delete(_, _)
+            ),
+        }
+    }
 }
 
 impl<'a> Asked<'a> {

@@ -1,21 +1,36 @@
 //! The file of the tables.
 use crate::command::Command;
+use crate::copy::read_files;
 use crate::head::check_head;
 use crate::refusal::{Answer, Refusal};
-use sqlite::{Connection, File, FileStore};
-use std::fs;
+use sqlite::{Connection, Error, ErrorCode, File, FileStore, Options, Unknown};
+use sqlite_disk::Memory;
+use sqlite_std_file::OpenError;
+use std::alloc::{AllocError, Global};
+use std::hash::{BuildHasher, RandomState};
+use std::io::ErrorKind;
+use std::{fs, io};
 use table_keys::KeySchema;
 
 /// The database of a file.
-pub type Database = Connection<FileStore<File>>;
+#[derive(Drop)]
+pub enum Database {
+    /// The file, which no other program can open meanwhile.
+    File(Connection<FileStore<File>>),
+
+    /// A copy in memory of a file that can't be written, and why it can't.
+    Copy(Connection<FileStore<Memory>>, io::Error),
+}
 
 /// Opens the database of a file for a command. Only `create` makes a file that isn't there, and
-/// none for a table whose keys don't read.
+/// none for a table whose keys don't read. A command that changes nothing takes a copy of a file
+/// that can't be written.
 ///
 /// # Errors
 ///
-/// A `Text` if there is no file; those of [`check_head`]; `Table` if the words of a table's keys
-/// don't read, or if the database is damaged, or can't be opened.
+/// A `Text` if there is no file; those of [`check_head`]; a `Message` that names the file if it
+/// can't be opened, or can't be written and the command changes a table; `Table` if the words of a
+/// table's keys don't read, or if the database is damaged or in use.
 pub fn open_for(rt: &HostRuntime, path: &str, command: Command<'_>) -> Answer<Database> {
     if let Command::Create(_, words) = command {
         drop(KeySchema::parse(rt.alloc(), words)?);
@@ -25,7 +40,68 @@ pub fn open_for(rt: &HostRuntime, path: &str, command: Command<'_>) -> Answer<Da
     } else if !matches!(command, Command::Create(..)) {
         return Err(Refusal::Text("there is no such file"));
     }
-    Ok(Connection::open(rt, path)?)
+    if path == ":memory:" || path.starts_with("file:") {
+        return Err(Refusal::from(Error::SqliteFailure(ErrorCode::CannotOpen)));
+    }
+    let options = Options::new(RandomState::new(rt)?.hash_one(&0u8));
+    match sqlite_std_file::open(rt, path, Unknown) {
+        Ok(files) => match Connection::open_files(rt.alloc(), files, options) {
+            Ok(conn) => Ok(Database::File(conn)),
+            Err((error, _)) => Err(Refusal::from(error)),
+        },
+        Err(OpenError::Io(why)) if is_unwritable(why) => open_copy(rt, path, command, why),
+        Err(error) => Err(refusal_of(rt.alloc(), path, error)),
+    }
+}
+
+// Whether a file can't be opened since it can't be written, or since its log can't be made.
+fn is_unwritable(error: io::Error) -> bool {
+    matches!(
+        error.kind(),
+        ErrorKind::PermissionDenied
+            | ErrorKind::ReadOnlyFilesystem
+            | ErrorKind::StorageFull
+            | ErrorKind::QuotaExceeded
+    )
+}
+
+// Opens a copy of a file that can't be written, for a command that changes nothing.
+fn open_copy(
+    rt: &HostRuntime,
+    path: &str,
+    command: Command<'_>,
+    why: io::Error,
+) -> Answer<Database> {
+    if command.changes() {
+        return Err(unwritable(rt.alloc(), path, why));
+    }
+    match read_files(rt, path) {
+        Ok(files) => match Connection::open_files(rt.alloc(), files, Options::new(0)) {
+            Ok(conn) => Ok(Database::Copy(conn, why)),
+            Err((error, _)) => Err(Refusal::from(error)),
+        },
+        Err(error) => Err(refusal_of(rt.alloc(), path, error)),
+    }
+}
+
+/// The refusal of a change of a file that can't be written.
+pub fn unwritable(alloc: Global, path: &str, why: io::Error) -> Refusal {
+    Refusal::message(format!(in alloc; "{path} can't be written: {why}"))
+}
+
+// Why a file isn't opened.
+fn refusal_of(alloc: Global, path: &str, error: OpenError) -> Refusal {
+    Refusal::message(match error {
+        OpenError::OutOfMemory => return Refusal::from(AllocError),
+        OpenError::Busy => return Refusal::from(Error::SqliteFailure(ErrorCode::DatabaseBusy)),
+        OpenError::Io(error) if error.kind() == ErrorKind::NotFound => {
+            format!(in alloc; "{path}: there is no such folder")
+        }
+        OpenError::Io(error) if error.kind() == ErrorKind::Unsupported => {
+            format!(in alloc; "{path}: the file or its log has another name, or is no plain file")
+        }
+        error => format!(in alloc; "{path}: {error}"),
+    })
 }
 
 /// Copies what was written into the file alone and closes it. The first failure is the answer.
@@ -33,12 +109,14 @@ pub fn open_for(rt: &HostRuntime, path: &str, command: Command<'_>) -> Answer<Da
 /// # Errors
 ///
 /// The error of the answer, and `Table` if the file can't be written.
-pub fn close(conn: Option<Database>, answer: Answer) -> Answer {
-    let Some(conn) = conn else {
-        return answer;
-    };
-    let closed = conn.close();
-    let outcome = answer?;
-    closed?;
-    Ok(outcome)
+pub fn close(database: Option<Database>, answer: Answer) -> Answer {
+    match database {
+        Some(Database::File(conn)) => {
+            let closed = conn.close();
+            let outcome = answer?;
+            closed?;
+            Ok(outcome)
+        }
+        _ => answer,
+    }
 }

@@ -3,6 +3,7 @@
 
 mod at_table;
 mod command;
+mod copy;
 mod document;
 mod file;
 mod from_plain;

@@ -1,7 +1,7 @@
 //! Running a command.
 use crate::at_table::AtTable;
 use crate::command::{Asked, Command};
-use crate::file::{close, open_for};
+use crate::file::{Database, close, open_for, unwritable};
 use crate::refusal::{Answer, Outcome, Refusal};
 use crate::session;
 use crate::tables::{create, drop_table, find, print_list};
@@ -27,14 +27,38 @@ pub fn run(rt: &HostRuntime, words: &[&str]) -> Answer {
 
 // Runs a command on the tables of a file.
 fn run_on_file(rt: &HostRuntime, path: &str, command: Command<'_>) -> Answer {
-    let conn = open_for(rt, path, command)?;
-    let (conn, answer) = run_command(Teller::of(rt), conn, command);
-    close(conn, answer)
+    let database = open_for(rt, path, command)?;
+    let (database, answer) = run_on_database(Teller::of(rt), path, database, command);
+    close(database, answer)
 }
 
-/// Runs a command on the tables of a database, and gives the connection back, unless the database
-/// failed.
-pub fn run_command<S: Alter + Drop>(
+/// Runs a command on the tables of a file that is open, and gives the file back, unless the
+/// database failed.
+pub fn run_on_database(
+    teller: Teller<'_>,
+    path: &str,
+    database: Database,
+    command: Command<'_>,
+) -> (Option<Database>, Answer) {
+    match database {
+        Database::File(conn) => {
+            let (conn, answer) = run_command(teller, conn, command);
+            (conn.map(Database::File), answer)
+        }
+        Database::Copy(conn, why) => {
+            if command.changes() {
+                let refusal = unwritable(teller.rt.alloc(), path, why);
+                return (Some(Database::Copy(conn, why)), Err(refusal));
+            }
+            let (conn, answer) = run_command(teller, conn, command);
+            (conn.map(|conn| Database::Copy(conn, why)), answer)
+        }
+    }
+}
+
+// Runs a command on the tables of a database, and gives the connection back, unless the database
+// failed.
+fn run_command<S: Alter + Drop>(
     teller: Teller<'_>,
     mut conn: Connection<S>,
     command: Command<'_>,

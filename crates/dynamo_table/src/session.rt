@@ -2,7 +2,7 @@
 use crate::command::Command;
 use crate::file::{Database, close, open_for};
 use crate::refusal::{Answer, Outcome, Refusal};
-use crate::run::run_command;
+use crate::run::run_on_database;
 use crate::teller::Teller;
 use crate::words::{MAX_LINE, words_in};
 use exports::{Fault, Lines};
@@ -18,7 +18,7 @@ pub fn run(rt: &HostRuntime, path: &str) -> Answer {
     let reader = BufReader::new(rt.alloc(), rt.reader())?;
     let mut lines = Lines::with_limit(rt.alloc(), reader, MAX_LINE);
     // The file, from the first command on that opens it.
-    let mut conn: Option<Database> = None;
+    let mut database: Option<Database> = None;
     let mut outcome = Outcome::Done;
     for _ in 0..u64::MAX {
         let Some(line) = lines.next_text() else {
@@ -29,7 +29,7 @@ pub fn run(rt: &HostRuntime, path: &str) -> Answer {
             line: Some(lines.number()),
         };
         let answer = match line {
-            Ok(line) => run_line(teller, path, &mut conn, line.as_slice()),
+            Ok(line) => run_line(teller, path, &mut database, line.as_slice()),
             Err(fault @ Fault::TooLong(_)) => Err(Refusal::from(fault)),
             Err(fault) => return Err(Refusal::from(fault)),
         };
@@ -37,7 +37,7 @@ pub fn run(rt: &HostRuntime, path: &str) -> Answer {
             outcome = Outcome::Told;
         }
     }
-    close(conn, Ok(outcome))
+    close(database, Ok(outcome))
 }
 
 // Returns whether a command did what its line asks for. Else it prints why not.
@@ -52,7 +52,12 @@ fn is_done(teller: Teller<'_>, answer: Answer) -> bool {
 }
 
 // Runs the command of a line on the session's file, which is opened where it isn't yet.
-fn run_line(teller: Teller<'_>, path: &str, conn: &mut Option<Database>, line: &[u8]) -> Answer {
+fn run_line(
+    teller: Teller<'_>,
+    path: &str,
+    database: &mut Option<Database>,
+    line: &[u8],
+) -> Answer {
     let words = words_in(teller.rt.alloc(), line)?;
     let [name, words @ ..] = words.as_slice() else {
         return Ok(Outcome::Usage);
@@ -60,11 +65,11 @@ fn run_line(teller: Teller<'_>, path: &str, conn: &mut Option<Database>, line: &
     let Some(command) = Command::of(name, words) else {
         return Ok(Outcome::Usage);
     };
-    let opened = match conn.take() {
-        Some(conn) => conn,
+    let opened = match database.take() {
+        Some(database) => database,
         None => open_for(teller.rt, path, command)?,
     };
-    let (kept, answer) = run_command(teller, opened, command);
-    *conn = kept;
+    let (kept, answer) = run_on_database(teller, path, opened, command);
+    *database = kept;
     answer
 }
