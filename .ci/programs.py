@@ -165,3 +165,12 @@ def build(program, command, folder, status):
     ran = subprocess.run(command, cwd=folder, stdin=subprocess.DEVNULL, capture_output=True, text=True)
     if ran.returncode != status:
         raise Wrong(f"{' '.join(command)} in {folder} ended with status {ran.returncode}:\n{ran.stdout}{ran.stderr}")
+
+
+def build_preloaded(source, folder):
+    """Compiles a C file of .ci that is preloaded to programs, by the machine's compiler or else by the kit's."""
+    kit = os.path.dirname(os.path.dirname(os.path.realpath(shutil.which("rt"))))
+    compiler = ["cc"] if shutil.which("cc") else [f"{kit}/toolchain/bin/clang", "-nostdlib", "-fuse-ld=lld"]
+    made = f"{folder}/{source}.so"
+    subprocess.run([*compiler, "-O2", "-shared", "-fPIC", "-o", made, f"{TOP}/.ci/{source}"], check=True)
+    return made

@@ -24,7 +24,7 @@ pub enum Database {
 
 /// Opens the database of a file for a command. Only `create` makes a file that isn't there, and
 /// none for a table whose keys don't read. A command that changes nothing takes a copy of a file
-/// that can't be written.
+/// that can't be written, or on a full disk.
 ///
 /// # Errors
 ///
@@ -47,6 +47,10 @@ pub fn open_for(rt: &HostRuntime, path: &str, command: Command<'_>) -> Answer<Da
     match sqlite_std_file::open(rt, path, Unknown) {
         Ok(files) => match Connection::open_files(rt.alloc(), files, options) {
             Ok(conn) => Ok(Database::File(conn)),
+            Err((Error::SqliteFailure(ErrorCode::DiskFull), left)) => {
+                drop(left);
+                open_copy(rt, path, command, io::Error::from(ErrorKind::StorageFull))
+            }
             Err((error, _)) => Err(Refusal::from(error)),
         },
         Err(OpenError::Io(why)) if is_unwritable(why) => open_copy(rt, path, command, why),
@@ -104,7 +108,8 @@ fn refusal_of(alloc: Global, path: &str, error: OpenError) -> Refusal {
     })
 }
 
-/// Copies what was written into the file alone and closes it. The first failure is the answer.
+/// Closes the file after a command that changes a table: copies what was written into the file
+/// alone. The first failure is the answer.
 ///
 /// # Errors
 ///

@@ -25,10 +25,13 @@ pub fn run(rt: &HostRuntime, words: &[&str]) -> Answer {
     }
 }
 
-// Runs a command on the tables of a file.
+// Runs a command on the tables of a file. One that changes nothing writes nothing when it ends.
 fn run_on_file(rt: &HostRuntime, path: &str, command: Command<'_>) -> Answer {
     let database = open_for(rt, path, command)?;
     let (database, answer) = run_on_database(Teller::of(rt), path, database, command);
+    if !command.changes() {
+        return answer;
+    }
     close(database, answer)
 }
 

@@ -17,8 +17,11 @@ use std::io::BufReader;
 pub fn run(rt: &HostRuntime, path: &str) -> Answer {
     let reader = BufReader::new(rt.alloc(), rt.reader())?;
     let mut lines = Lines::with_limit(rt.alloc(), reader, MAX_LINE);
-    // The file, from the first command on that opens it.
-    let mut database: Option<Database> = None;
+    let mut session = Session {
+        path,
+        database: None,
+        has_changed: false,
+    };
     let mut outcome = Outcome::Done;
     for _ in 0..u64::MAX {
         let Some(line) = lines.next_text() else {
@@ -29,7 +32,7 @@ pub fn run(rt: &HostRuntime, path: &str) -> Answer {
             line: Some(lines.number()),
         };
         let answer = match line {
-            Ok(line) => run_line(teller, path, &mut database, line.as_slice()),
+            Ok(line) => session.run_line(teller, line.as_slice()),
             Err(fault @ Fault::TooLong(_)) => Err(Refusal::from(fault)),
             Err(fault) => return Err(Refusal::from(fault)),
         };
@@ -37,7 +40,7 @@ pub fn run(rt: &HostRuntime, path: &str) -> Answer {
             outcome = Outcome::Told;
         }
     }
-    close(database, Ok(outcome))
+    session.end(outcome)
 }
 
 // Returns whether a command did what its line asks for. Else it prints why not.
@@ -51,25 +54,41 @@ fn is_done(teller: Teller<'_>, answer: Answer) -> bool {
     false
 }
 
-// Runs the command of a line on the session's file, which is opened where it isn't yet.
-fn run_line(
-    teller: Teller<'_>,
-    path: &str,
-    database: &mut Option<Database>,
-    line: &[u8],
-) -> Answer {
-    let words = words_in(teller.rt.alloc(), line)?;
-    let [name, words @ ..] = words.as_slice() else {
-        return Ok(Outcome::Usage);
-    };
-    let Some(command) = Command::of(name, words) else {
-        return Ok(Outcome::Usage);
-    };
-    let opened = match database.take() {
-        Some(database) => database,
-        None => open_for(teller.rt, path, command)?,
-    };
-    let (kept, answer) = run_on_database(teller, path, opened, command);
-    *database = kept;
-    answer
+// A session at work.
+#[derive(Drop)]
+struct Session<'p> {
+    path: &'p str,
+    // The file, from the first command on that opens it.
+    database: Option<Database>,
+    // Whether one of the commands changes a table.
+    has_changed: bool,
+}
+
+impl Session<'_> {
+    // Runs the command of a line.
+    fn run_line(&mut self, teller: Teller<'_>, line: &[u8]) -> Answer {
+        let words = words_in(teller.rt.alloc(), line)?;
+        let [name, words @ ..] = words.as_slice() else {
+            return Ok(Outcome::Usage);
+        };
+        let Some(command) = Command::of(name, words) else {
+            return Ok(Outcome::Usage);
+        };
+        let opened = match self.database.take() {
+            Some(database) => database,
+            None => open_for(teller.rt, self.path, command)?,
+        };
+        self.has_changed = self.has_changed || command.changes();
+        let (kept, answer) = run_on_database(teller, self.path, opened, command);
+        self.database = kept;
+        answer
+    }
+
+    // Closes the file. A session that changed nothing writes nothing.
+    fn end(self, outcome: Outcome) -> Answer {
+        if !self.has_changed {
+            return Ok(outcome);
+        }
+        close(self.database, Ok(outcome))
+    }
 }
