@@ -1,6 +1,8 @@
 //! The commands, as their words say them.
 use crate::print::Form;
-use crate::words::{Flags, split_flags};
+use crate::refusal::Answer;
+use crate::words::{Flags, check_words, split_flags};
+use std::alloc::Global;
 
 /// A command on a file of tables.
 #[derive(Clone, Copy, Drop)]
@@ -46,14 +48,22 @@ pub enum Asked<'a> {
 impl<'a> Command<'a> {
     /// The command of a name and the words after it, but for the file's name; none where they are
     /// no command.
-    pub fn of(name: &str, words: &'a [&'a str]) -> Option<Command<'a>> {
-        match (name, words) {
+    ///
+    /// # Errors
+    ///
+    /// Those of [`check_words`].
+    pub fn of(alloc: Global, name: &str, words: &'a [&'a str]) -> Answer<Option<Command<'a>>> {
+        Ok(match (name, words) {
             ("list", []) => Some(Command::List),
             ("create", [table, keys @ ..]) => Some(Command::Create(table, keys)),
             ("drop", [table]) => Some(Command::Drop(table)),
-            (_, [table, words @ ..]) => Some(Command::Of(table, Asked::of(name, words)?)),
+            (_, [table, words @ ..]) => {
+                let (words, flags) = split_flags(words, name);
+                check_words(alloc, words, name, flags)?;
+                Asked::of(name, words, flags).map(|asked| Command::Of(table, asked))
+            }
             _ => None,
-        }
+        })
     }
 
     /// Whether the command changes a table.
@@ -70,9 +80,8 @@ impl<'a> Command<'a> {
 }
 
 impl<'a> Asked<'a> {
-    // What a name and the words after the table's name ask of a table.
-    fn of(name: &str, words: &'a [&'a str]) -> Option<Asked<'a>> {
-        let (words, flags) = split_flags(words, name);
+    // What a name, the words after the table's name and the flags ask of a table.
+    fn of(name: &str, words: &'a [&'a str], flags: Flags) -> Option<Asked<'a>> {
         Some(match (name, words) {
             ("count", []) => Asked::Count,
             ("put", [] | [_]) => Asked::Put(words.first().copied()),

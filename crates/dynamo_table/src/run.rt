@@ -17,7 +17,7 @@ use table_store::TableStore;
 pub fn run(rt: &HostRuntime, words: &[&str]) -> Answer {
     match words {
         ["session", file] => session::run(rt, file),
-        [name, file, words @ ..] => match Command::of(name, words) {
+        [name, file, words @ ..] => match Command::of(rt.alloc(), name, words)? {
             Some(command) => run_on_file(rt, file, command),
             None => Ok(Outcome::Usage),
         },

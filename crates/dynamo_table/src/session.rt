@@ -67,11 +67,12 @@ struct Session<'p> {
 impl Session<'_> {
     // Runs the command of a line.
     fn run_line(&mut self, teller: Teller<'_>, line: &[u8]) -> Answer {
-        let words = words_in(teller.rt.alloc(), line)?;
+        let alloc = teller.rt.alloc();
+        let words = words_in(alloc, line)?;
         let [name, words @ ..] = words.as_slice() else {
             return Ok(Outcome::Usage);
         };
-        let Some(command) = Command::of(name, words) else {
+        let Some(command) = Command::of(alloc, name, words)? else {
             return Ok(Outcome::Usage);
         };
         let opened = match self.database.take() {

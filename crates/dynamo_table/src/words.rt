@@ -94,6 +94,35 @@ pub fn split_flags<'a>(words: &'a [&'a str], command: &str) -> (&'a [&'a str], F
     }
 }
 
+/// Refuses a word that looks like a flag, and isn't one that was split off. It would name an input,
+/// or be one word too many. In the commands that take keys it is a key.
+///
+/// # Errors
+///
+/// A `Text` or a `Message` that says what is wrong with the flag.
+pub fn check_words(alloc: Global, words: &[&str], command: &str, flags: Flags) -> Answer<()> {
+    if !matches!(command, "count" | "put" | "load" | "scan" | "export") {
+        return Ok(());
+    }
+    let mut misplaced = None;
+    for word in words {
+        if !word.starts_with("--") {
+            continue;
+        }
+        if !takes(command, word) {
+            return Err(Refusal::message(format!(in alloc; "{command} has no flag {word}")));
+        }
+        if *word == "--max-line" && flags.max_line.is_none() {
+            return Err(Refusal::Text("--max-line needs a number of bytes"));
+        }
+        misplaced = Some(word);
+    }
+    match misplaced {
+        Some(word) => Err(Refusal::message(format!(in alloc; "{word} comes last, and once"))),
+        None => Ok(()),
+    }
+}
+
 /// The words of a line, which blanks separate. A word that begins with a quote goes up to the next
 /// quote, and may hold blanks.
 ///
