@@ -3,6 +3,7 @@ use crate::command::Command;
 use crate::copy::read_files;
 use crate::head::check_head;
 use crate::refusal::{Answer, Refusal};
+use crate::tables::schema_of_words;
 use sqlite::{Connection, Error, ErrorCode, File, FileStore, Options, Unknown};
 use sqlite_disk::Memory;
 use sqlite_std_file::OpenError;
@@ -10,7 +11,6 @@ use std::alloc::{AllocError, Global};
 use std::hash::{BuildHasher, RandomState};
 use std::io::ErrorKind;
 use std::{fs, io};
-use table_keys::KeySchema;
 
 /// The database of a file.
 #[derive(Drop)]
@@ -23,17 +23,17 @@ pub enum Database {
 }
 
 /// Opens the database of a file for a command. Only `create` makes a file that isn't there, and
-/// none for a table whose keys don't read. A command that changes nothing takes a copy of a file
-/// that can't be written, or on a full disk.
+/// none for a table whose name or keys it refuses. A command that changes nothing takes a copy of a
+/// file that can't be written, or on a full disk.
 ///
 /// # Errors
 ///
 /// A `Text` if there is no file; those of [`check_head`]; a `Message` that names the file if it
-/// can't be opened, or can't be written and the command changes a table; `Table` if the words of a
-/// table's keys don't read, or if the database is damaged or in use.
+/// can't be opened, or can't be written and the command changes a table; those of
+/// [`schema_of_words`] for `create`; `Table` if the database is damaged or in use.
 pub fn open_for(rt: &HostRuntime, path: &str, command: Command<'_>) -> Answer<Database> {
-    if let Command::Create(_, words) = command {
-        drop(KeySchema::parse(rt.alloc(), words)?);
+    if let Command::Create(table, words) = command {
+        drop(schema_of_words(rt.alloc(), table, words)?);
     }
     if fs::exists(rt, path)? {
         check_head(rt, path)?;

@@ -15,6 +15,7 @@ mod put;
 mod refusal;
 mod run;
 mod session;
+mod table_name;
 mod tables;
 mod teller;
 mod text;

@@ -2,6 +2,7 @@
 use crate::key_words::words_of;
 use crate::print::print_text;
 use crate::refusal::{Answer, Outcome, Refusal};
+use crate::table_name::check_name;
 use sqlite::{Alter, Connection, params};
 use std::alloc::Global;
 use std::fmt::Write;
@@ -45,6 +46,16 @@ pub fn find<S: Alter>(alloc: Global, conn: &mut Connection<S>, name: &str) -> An
     Definition::find(alloc, conn, name)?.ok_or(Refusal::Table(StoreError::NoTable))
 }
 
+/// The keys of a table that is to be made, by its name and the words of its keys.
+///
+/// # Errors
+///
+/// Those of [`check_name`], and `Table` if the words don't read.
+pub fn schema_of_words(alloc: Global, name: &str, words: &[&str]) -> Answer<KeySchema> {
+    check_name(name)?;
+    Ok(KeySchema::parse(alloc, words)?)
+}
+
 /// Makes a table with the keys of these words, and gives the connection back, unless the database
 /// failed. A table that is there with the same keys is left as it is.
 pub fn create<S: Alter + Drop>(
@@ -69,7 +80,7 @@ fn new_schema<S: Alter>(
     name: &str,
     words: &[&str],
 ) -> Answer<KeySchema> {
-    let schema = KeySchema::parse(alloc, words)?;
+    let schema = schema_of_words(alloc, name, words)?;
     make_tables(conn)?;
     match Definition::find(alloc, conn, name)? {
         Some(table) if table.schema != schema => {
