@@ -181,7 +181,7 @@ impl<'r, 'a, 'i, S: Alter + Drop> Loading<'r, 'a, 'i, S> {
         let (alloc, place) = (self.alloc(), self.at(start.line));
         if self.flags.plain {
             let item = item_of_plain(alloc, &mut self.scratch, text);
-            let item = item.map_err(|fault| start.shifted(fault));
+            let item = item.map_err(|fault| start.refusal(text, fault));
             return self.take(place, item.map(Request::Put));
         }
         if let Some(item) = item_alone(alloc, &mut self.scratch, text)? {
@@ -189,14 +189,17 @@ impl<'r, 'a, 'i, S: Alter + Drop> Loading<'r, 'a, 'i, S> {
         }
         match json_of(alloc, text) {
             Ok(json) => self.take_json(start.line, &json),
-            Err(fault) => self.take(place, Err(start.shifted(fault))),
+            Err(fault) => self.take(place, Err(start.refusal(text, fault))),
         }
     }
 
     // Takes what a JSON value holds for the table.
     fn take_json(&mut self, line: u64, json: &Value) -> Answer<()> {
         match document_of(self.alloc(), json, self.table) {
-            Ok(Document::Change) => self.take(self.at(line), change_of(self.alloc(), json)),
+            Ok(Document::Change) => {
+                let request = change_of(self.alloc(), json);
+                self.take(self.at(line), request.map_err(Refusal::from))
+            }
             Ok(Document::Items(items)) => self.take_each(line, items, false),
             Ok(Document::Requests(requests)) => self.take_each(line, requests, true),
             Err(refusal) => {
@@ -224,20 +227,23 @@ impl<'r, 'a, 'i, S: Alter + Drop> Loading<'r, 'a, 'i, S> {
             } else {
                 Item::from_json_located(alloc, json).map(Request::Put)
             };
-            self.take(place, request.map_err(Fault::from))?;
+            self.take(
+                place,
+                request.map_err(|error| Refusal::from(Fault::from(error))),
+            )?;
         }
         Ok(())
     }
 
     // Takes a put or a delete, or tells why there is none.
-    fn take(&mut self, place: Place<'i>, request: Result<Request, Fault>) -> Answer<()> {
+    fn take(&mut self, place: Place<'i>, request: Answer<Request>) -> Answer<()> {
         match request {
             Ok(Request::Put(item)) => match self.store.check(&item) {
                 Ok(()) => self.put(item)?,
                 Err(error) => self.tell_item(place, &item, error),
             },
             Ok(Request::Delete(key)) => self.delete(place, &key)?,
-            Err(fault) => self.tell(place, Refusal::from(fault)),
+            Err(refusal) => self.tell(place, refusal),
         }
         Ok(())
     }

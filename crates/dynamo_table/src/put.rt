@@ -1,6 +1,7 @@
 //! The item that is put.
 use crate::key_words::item_refusal;
 use crate::refusal::Answer;
+use crate::text::Start;
 use dynamo_json::DynamoJson;
 use dynamo_place::DynamoJsonLocated;
 use dynamo_value::Item;
@@ -17,13 +18,14 @@ use table_store::TableStore;
 ///
 /// # Errors
 ///
-/// `Input` if the text is no JSON, or no DynamoDB JSON of an item; those of [`item_refusal`].
+/// `Input` if the text is no JSON, or no DynamoDB JSON of an item; `TooDeep` if its JSON nests too
+/// deep; those of [`item_refusal`].
 pub fn item_of_text<S: Alter + Drop>(
     alloc: Global,
     store: &TableStore<S>,
     text: &[u8],
 ) -> Answer<Item> {
-    let json = json_of(alloc, text)?;
+    let json = json_of(alloc, text).map_err(|fault| Start::of_line(1).refusal(text, fault))?;
     let item = read_item(alloc, store, &json)?;
     match store.check(&item) {
         Ok(()) => Ok(item),

@@ -1,5 +1,6 @@
 //! How a command ends.
-use exports::Fault;
+use crate::text::LEVELS;
+use exports::{Fault, Position};
 use sqlite::Error;
 use std::alloc::{AllocError, AllocFailed};
 use std::{fmt, io};
@@ -36,6 +37,9 @@ pub enum Refusal {
 
     /// What is wrong with an input.
     Input(Fault),
+
+    /// The JSON of an input nests deeper than is read, from this position on.
+    TooDeep(Position),
 
     /// What reading or printing failed with.
     Io(io::Error),
@@ -103,6 +107,9 @@ impl fmt::Display for Refusal {
             Refusal::Text(text) => f.write_str(text),
             Refusal::Table(error) => write!(f, "{error}"),
             Refusal::Input(fault) => write!(f, "{fault}"),
+            Refusal::TooDeep(position) => {
+                write!(f, "it nests deeper than {LEVELS} levels ({position})")
+            }
             Refusal::Io(error) => write!(f, "{error}"),
         }
     }

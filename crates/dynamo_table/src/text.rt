@@ -1,7 +1,11 @@
 //! The text of an input: its byte order mark, and the JSON values in it.
+use crate::refusal::Refusal;
 use exports::{Fault, Position};
 
 const MARK: &[u8] = b"\xEF\xBB\xBF";
+
+/// How many levels of objects and arrays are read at most.
+pub const LEVELS: usize = 127;
 
 /// A text without a byte order mark at its head.
 pub fn unmarked(text: &[u8]) -> &[u8] {
@@ -55,6 +59,25 @@ impl Scan {
     }
 }
 
+// Whether a text that isn't read up to here is JSON up to here, and nests too deep.
+fn is_too_deep(text: &[u8], position: Position) -> bool {
+    let mut scan = Scan::default();
+    let mut at = Position { line: 1, column: 0 };
+    for byte in text {
+        if *byte == b'\n' {
+            at.line = at.line.saturating_add(1);
+            at.column = 0;
+        } else {
+            at.column = at.column.saturating_add(1);
+        }
+        scan.ends_at(*byte);
+        if scan.depth > LEVELS {
+            return (at.line, at.column) < (position.line, position.column);
+        }
+    }
+    false
+}
+
 /// Where a text begins in an input.
 #[derive(Clone, Copy, Drop)]
 pub struct Start {
@@ -84,11 +107,18 @@ impl Start {
         start
     }
 
-    /// A fault of a text that begins here, with its position in the input.
-    pub fn shifted(self, fault: Fault) -> Fault {
+    /// Why a text that begins here isn't read, with the position in the input.
+    pub fn refusal(self, text: &[u8], fault: Fault) -> Refusal {
         match fault {
-            Fault::NotJson(position) => Fault::NotJson(self.in_input(position)),
-            fault => fault,
+            Fault::NotJson(position) => {
+                let in_input = self.in_input(position);
+                if is_too_deep(text, position) {
+                    Refusal::TooDeep(in_input)
+                } else {
+                    Refusal::from(Fault::NotJson(in_input))
+                }
+            }
+            fault => Refusal::from(fault),
         }
     }
 
