@@ -1,15 +1,11 @@
 //! A copy in memory of a file that can't be written.
 
-ghost use Rattle.std.specs.Prelude.{IfOk, IsTrue};
-ghost use Rattle.sqlite_disk.specs.Memory.{memory_is_usable};
-
 use sqlite::Files;
-use sqlite_disk::{Disk, Memory};
 use sqlite_std_file::OpenError;
-use std::alloc::Global;
 use std::io::{ErrorKind, Read};
 use std::os::unix::fs::MetadataExt;
 use std::{fs, io};
+use table_pages::Memory;
 
 // How many bytes the header of a log has. Each log has another one.
 const LOG_HEADER: u64 = 32;
@@ -20,10 +16,7 @@ const LOG_HEADER: u64 = 32;
 ///
 /// Returns `Busy` if another program writes the file meanwhile, `HotJournal` if SQLite left a
 /// rollback journal, `Io` if a file can't be read, and `OutOfMemory` if memory runs out.
-pub fn read_files(rt: &HostRuntime, path: &str) -> Result<Files<Memory>, OpenError>
-    ensures log { IfOk result (λ files. IsTrue (memory_is_usable files.log)) }
-    ensures db { IfOk result (λ files. IsTrue (memory_is_usable files.db)) }
-{
+pub fn read_files(rt: &HostRuntime, path: &str) -> Result<Files<Memory>, OpenError> {
     // As in SQLite, the log lies where a link leads.
     let real = fs::canonicalize(rt, path)?;
     let written = last_write(rt, real.as_str())?;
@@ -40,8 +33,8 @@ pub fn read_files(rt: &HostRuntime, path: &str) -> Result<Files<Memory>, OpenErr
         return Err(OpenError::Busy);
     }
     Ok(Files {
-        log: memory_of(rt.alloc(), log.as_slice())?,
-        db: memory_of(rt.alloc(), db.as_slice())?,
+        log: Memory::from(log),
+        db: Memory::from(db),
     })
 }
 
@@ -69,13 +62,4 @@ fn bytes_beside(
         Err(error) if error.kind() == ErrorKind::NotFound => Ok(bytes),
         Err(error) => Err(OpenError::Io(error)),
     }
-}
-
-// A file in memory of these bytes.
-fn memory_of(alloc: Global, bytes: &[u8]) -> io::Result<Memory>
-    ensures { IfOk result (λ memory. IsTrue (memory_is_usable memory)) }
-{
-    let mut memory = Memory::new(alloc);
-    memory.write_at(0, bytes)?;
-    Ok(memory)
 }

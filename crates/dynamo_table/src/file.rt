@@ -5,12 +5,12 @@ use crate::head::check_head;
 use crate::refusal::{Answer, Refusal};
 use crate::tables::schema_of_words;
 use sqlite::{Connection, Error, ErrorCode, File, FileStore, Options, Unknown};
-use sqlite_disk::Memory;
 use sqlite_std_file::OpenError;
 use std::alloc::{AllocError, Global};
 use std::hash::{BuildHasher, RandomState};
 use std::io::ErrorKind;
 use std::{fs, io};
+use table_pages::Memory;
 
 /// The database of a file.
 #[derive(Drop)]
