@@ -1,5 +1,6 @@
 """The repository's crates and its programs, for the scripts that run, build and copy them."""
 
+import hashlib
 import os
 import re
 import shutil
@@ -47,15 +48,18 @@ def read_crates(file=f"{TOP}/crates.txt"):
     return {name.split()[0]: below.split() for name, _, below in rows if name.strip()}
 
 
-def with_below(names):
-    """These crates of the repository and all crates below them, lowest first."""
-    crates, wanted = read_crates(), set(names)
-    if not wanted <= set(crates):
-        raise Wrong(f"no crates of this repository: {' '.join(sorted(wanted - set(crates)))}")
-    for name in reversed(crates):
-        if name in wanted:
-            wanted.update(crates[name])
-    return [name for name in crates if name in wanted]
+def with_below(names, file=f"{TOP}/crates.txt"):
+    """These crates of a repository and all crates below them, lowest first if its crates.txt has them so."""
+    crates, wanted, found = read_crates(file), list(names), set()
+    unknown = sorted({*wanted} - {*crates})
+    if unknown:
+        raise Wrong(f"no crates of this repository: {' '.join(unknown)}")
+    while wanted:
+        name = wanted.pop()
+        if name in crates and name not in found:
+            found.add(name)
+            wanted += crates[name]
+    return [name for name in crates if name in found]
 
 
 def lay_crates(room):
@@ -74,14 +78,37 @@ def add_line(file, crate, libraries):
     write(file, read(file) + f"{crate}: {' '.join(dict.fromkeys([*libraries, 'anyhow']))} anyhow\n".encode())
 
 
-def sources_of(names):
-    """The sources, the specs and the proofs of these crates."""
+def sources_of(names, crates=f"{TOP}/crates"):
+    """The sources, the specs and the proofs of these crates, whose folders are in the given one."""
     found = []
     for name in names:
         for part in ("src", "specs", "proofs"):
-            for at, _, files in os.walk(f"{TOP}/crates/{name}/{part}"):
+            for at, _, files in os.walk(f"{crates}/{name}/{part}"):
                 found += [f"{at}/{file}" for file in files if file.endswith((".rt", ".antt"))]
     return sorted(found)
+
+
+def kit():
+    """The folder of Rattle's kit, None if there is no `rt` on the path."""
+    found = shutil.which("rt")
+    return found and os.path.dirname(os.path.dirname(os.path.realpath(found)))
+
+
+def kit_line():
+    """What `rt version` prints, which is a file of the kit's too."""
+    return read(f"{kit()}/KIT-ID") or subprocess.run(["rt", "version"], capture_output=True).stdout
+
+
+def sum_of(crate, file=f"{TOP}/crates.txt", crates=f"{TOP}/crates"):
+    """The checksum of all that a program or a proof of a crate is made of: the kit's name, and the lines of crates.txt and the sources
+    of the crate and of all below it."""
+    below, lines = with_below([crate], file), read_crates(file)
+    found = hashlib.sha256(kit_line())
+    for it in below:
+        found.update(f"{it}: {' '.join(lines[it])}\n".encode())
+    for it in sources_of(below, crates):
+        found.update(f"{os.path.relpath(it, crates)} {hashlib.sha256(read(it)).hexdigest()}\n".encode())
+    return found.hexdigest()
 
 
 def built(program):
