@@ -26,6 +26,19 @@ class Wrong(Exception):
     """What is wrong, in a sentence."""
 
 
+def help_if_asked(words, usage):
+    """Prints the usage of a script of the repository's top and ends it, if a word asks for that. It is the doc comment behind its title."""
+    if {"--help", "-h"} & {*words}:
+        print(usage.split("\n\n", 1)[1], end="")
+        sys.exit(0)
+
+
+def refuse(script, wrong):
+    """Says which word is wrong, and how to get help. The status."""
+    print(f"{script}: {wrong}; ./{script} --help prints the usage", file=sys.stderr)
+    return 2
+
+
 def read(file):
     """The bytes of a file, None where there is no such file."""
     if not os.path.isfile(file):

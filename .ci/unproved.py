@@ -20,10 +20,14 @@ from programs import SAID, TOP, Wrong, kit, read_crates, start, sum_of
 # The seconds between two looks at the temporary files of `rt try`.
 PAUSE = 0.1
 
-# How `rt try` calls clang, but for its checks of addresses. An optimized program would take three times as long to make.
+# Programs of small inputs, which aren't optimized: so the first answer comes no later than by `rt try`. The others are, since a load
+# into a table took a hundred times as long, but are made in about twice the time.
+QUICK = ("dynamo_tool", "dynamo_derive")
+
+# How `rt try` calls clang, but for its checks of addresses.
 FLAGS = """--target=x86_64-unknown-linux-gnu -march=x86-64 -mllvm -no-trap-after-noreturn -ffunction-sections -fdata-sections
 -mllvm -trap-unreachable -mllvm -no-x86-call-frame-opt -mllvm -disable-machine-licm -mllvm -disable-postra-machine-licm
--mllvm -sink-common-insts=false --no-default-config -no-canonical-prefixes -fPIE -O0 -c -x ir""".split()
+-mllvm -sink-common-insts=false --no-default-config -no-canonical-prefixes -fPIE -c -x ir""".split()
 
 
 class Unmade(Exception):
@@ -106,9 +110,9 @@ def take_bitcode(crate, room):
         return found, said.read().decode(errors="surrogateescape")
 
 
-def link(room):
+def link(name, room):
     """Makes a program of the bitcode, as `rt run` does of its own: the program, None if that fails."""
-    compiler = ["clang", *FLAGS, "module.bc", "-o", "module.o"]
+    compiler = ["clang", *FLAGS, "-O0" if name in QUICK else "-O1", "module.bc", "-o", "module.o"]
     linker = ["rattle-link", "--target", "x86_64-unknown-linux-gnu", "--toolchain", f"{kit()}/toolchain", "-o", "program", "module.o"]
     linker += [f"{kit()}/c/libos_c.a", f"{kit()}/c/liblibc_c.a"]
     is_made = run_tool("toolchain/bin", compiler, room)[0] == 0 and run_tool("bin", linker, room)[0] == 0
@@ -145,7 +149,7 @@ def make(crate):
         found, said = take_bitcode(crate, room)
         if not found:
             stop_without(said, crate.made)
-        program = link(room)
+        program = link(crate.name, room)
         if not program:
             raise Unmade("the kit's compiler makes no program of what `rt try` compiled")
         if crate.place() != crate.made:
