@@ -62,6 +62,11 @@ def unproved(program):
     return Crate(f"{TOP}/crates/{program}")
 
 
+def how_long(name):
+    """How long it takes to make the program of a crate, in words."""
+    return "a minute or two" if name in QUICK else "some minutes"
+
+
 def is_made(crate):
     """Whether the unproved program of the sources is kept."""
     return os.access(crate.made, os.X_OK)
@@ -160,7 +165,7 @@ def make(crate):
 
 def make_and_tell(crate, how):
     """The same, and a line on standard error: that the program isn't proved, and how to prove it."""
-    first = ". An unproved program is made first, in a minute or more, and kept for the next run"
+    first = f". An unproved program is made first, in {how_long(crate.name)}, and kept for the next run"
     print(f"{crate.name}: this run isn't proved{'' if is_made(crate) else first}; {how}", file=sys.stderr, flush=True)
     return make(crate)
 
