@@ -1,6 +1,7 @@
 """The first examples of the crates that users take, which ./add_to copies the crates for."""
 
 import re
+from collections import namedtuple
 
 from programs import TOP, read
 
@@ -31,13 +32,18 @@ def line_of(names, is_bare=False):
     return [*dict.fromkeys(used), "anyhow"]
 
 
+# A whole example: its text, its file in src/, the crates that it uses, and what it prints, None of a library.
+Example = namedtuple("Example", "text file uses printed")
+
+
 def example_of(names):
-    """The whole example of the first of these crates that has one: its text, its file in a crate, and the crates that it uses. None if
-    none has one."""
+    """The whole example of the first of these crates that has one. None if none has one."""
     file = next((EXAMPLES[it][2] for it in names if it in EXAMPLES and EXAMPLES[it][2]), None)
     if file is None:
         return None
     text = read(f"{TOP}/{file}").decode()
     if file == README:
-        return re.search(r"(?ms)^```rust\n(.*?)^```$", text)[1], "main.rt", EXAMPLES["serde_dynamo"][1].split()
-    return text, "main.rt" if "fn main(rt: HostRuntime)" in text else "lib.rt", HEAD.search(text)[1].split()
+        program, printed = re.search(r"(?ms)^```rust\n(.*?)^```$.*?^```text\n(.*?)^```$", text).groups()
+        return Example(program, "main.rt", EXAMPLES["serde_dynamo"][1].split(), printed.encode())
+    printed = read(f"{TOP}/{file.removesuffix('.rs')}.stdout")
+    return Example(text, "lib.rt" if printed is None else "main.rt", HEAD.search(text)[1].split(), printed)
