@@ -72,6 +72,12 @@ def is_made(crate):
     return os.access(crate.made, os.X_OK)
 
 
+def stop_if_unmade(crate):
+    """Stops where it is known that this kit can't make the program."""
+    if not can_link() or os.path.exists(f"{os.path.dirname(crate.made)}/none"):
+        raise Unmade("no unproved program can be made by this kit")
+
+
 def can_link():
     """Whether the kit has what makes a program of bitcode."""
     return all(os.path.exists(f"{kit()}/{it}") for it in ("toolchain/bin/clang", "bin/rattle-link", "c/libos_c.a", "c/liblibc_c.a"))
@@ -141,11 +147,10 @@ def keep(program, made):
 def make(crate):
     """Makes the unproved program of a crate, if it isn't kept, and returns where it is. Another script that makes the same is waited for.
     Raises `Wrong` if `rt try` refuses the sources, and `Unmade` if nothing can be made by this kit."""
+    stop_if_unmade(crate)
     if is_made(crate):
         return crate.made
     folder = os.path.dirname(os.path.dirname(crate.made))
-    if not can_link() or os.path.exists(f"{os.path.dirname(crate.made)}/none"):
-        raise Unmade("no unproved program can be made by this kit")
     os.makedirs(folder, exist_ok=True)
     with open(f"{folder}/lock", "w") as lock, tempfile.TemporaryDirectory() as room:
         fcntl.flock(lock, fcntl.LOCK_EX)
@@ -165,6 +170,7 @@ def make(crate):
 
 def make_and_tell(crate, how):
     """The same, and a line on standard error: that the program isn't proved, and how to prove it."""
+    stop_if_unmade(crate)
     first = f". An unproved program is made first, in {how_long(crate.name)}, and kept for the next run"
     print(f"{crate.name}: this run isn't proved{'' if is_made(crate) else first}; {how}", file=sys.stderr, flush=True)
     return make(crate)
